@@ -34,7 +34,8 @@ count_limit rules limit (name.Meta meta.Set) words = refl
 count_limit rules limit (name.Meta kind) words = refl
 count_limit rules limit other words = refl
 
--- As many bytes belong to a line as its words announce, whatever the value limit, and whether or not faults are hidden.
+-- As many bytes belong to a line as its words announce, whatever the value limit, and whether or not faults
+-- are hidden.
 pub behind_shown : (rules : Rules) (limit : ℕ) (name : CommandName) (words : List (List ℕ)) →
     bytes_behind (shown_line (hides_faults (record rules { value_limit = limit }) name words) (line_named (record rules { value_limit = limit }) name words)) ≡ bytes_with (count_named rules name words)
 behind_shown rules limit name words =

@@ -57,8 +57,8 @@ lawful_meta rules Set [] = lawful_whole rules.value_limit (Err (word_count_refus
 lawful_meta rules name [] = lawful_whole rules.value_limit (Err (word_count_refusal rules)) (words_told rules)
 lawful_meta rules name (word ∷ words) = lawful_whole rules.value_limit _ (told_may _ (meta_given_up rules name word words))
 
--- A line of any name never says that memory ran out, has as many bytes behind it as its words announce, and a data
--- block only of a command that may be given up, and within the value limit.
+-- A line of any name is never refused with "out of memory". It has as many bytes behind it as its words
+-- announce, and a data block only if its command may be refused for want of memory, within the value limit.
 pub lawful_named : (rules : Rules) (name : CommandName) (words : List (List ℕ)) → IsLawful rules.value_limit (bytes_with (count_named rules name words)) (line_named rules name words)
 lawful_named rules (name.Store mode) words = lawful_block rules (count_in rules words) _ (storage_may rules mode words)
 lawful_named rules name.CompareAndSwap words = lawful_block rules (cas_count_in rules words) _ (cas_may rules words)
@@ -89,7 +89,7 @@ unfolding line_of
 lawful_line rules [] = (0, record { told = refl; block = tt; behind_is = refl })
 lawful_line rules (name ∷ words) = lawful_if_named rules (name_of name) words
 
--- the table never says that memory ran out
+-- the table never refuses with "out of memory"
 pub never_given_up : (rules : Rules) (words : List (List ℕ)) → is_given_up (line_of rules words) ≡ false
 never_given_up rules words = (lawful_line rules words).1.told
 

@@ -1,4 +1,4 @@
--- Flags in another order are lawful if they were, and each look-up in them finds the same.
+-- Flags in another order are valid if they were before, and each lookup in them finds the same.
 use Rattle.std.proofs.Common.{◌≡◌, ℕ, ◌+◌, ◌==◌, ◌||◌, Bool, true, false, cond, List, [], ◌∷◌, ◌++◌, Option, Some, None, nat_lt, refl, sym, ap, ap₂, ◌∙◌, arith, Result, Ok, Err, IsPermutation}
 use Rattle.std.specs.Prelude.{find, if◌then◌else◌}
 use Rattle.std.specs.List.{filter_map}
@@ -30,13 +30,13 @@ use Rattle.mc_command.proofs.MetaLookups.{has_flag-append}
 use Rattle.mc_command.proofs.Permuted.{along_permutation, IsPermutation-filter_map}
 use Rattle.mc_command.specs.declared.rules.Rules.{Rules}
 
--- One flag after another is lawful: what that says of the two.
+-- One flag after another is valid: consequences for the two.
 
 both_none : (first second : Option Refusal) → option_or first second ≡ None → (first ≡ None) × (second ≡ None)
 both_none None second passes = (refl, passes)
 both_none (Some refusal) second passes = absurd cc
 
--- a flag that passes did not stand before, and passes behind whatever flags it is not among
+-- a flag that passes was not among the earlier ones, and passes behind any flags that it is not among
 fresh : (unknown stands : Bool) (rest : Option Refusal) → cond unknown (Some InvalidFlag) (cond stands (Some DuplicateFlag) rest) ≡ None →
     (stands ≡ false) × ((again : Bool) → again ≡ false → cond unknown (Some InvalidFlag) (cond again (Some DuplicateFlag) rest) ≡ None)
 fresh true stands rest passes = absurd cc
@@ -53,7 +53,7 @@ one_of true true first second rest apart = absurd (apart refl refl)
 one_of true false first second rest apart = refl
 one_of false b first second rest apart = refl
 
--- Flags are refused alike behind flags of the same letters.
+-- Flags are refused equally behind flags with the same letters.
 same_before : (rules : Rules) (name : MetaKind) (before other words : List (List ℕ)) → ((letter : ℕ) → has_flag letter before ≡ has_flag letter other) → flags_refusal rules name before words ≡ flags_refusal rules name other words
 same_before rules name before other [] same = refl
 same_before rules name before other ([] ∷ words) same = refl
@@ -62,7 +62,7 @@ same_before rules name before other ((first ∷ token) ∷ words) same =
     ap₂ option_or one (same_before rules name (before ++ (first ∷ token) ∷ []) (other ++ (first ∷ token) ∷ []) words (λ letter.
     has_flag-append letter before first token ∙ (ap (λ stands. (first == letter) || stands) (same letter) ∙ sym (has_flag-append letter other first token))))
 
--- If these flags are lawful behind some, so are those, and each look-up finds the same in both.
+-- If these flags are valid behind some, so are those, and each lookup finds the same in both.
 abbrev Keeps : Rules → MetaKind → List (List ℕ) → List (List ℕ) → Type 0
 Keeps rules name words others = (before : List (List ℕ)) → flags_refusal rules name before words ≡ None →
     (flags_refusal rules name before others ≡ None) × ((letter : ℕ) → find (has_letter letter) words ≡ find (has_letter letter) others)
@@ -109,7 +109,7 @@ keeps rules name = along_permutation (Keeps rules name)
 
 -- Commands.
 
--- what is read is the same command but for the order, or both times nothing
+-- the results are the same command but for the order, or no command both times
 abbrev SameAsked : Result Command Refusal → Result Command Refusal → Type 0
 SameAsked (Ok asked) (Ok other) = IsReordered asked other
 SameAsked (Err refusal) (Err other) = Unit {0}
@@ -164,7 +164,7 @@ same_whole (Ok asked) (Ok other) same = same
 same_whole (Err refusal) (Err other) same = tt
 same_whole asked other same = absurd same
 
--- The flags that are given back don't tell which item is discarded.
+-- The returned flags don't affect which item is discarded.
 same_key : (asked : Command) (returned : List ReturnFlag) → key_set asked ≡ key_set (with_returned asked returned)
 same_key (command.MetaGet get) returned = refl
 same_key (command.MetaSet set) returned = refl

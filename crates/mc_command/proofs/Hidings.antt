@@ -21,11 +21,11 @@ from_last : (last : Option (List ℕ)) (words : List (List ℕ)) → unwrap_or (
 from_last last [] = refl
 from_last last (word ∷ words) = from_last (Some word) words
 
--- Words end in `noreply` where the last is it, as one after another tells.
+-- Words end in `noreply` if the last one is it, as a walk over them finds.
 pub ends_from : (words : List (List ℕ)) → ends_in_noreply words ≡ noreply_from false words
 ends_from words = from_last None words
 
--- Hiding faults neither hides that memory ran out nor makes another refusal say so.
+-- Hiding errors neither hides "out of memory" nor makes another refusal one.
 pub shown_told : (hides : Bool) (refusal : Refusal) → is_memory (shown_refusal hides refusal) ≡ is_memory refusal
 shown_told false refusal = refl
 shown_told true Memory = refl

@@ -1,4 +1,4 @@
--- The keys that words spell.
+-- The keys in words.
 use Rattle.std.proofs.Common.{◌≡◌, ◌≢◌, ℕ, Bool, true, false, cond, ◌&&◌, List, [], ◌∷◌, Option, Some, None, refl, Result, Ok, Err}
 use Rattle.std.specs.Option.{is_none}
 use Rattle.std.specs.List.{list_all}
@@ -17,7 +17,7 @@ is_accepted : (test : Bool) (word key : List ℕ) → cond {A = Result (List ℕ
 is_accepted true word key h = (refl, cc)
 is_accepted false word key h = absurd cc
 
--- the first word spells none
+-- the first word is no key
 pub no_first : (first : List ℕ) (others : List (List ℕ)) (refusal : Refusal) → (refusal ≢ Memory → key_of first ≡ Err refusal) → refusal ≢ Memory → keys_of (first ∷ others) ≡ Err refusal
 unfolding keys_of
 no_first first others refusal h other =
@@ -25,7 +25,7 @@ no_first first others refusal h other =
     let bad : list_all is_key (first ∷ others) ≡ false = rw fault.0 refl in
     rw (bad, fault.1)
 
--- the first word spells one, and so do the others or not
+-- the first word is a key, and the others are or not
 pub of_others : (first key : List ℕ) (others : List (List ℕ)) (good : Bool) → key_of first ≡ Ok key → list_all is_key others ≡ good → keys_of (first ∷ others) ≡ cond good (Ok (key ∷ others)) (Err BadKey)
 unfolding keys_of
 of_others first key others good h judged =

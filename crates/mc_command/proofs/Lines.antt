@@ -72,7 +72,8 @@ pub takes_words : (rules : Rules) → IsTrue (refusal_takes_memory (word_count_r
 unfolding word_count_refusal
 takes_words rules = takes_either (is_drop_in rules)
 
--- A line may be given up where the fault of its next field may be, and so may what comes of each value of that field.
+-- A line may be given up where the fault of its next field may be, and so may what comes of each value of
+-- that field.
 pub may_then : {A : Type 0} (read : Result A Refusal) (rest : A → Result Command Refusal) → Yields read → ((value : A) → MayBeGivenUp (rest value)) → MayBeGivenUp (then_of read rest)
 may_then (Ok value) rest yields may = may value
 may_then (Err refusal) rest yields may = yields

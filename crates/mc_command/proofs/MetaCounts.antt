@@ -1,4 +1,4 @@
--- There is room for each flag that is given back: no letter stands twice, and eight are given back.
+-- There is space for each returned flag: no letter occurs twice, and eight flags can be returned.
 use Rattle.std.proofs.Common.{◌≡◌, ℕ, ◌+◌, ◌<◌, ◌≤◌, ◌==◌, Bool, true, false, ◌&&◌, ◌||◌, cond, not, nat_lt, List, [], ◌∷◌, ◌++◌, length, Option, Some, None, is_some, codes, refl, sym, ap, ◌∙◌, arith, inl, inr, get_or, set, get_or-set_other, get_or-set_same, length-append}
 use Rattle.std.proofs.lemmas.Bool.{and_parts, cond_both, eqb-false, eqb-true, ltb-true, not-true, or_cases, or_parts}
 use Rattle.std.proofs.lemmas.Bool.Decides.{eqb_tells, nat_tests}
@@ -20,7 +20,7 @@ seen_count-other seen letter (first ∷ letters) absent =
     let parts = or_parts (first == letter) (is_among letters letter) absent in
     rw (get_or-set_other seen letter first true false (eqb-false first letter parts.0), seen_count-other seen letter letters parts.1)
 
--- Of letters no one stands twice.
+-- no letter occurs twice
 abbrev is_distinct : List ℕ → Bool
 is_distinct [] = true
 is_distinct (letter ∷ letters) = not (is_among letters letter) && is_distinct letters

@@ -1,4 +1,5 @@
--- Laws of the table of meta lines: which of them may be given up, and that none says that memory was short.
+-- Laws of the table of meta lines: which of them may be refused for want of memory, and that the table itself
+-- refuses none.
 use Rattle.std.proofs.Common.{◌≡◌, ◌≢◌, ℕ, ◌&&◌, ◌==◌, not, Bool, true, false, List, [], ◌∷◌, ◌++◌, Option, Some, None, is_some, refl, sym, ◌∙◌, Result, Ok, Err, cond, nat_lt, length}
 use Rattle.std.specs.Prelude.{IsTrue}
 use Rattle.std.specs.Option.{option_or}
@@ -93,7 +94,8 @@ pub reads_command : (rules : Rules) (name : MetaKind) (word : List ℕ) (words :
 reads_command rules name word words asked key read said spelled made =
     reads_same (meta_command_of rules name word words) read (made ∙ asked_then rules name word words asked key (flags_refusal rules name [] words) said spelled)
 
--- A refusal that is passed up as it is, and refuses the line unless memory ran out, is what reading the line gives.
+-- A refusal that is passed up as it is, and refuses the line unless memory ran out, is what reading the line
+-- gives.
 pub reads_refused : {A : Type 0} (asked : Result Command Refusal) (shown : Result A Refusal → Result Command Refusal) (passed : Result A Refusal) (refusal : Refusal) →
     ((e : Refusal) → shown (Err e) ≡ Err e) → IsErrAnd passed (λ e. e ≡ refusal) → (refusal ≢ Memory → asked ≡ Err refusal) → Reads asked (shown passed)
 reads_refused asked shown (Ok value) refusal errs is said = absurd is
@@ -109,7 +111,8 @@ pub flags_refused : (rules : Rules) (name : MetaKind) (word : List ℕ) (words :
     Err refusal ≡ unless (flags_refusal rules name [] words) (Ok (asked_of rules name words)) → meta_command_of rules name word words ≡ Err refusal
 flags_refused rules name word words refusal said = refuses_both (flags_refusal rules name [] words) (asked_of rules name words) refusal _ said
 
--- What is asked where nothing refuses it has the flag `b` of the words, so a key that can't be read by it refuses the line.
+-- What is asked where nothing refuses it has the flag `b` of the words, so a key that can't be read by it
+-- refuses the line.
 key_then : (rules : Rules) (name : MetaKind) (word : List ℕ) (words : List (List ℕ)) (asked : FlagsRead) (refusal : Refusal) (found : Option Refusal) →
     Ok asked ≡ unless found (Ok (asked_of rules name words)) → meta_key_of asked.flags.base64 word ≡ Err refusal →
     unless found (then_of (meta_key_of (has_flag 98 words) word) (λ key. keyed_command rules name key words)) ≡ Err refusal

@@ -17,12 +17,12 @@ use Rattle.mc_command.specs.Meta.{has_letter, has_flag, token_of, shown_flag, re
 use Rattle.mc_command.specs.internal.FlagsAsked.{asked_of, mode_in, direction_in}
 use Rattle.mc_command.specs.internal.FlagReading.{with_shown}
 
--- A flag stands among some flags and one more just where it is that one or stands among the others.
+-- A flag is among some flags and one more exactly if it is that one or among the others.
 pub has_flag-append : (letter : ℕ) (before : List (List ℕ)) (first : ℕ) (token : List ℕ) → has_flag letter (before ++ (first ∷ token) ∷ []) ≡ (first == letter) || has_flag letter before
 has_flag-append letter before first token =
     list_any-append (has_letter letter) before ((first ∷ token) ∷ []) ∙ (ap (λ b. has_flag letter before || b) (or-false (first == letter)) ∙ or_comm (has_flag letter before) (first == letter))
 
--- a flag that does not stand there is not found
+-- a missing flag is not found
 found_none : (letter : ℕ) (words : List (List ℕ)) → has_flag letter words ≡ false → find (has_letter letter) words ≡ None
 found_none letter [] absent = refl
 found_none letter (word ∷ words) absent =
@@ -87,7 +87,7 @@ asked_next name asked first token shown = record {
   direction = cond (first == 77) (direction_in name (Some token)) asked.direction;
 }
 
--- With a flag more, of a letter that none before it has, a meta line asks what it did and what that flag says.
+-- With one more flag, of a new letter, a meta line has its earlier flags and that one.
 pub asked_of-append : (rules : Rules) (name : MetaKind) (before : List (List ℕ)) (first : ℕ) (token : List ℕ) → has_flag first before ≡ false →
     asked_of rules name (before ++ (first ∷ token) ∷ []) ≡ asked_next name (asked_of rules name before) first token (return_flag first)
 asked_of-append rules name before first token fresh =

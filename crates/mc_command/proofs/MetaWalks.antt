@@ -35,13 +35,13 @@ token_refusal : MetaKind → ℕ → List ℕ → Option Refusal
 token_refusal name letter token =
     cond (letter == 79 && nat_lt OPAQUE_LIMIT (length token)) (Some OpaqueTooLong) (cond (is_token name letter token) None (Some BadFormat))
 
--- what a flag that stands for the first time says
+-- the meaning of a flag that occurs for the first time
 data Tells (rules : Rules) (name : MetaKind) (letter : ℕ) (token : List ℕ) (before : List (List ℕ)) : Type 0 where
   refused : (refusal : Refusal) → token_refusal name letter token ≡ Some refusal → flag_of name letter token ≡ Err refusal → Tells rules name letter token before
   said : (flag : Flag) → token_refusal name letter token ≡ None → flag_of name letter token ≡ Ok flag →
       with_shown (with_flag (asked_of rules name before) flag) (return_flag letter) ≡ asked_of rules name (before ++ (letter ∷ token) ∷ []) → Tells rules name letter token before
 
--- A flag says what the look-ups give.
+-- A flag means what the lookups find.
 abbrev IsSaid : Rules → MetaKind → ℕ → Type 0
 IsSaid rules name letter = (token : List ℕ) (before : List (List ℕ)) → has_flag letter before ≡ false → Tells rules name letter token before
 

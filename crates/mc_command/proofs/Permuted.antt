@@ -3,8 +3,8 @@ use Rattle.std.proofs.Common.{ℕ, zero, suc, ◌<◌, List, [], ◌∷◌, leng
 use Rattle.std.specs.List.{filter_map, cons_option}
 use Rattle.std.proofs.lemmas.List.Sorted.{IsPermutation-refl, IsPermutation-keeps, IsPermutation-trans, IsPermutation-cons, IsPermutation-middle}
 
--- A relation holds along each permutation if it is reflexive and transitive, and goes under a head and over
--- an exchange of two heads.
+-- A relation holds along each permutation if it is reflexive and transitive, and is preserved under a common
+-- head and by exchanging two heads.
 module _ {X : Type 0} (R : List X → List X → Type 0) (same : (xs : List X) → R xs xs)
     (skip : (x : X) (xs ys : List X) → R xs ys → R (x ∷ xs) (x ∷ ys))
     (turn : (x y : X) (xs : List X) → R (x ∷ y ∷ xs) (y ∷ x ∷ xs))
@@ -26,8 +26,8 @@ module _ {X : Type 0} (R : List X → List X → Type 0) (same : (xs : List X) �
   swapped [] i j p q = same []
   swapped (x ∷ l) i j p q = exchanged (x ∷ l) i j x p q
 
-  -- What holds of a list and itself, and goes on along an exchange of two elements, holds of a list and each order of
-  -- its elements.
+  -- A relation that is reflexive, transitive and preserved by exchanging two elements holds between a list
+  -- and each permutation of it.
   pub along_permutation : (xs ys : List X) → IsPermutation xs ys → R xs ys
   along_permutation xs = IsPermutation-keeps xs (R xs) (same xs) (λ l i j p q h. chain xs l _ h (swapped l i j p q))
 

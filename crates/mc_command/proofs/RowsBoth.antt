@@ -1,5 +1,5 @@
--- Worked lines by both rules, where they differ: what the server's own rules say of each, and what memcached's do. The second are
--- what memcached 1.6.18 answered.
+-- Worked lines under both rules, where they differ: the results of the native rules, and of memcached's. The
+-- latter are what memcached 1.6.18 answered.
 use Rattle.std.proofs.Common.{◌≡◌, ℕ, Bool, true, false, List, [], ◌∷◌, ◌++◌, Option, Some, None, refl, codes, ℤ, pos, negsuc, replicate}
 use Rattle.std.specs.Prelude.{map}
 use Rattle.std.specs.Int.{int_wrap}
@@ -60,8 +60,8 @@ exptimes : AreSo (
 unfolding line_of words_of name_of is_key number_of int_wrap
 exptimes = (refl, refl)
 
--- The server has no `stats` by its own rules. By memcached's it has those of three kinds, and what stands behind the second
--- word is not read.
+-- The native rules have no `stats`. memcached's have three kinds of it, and words after the second one are
+-- not read.
 statistics : AreSo (
     (codes "stats", Refused Unknown, Whole (command.Stats request.General))
     ∷ (codes "stats reset", Refused Unknown, Whole (command.Stats request.Reset))
@@ -78,7 +78,8 @@ statistics : AreSo (
 unfolding line_of words_of name_of
 statistics = (refl, refl)
 
--- Too few words or too many are no command, and a block is skipped where a count stands; but `cas` without its unique has none.
+-- Too few or too many words are an unknown command, and a block is skipped if there is a length; `cas`
+-- without its unique has no block.
 word_counts : AreSo (
     (codes "get", Refused BadFormat, Refused WordCount)
     ∷ (codes "gat 0", Refused BadFormat, Refused WordCount)
@@ -130,7 +131,7 @@ hidden_faults : AreSo (
 unfolding line_of words_of name_of is_key keys_of number_of word_count_refusal
 hidden_faults = (refl, refl)
 
--- Where a value is too large the item under the key goes: of `set`, and of `ms` in each of its modes.
+-- If a value is too large the item of the key is deleted: for `set`, and for `ms` in each mode.
 too_large : AreSo (
     (codes "set a 0 0 1048577", Skip None TooLarge 1048579, Skip (Some a) TooLarge 1048579)
     ∷ (codes "set a 0 0 1048576", Data (set (pos 0) false) 1048576, Data (set (pos 0) false) 1048576)

@@ -1,4 +1,4 @@
--- Worked lines of the classic commands, with what the table says of them.
+-- Worked lines of the classic commands, with the results of the table.
 use Rattle.std.proofs.Common.{◌≡◌, ℕ, Bool, true, false, List, [], ◌∷◌, ◌++◌, Option, Some, None, refl, codes, ℤ, pos, negsuc, replicate}
 use Rattle.std.specs.Prelude.{map}
 use Rattle.mc_wire.specs.Words.{words_of}
@@ -25,11 +25,11 @@ use Rattle.mc_command.specs.declared.rules.Profile.TheVariants.{Own}
 abbrev Rows : Type 0
 Rows = List (List ℕ × Line)
 
--- each line of the rows is what stands beside it
+-- each line of the rows equals the result beside it
 abbrev AreSo : Rows → Type 0
 AreSo rows = map (λ row. line_of (own DEFAULT_VALUE_LIMIT) (words_of row.0)) rows ≡ map (λ row. row.1) rows
 
--- these lines are all the same
+-- these lines have one result
 abbrev each_is : Line → List (List ℕ) → Rows
 each_is line texts = map (λ text. (text, line)) texts
 

@@ -22,7 +22,7 @@ use Rattle.mc_command.specs.Field.{word_count_refusal}
 abbrev line : List ℕ → Line
 line text = line_of (own DEFAULT_VALUE_LIMIT) (words_of text)
 
--- what stands before the flags
+-- the words before the flags
 heads : map words_of (codes "mg a k t" ∷ codes "ms a 2 k t" ∷ [])
     ≡ (before_flags Get (codes "a") (codes "9") ++ codes "k" ∷ codes "t" ∷ []) ∷ (before_flags Set (codes "a") (codes "2") ++ codes "k" ∷ codes "t" ∷ []) ∷ []
 unfolding words_of
@@ -36,7 +36,7 @@ gets : map line (codes "mg a k v O1 q t" ∷ codes "mg a t q O1 v k" ∷ []) ≡
 unfolding line_of name_of meta_line_of words_of number_of is_key word_count_refusal
 gets = refl
 
--- two faults: the one that comes first is told, and as many bytes are skipped
+-- two errors: the first one is reported, and as many bytes are skipped
 faults : map line (codes "mg a b b ?" ∷ codes "mg a ? b b" ∷ codes "ms a 2 b b ?" ∷ codes "ms a 2 ? b b" ∷ [])
     ≡ Refused DuplicateFlag ∷ Refused InvalidFlag ∷ Skip None DuplicateFlag 4 ∷ Skip None InvalidFlag 4 ∷ []
 unfolding line_of name_of meta_line_of words_of number_of is_key word_count_refusal

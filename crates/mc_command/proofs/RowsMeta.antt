@@ -158,7 +158,7 @@ tokens_ignored : map mg (codes "a vxyz kq O" ∷ (codes "a O" ++ replicate 32 12
 unfolding meta_line_of words_of is_key word_count_refusal
 tokens_ignored = refl
 
--- a key in base64, wherever `b` stands; canonical only, and of 1 to 186 bytes
+-- a key in base64, wherever `b` is; canonical only, and of 1 to 186 bytes
 base64_keys : map mg (codes "YQ== k b" ∷ codes "YQ== b k" ∷ [])
     ≡ replicate 2 (Whole (MetaGet (record { asked = record { key = codes "a"; touch = None; vivify = None; recache = None; unnoted = false }; flags = record { base64 = true; quiet = false; profile = Own; returned = Key ∷ []; opaque = [] }; value = false })))
 unfolding meta_line_of words_of decoded_key base64_bytes base64_on_literals word_count_refusal
@@ -206,7 +206,8 @@ whole_arithmetic : map ma (codes "a N60 J007 D3 Md T-1 v t c C184467440737095516
 unfolding meta_line_of words_of number_of is_key word_count_refusal
 whole_arithmetic = refl
 
--- any fault of a flag before a bad key, and that before all that is told by the flags together or the count
+-- any error in a flag is reported before a bad key, and that before errors of the flags together or of the
+-- length
 flags_before_keys :
     map mg ((97 ∷ 127 ∷ codes " Tx") ∷ (97 ∷ 127 ∷ codes " O" ++ replicate 33 120) ∷ codes "YR== b b" ∷ codes "YR== b ?" ∷ [])
     ++ map ms ((97 ∷ 127 ∷ codes " 2 C1 MA") ∷ (97 ∷ 127 ∷ codes " x C1 MA") ∷ codes "YR== 2 b b" ∷ codes "YR== x b ?" ∷ codes "YR== 1048577 b" ∷ codes "YR== 4294967296 b" ∷ [])

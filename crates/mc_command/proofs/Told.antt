@@ -44,7 +44,7 @@ told_then (Err refusal) rest yields told = no_memory refusal yields
 pub words_told : (rules : Rules) → is_memory (word_count_refusal rules) ≡ false
 words_told rules = no_memory (word_count_refusal rules) (takes_words rules)
 
--- A line of `verbosity` never says that memory ran out, whatever its words are.
+-- A line of `verbosity` is never refused with "out of memory", whatever its words are.
 pub verbosity_told : (rules : Rules) (words : List (List ℕ)) → Told (verbosity_words rules words)
 verbosity_told rules (level ∷ []) = search (told_then, readings)
 verbosity_told rules (level ∷ noreply ∷ []) = search (told_then, readings)
@@ -54,11 +54,11 @@ stats_read_told : (request : Option StatsRequest) → Told (then_of (ok_or reque
 stats_read_told (Some request) = refl
 stats_read_told None = refl
 
--- A line of `stats` never says that memory ran out, whatever its words are.
+-- A line of `stats` is never refused with "out of memory", whatever its words are.
 pub stats_told : (rules : Rules) (words : List (List ℕ)) → Told (stats_words rules words)
 stats_told rules words = cond_both (is_drop_in rules) (then_of (ok_or (request_of words) Unknown) (λ request. Ok (command.Stats request))) (Err Unknown) Told (λ drops. stats_read_told (request_of words)) (λ own. refl)
 
--- a line without a block that is read as it stands
+-- a line without a block, read as it is
 pub says_told : (asked read : Result Command Refusal) → read ≡ asked → Told asked → Says (whole_line asked) (whole_line read)
 says_told (Ok command) read same told = rw same refl
 says_told (Err refusal) read same told = rw (same, told) refl

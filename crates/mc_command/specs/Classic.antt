@@ -1,6 +1,6 @@
--- The classic commands: what the words behind each name are (protocol.txt, "Storage commands",
--- "Retrieval command", "Deletion", "Increment/Decrement", "Touch", "Get And Touch", "Other commands").
--- The number of words is judged first, then the words from left to right, the first fault deciding.
+-- The classic commands, by the words behind each name (protocol.txt, "Storage commands", "Retrieval command",
+-- "Deletion", "Increment/Decrement", "Touch", "Get And Touch", "Other commands"). The number of words is
+-- checked first, then the words from left to right; the first error is reported.
 use Rattle.std.specs.Prelude.{ℕ, ◌^◌, Bool, true, false, List, [], ◌∷◌, Option, Some, None, is_none, ◌&&◌, codes, ℤ, pos, if◌then◌else◌, Result, Ok, Err}
 use Rattle.std.specs.Map.{lookup}
 use Rattle.std.specs.Option.{ok_or, option_and_then}
@@ -22,17 +22,17 @@ use Rattle.mc_command.specs.Field.{exptime_of, is_key, is_noreply, key_of, last_
 use Rattle.mc_command.specs.Rules.{is_drop_in}
 use Rattle.mc_command.specs.Blocks.{block_count, block_line}
 
--- The count of a block is the fifth word of its line, where that is readable.
+-- The length of a block is the fifth word of its line, if that is valid.
 abbrev pub count_in : Rules → List (List ℕ) → Option ℕ
 count_in rules words = option_and_then (block_count rules) (slice_get words 3)
 
--- By memcached's rules a joined value that is too large counts as not stored, and that is no error.
+-- By memcached's rules a joined value that is too large counts as not stored, which is no error.
 abbrev pub is_lenient : Rules → StoreMode → Bool
 is_lenient rules Append = is_drop_in rules
 is_lenient rules Prepend = is_drop_in rules
 is_lenient rules other = false
 
--- what is read where no word stands behind the fields, or one; more are too many
+-- the result if at most one word follows the fields; more words are too many
 abbrev pub with_last : Rules → List (List ℕ) → (Option (List ℕ) → Result Command Refusal) → Result Command Refusal
 with_last rules [] read = read None
 with_last rules (word ∷ []) read = read (Some word)
@@ -43,7 +43,7 @@ abbrev pub compare_of : Option (List ℕ) → Result (Option ℕ) Refusal
 compare_of None = Ok None
 compare_of (Some word) = then_of (unsigned_of (2 ^ 64) word) (λ unique. Ok (Some unique))
 
--- what a classic storage command asks, its block still empty; the shard gives the item its unique
+-- the request of a classic storage command, with a placeholder as its block; the shard assigns the unique
 abbrev pub asked_to_store : StoreMode → Option ℕ → List ℕ → ℕ → ℤ → StoreRequest (List ℕ)
 asked_to_store mode compare key flags exptime = record {
   key = key;
@@ -80,7 +80,7 @@ cas_words rules (key ∷ flags ∷ exptime ∷ count ∷ unique ∷ more) =
     with_last rules more (storage_of rules Set key flags exptime (Some unique))
 cas_words rules words = Err (word_count_refusal rules)
 
--- the count of the block of `cas`; memcached awaits no block where the unique is missing
+-- the length of the block of `cas`; memcached expects no block if the unique is missing
 abbrev pub cas_count_in : Rules → List (List ℕ) → Option ℕ
 cas_count_in rules words =
     if is_none (slice_get words 4) && is_drop_in rules then None else count_in rules words
@@ -88,11 +88,11 @@ cas_count_in rules words =
 abbrev pub cas_line : Rules → List (List ℕ) → Line
 cas_line rules words = block_line rules (cas_count_in rules words) (cas_words rules words)
 
--- keys, each of the words one
+-- keys, if each of the words is one
 unfoldable pub keys_of : List (List ℕ) → Result (List (List ℕ)) Refusal
 keys_of words = if list_all is_key words then Ok words else Err BadKey
 
--- a get of these keys, which gives what it finds an exptime or none
+-- a get of these keys, which sets an exptime or not
 abbrev pub retrieval_of : Bool → Option ℤ → List (List ℕ) → Result Command Refusal
 retrieval_of with_unique touch words = then_of (keys_of words) (λ keys. Ok (Get (record { keys = keys; touch = touch; with_unique = with_unique })))
 
@@ -158,17 +158,18 @@ verbosity_words rules (level ∷ more) =
     Ok (Verbosity noreply))))
 verbosity_words rules words = Err (word_count_refusal rules)
 
--- what `stats` asks for by the word behind it: this server has counts of no other kind
+-- the section of `stats` that a word names: this server has no others
 abbrev pub request_named : List ℕ → Option StatsRequest
 request_named word =
     lookup (bytes_eq word) ((codes "reset", Reset) ∷ (codes "settings", Empty) ∷
     (codes "items", Empty) ∷ (codes "slabs", Empty) ∷ (codes "sizes", Empty) ∷ (codes "conns", Empty) ∷ [])
 
--- what the words behind `stats` ask for (protocol.txt, "Statistics"); those behind the first change nothing
+-- the section that the words behind `stats` request (protocol.txt, "Statistics"); words after the first are
+-- ignored
 abbrev pub request_of : List (List ℕ) → Option StatsRequest
 request_of [] = Some General
 request_of (word ∷ words) = request_named word
 
--- stats: [WHAT ..], by memcached's rules; by its own the server has no such command
+-- stats: [WHAT ..], by memcached's rules; the native rules have no such command
 abbrev pub stats_words : Rules → List (List ℕ) → Result Command Refusal
 stats_words rules words = if is_drop_in rules then then_of (ok_or (request_of words) Unknown) (λ request. Ok (Stats request)) else Err Unknown

@@ -1,4 +1,4 @@
--- The words of a line as its fields: each is a value or a fault (protocol.txt, "Keys", "Storage commands").
+-- The fields of a line: each is a value or an error (protocol.txt, "Keys", "Storage commands").
 use Rattle.std.specs.Prelude.{ℕ, ◌≡◌, ◌≢◌, Bool, true, false, List, Option, Some, None, is_none, codes, ℤ, if◌then◌else◌, MatchResult, Result, Ok, Err}
 use Rattle.std.specs.List.{AllByRecursion}
 use Rattle.std.specs.Option.{ok_or}
@@ -13,7 +13,7 @@ use Rattle.mc_command.specs.declared.refusal.Refusal.TheVariants.{BadFormat, Bad
 use Rattle.mc_command.specs.Rules.{is_drop_in}
 use Rattle.mc_command.specs.declared.rules.Rules.{Rules}
 
--- the refusal that a word's fault becomes
+-- the refusal for an error in a word
 abbrev pub refusal_for : WireFault → Refusal
 refusal_for wire.NoKey = BadKey
 refusal_for wire.KeyTooLong = BadKey
@@ -41,35 +41,35 @@ unsigned_of bound word = ok_or (number_of bound word) BadFormat
 abbrev pub signed_of : List ℕ → Result ℤ Refusal
 signed_of word = ok_or (integer_of word) BadFormat
 
--- what comes of a value, where there is one; else its fault
+-- the result of the next step, or the error of this one
 abbrev pub then_of : {A B : Type 0} → Result A Refusal → (A → Result B Refusal) → Result B Refusal
 then_of (Ok value) rest = rest value
 then_of (Err refusal) rest = Err refusal
 
--- An exptime, or the token of a ttl. memcached keeps the lower 32 bits of it, as a signed number: 4294967295 is -1.
+-- An exptime, or the token of a ttl. memcached keeps its low 32 bits, as a signed number: 4294967295 is -1.
 abbrev pub exptime_by : Rules → ℤ → ℤ
 exptime_by rules number = if is_drop_in rules then int_wrap w32 number else number
 
 abbrev pub exptime_of : Rules → List ℕ → Result ℤ Refusal
 exptime_of rules word = then_of (signed_of word) (λ number. Ok (exptime_by rules number))
 
--- what refuses a line whose words are too few or too many: in memcached it is no command at all
+-- the refusal of a line with too few or too many words; for memcached it is an unknown command
 unfoldable pub word_count_refusal : Rules → Refusal
 word_count_refusal rules = if is_drop_in rules then WordCount else BadFormat
 
 abbrev pub is_noreply : List ℕ → Bool
 is_noreply word = bytes_eq word (codes "noreply")
 
--- the very word `noreply`, or nothing
+-- exactly `noreply`, or nothing
 abbrev pub noreply_of : Option (List ℕ) → Result Bool Refusal
 noreply_of None = Ok false
 noreply_of (Some word) = if is_noreply word then Ok true else Err BadFormat
 
--- whether the word behind the fields is `noreply`; memcached ignores any other
+-- whether the word behind the fields is `noreply`; memcached ignores any other one
 abbrev pub last_word_of : Rules → Option (List ℕ) → Result Bool Refusal
 last_word_of rules None = Ok false
 last_word_of rules (Some word) = if is_drop_in rules then Ok (is_noreply word) else noreply_of (Some word)
 
--- What was read is what was asked, unless it was given up because memory ran out.
+-- The result is the parsed value, unless memory was refused.
 abbrev pub Reads : {A : Type 0} → Result A Refusal → Result A Refusal → Type 0
 Reads asked read = MatchResult read (λ value. asked ≡ Ok value) (λ refusal. refusal ≢ Memory → asked ≡ Err refusal)

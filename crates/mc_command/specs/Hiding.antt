@@ -1,5 +1,5 @@
--- Which faults are hidden: memcached shows none of a line that ends in `noreply`, but that its name or the number of its
--- words is wrong (protocol.txt, "Commands": "noreply" instructs the server to not send the reply).
+-- Which errors are hidden: memcached reports none for a line that ends in `noreply`, except for a wrong name
+-- or number of words (protocol.txt, "Commands": "noreply" instructs the server to not send the reply).
 use Rattle.std.specs.Prelude.{ℕ, Bool, true, false, ◌&&◌, List, None, unwrap_or}
 use Rattle.std.specs.List.{last_or}
 use Rattle.std.specs.Option.{option_map}
@@ -17,7 +17,7 @@ use Rattle.mc_command.specs.Rules.{is_drop_in}
 abbrev pub ends_in_noreply : List (List ℕ) → Bool
 ends_in_noreply words = unwrap_or (option_map is_noreply (last_or None words)) false
 
--- whether a line of this name may end in `noreply`
+-- whether a command of this name takes `noreply`
 abbrev pub takes_noreply : CommandName → Bool
 takes_noreply (name.Store mode) = true
 takes_noreply name.CompareAndSwap = true
@@ -31,7 +31,7 @@ takes_noreply other = false
 abbrev pub hides_faults : Rules → CommandName → List (List ℕ) → Bool
 hides_faults rules name words = takes_noreply name && (is_drop_in rules && ends_in_noreply words)
 
--- a refusal, or that it is hidden
+-- the refusal, or `Hidden`
 abbrev pub shown_refusal : Bool → Refusal → Refusal
 shown_refusal true Memory = Memory
 shown_refusal true WordCount = WordCount

@@ -7,8 +7,8 @@ use Rattle.mc_command.specs.Command.{can_give_up}
 use Rattle.mc_command.specs.Line.{is_given_up}
 use Rattle.mc_command.specs.Table.{line_of}
 
--- No line is the refusal "out of memory": neither as a whole command, nor as a command with a block, nor
--- as a refusal, nor as a refusal with a block to skip.
+-- No line is refused with "out of memory": neither as a command, with or without a block, nor as a refused
+-- line, with or without bytes to skip.
 abbrev pub IsNeverOutOfMemory : Type 0
 IsNeverOutOfMemory = (rules : Rules) (words : List (List ℕ)) → is_given_up (line_of rules words) ≡ false
 

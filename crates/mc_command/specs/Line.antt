@@ -1,38 +1,39 @@
--- What reading a line gives: what the command table says of it, or the refusal "out of memory".
+-- The result of parsing a line: that of the command table, or the refusal "out of memory".
 use Rattle.std.specs.Prelude.{ℕ, ◌≡◌, ◌+◌, Bool, IsTrue, MatchBool, None}
 use Rattle.mc_command.specs.declared.line.Line.{Line}
 use Rattle.mc_command.specs.declared.line.Line.TheVariants.{Whole, Data, Refused, Skip}
 use Rattle.mc_command.specs.Command.{can_give_up, is_memory, is_memory_refusal, refusal_takes_memory}
 
--- A line without a block may be given up.
+-- A line without a block may be refused for want of memory.
 abbrev pub CanGiveUpLine : Line → Type 0
 CanGiveUpLine (Whole command) = IsTrue (can_give_up command)
 CanGiveUpLine (Refused refusal) = IsTrue (refusal_takes_memory refusal)
 CanGiveUpLine (Data command count) = ⊥
 CanGiveUpLine (Skip discarded refusal count) = ⊥
 
--- A line with a block of the given number of bytes, its two last among them, may be given up.
+-- A line with a block of this size, its line end included, may be refused for want of memory.
 abbrev pub CanGiveUpBlock : Line → ℕ → Type 0
 CanGiveUpBlock (Data command count) skipped = skipped ≡ count + 2
 CanGiveUpBlock (Skip discarded refusal count) skipped = (skipped ≡ count) × IsTrue (refusal_takes_memory refusal)
 CanGiveUpBlock (Whole command) skipped = ⊥
 CanGiveUpBlock (Refused refusal) skipped = ⊥
 
--- What was read is what the line says, or the refusal "out of memory", with the same bytes skipped and no item discarded.
+-- The result is that of the table, or the refusal "out of memory", with the same bytes skipped and no item
+-- deleted.
 abbrev pub Says : Line → Line → Type 0
 Says line (Whole command) = line ≡ Whole command
 Says line (Data command count) = line ≡ Data command count
 Says line (Refused refusal) = MatchBool (is_memory refusal) (CanGiveUpLine line) (line ≡ Refused refusal)
 Says line (Skip discarded refusal count) = MatchBool (is_memory refusal) ((discarded ≡ None) × CanGiveUpBlock line count) (line ≡ Skip discarded refusal count)
 
--- the bytes behind a line that belong to it: its block and the line end of that
+-- the number of bytes behind a line that belong to it: its block and line end
 abbrev pub bytes_behind : Line → ℕ
 bytes_behind (Whole command) = 0
 bytes_behind (Data command count) = count + 2
 bytes_behind (Refused refusal) = 0
 bytes_behind (Skip discarded refusal count) = count
 
--- whether a line is the refusal "out of memory", in any of its forms
+-- whether a line is refused with "out of memory", in any of its forms
 abbrev pub is_given_up : Line → Bool
 is_given_up (Whole command) = is_memory_refusal command
 is_given_up (Data command count) = is_memory_refusal command

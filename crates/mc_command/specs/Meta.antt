@@ -1,6 +1,6 @@
--- The meta commands as a table: which flags each has, which tokens, and what a line of them is
--- (protocol.txt, "Meta Commands": a name, a key, for `ms` the length of the data block, and flags, each
--- one letter with its token joined to it).
+-- The meta commands as a table: the flags and tokens of each, and the result for a line. A line has a name, a
+-- key, for `ms` the length of the data block, and flags, each one letter directly followed by its token
+-- (protocol.txt, "Meta Commands").
 use Rattle.std.specs.Prelude.{ℕ, zero, ℤ, pos, ◌==◌, ◌^◌, Bool, true, false, ◌&&◌, not, List, [], ◌∷◌, ◌++◌, length, drop, find, Option, Some, None, is_some, unwrap_or, option_and_then, nat_lt, codes, if◌then◌else◌, Result, Ok, Err}
 use Rattle.std.specs.List.{filter_map, list_any, slice_get}
 use Rattle.std.specs.Map.{lookup}
@@ -36,8 +36,8 @@ use Rattle.mc_command.specs.Blocks.{block_count, block_line, whole_line}
 use Rattle.mc_command.specs.Field.{exptime_by, key_of, then_of, word_count_refusal}
 use Rattle.mc_command.specs.Rules.{is_drop_in}
 
--- The letters of the flags that each command has. By memcached's rules there are P and L too, hints for proxies which mean
--- nothing here, I and N of `ms`, which do nothing, and u of `mg`.
+-- The letters of each command's flags. memcached's rules also have P and L, hints for proxies without effect
+-- here, I and N of `ms`, which have no effect, and u of `mg`.
 abbrev pub letters_by : Profile → MetaKind → List ℕ
 letters_by Own Get = codes "bcfhklOqstvNRT"
 letters_by Own Set = codes "bkOqcsCEFTM"
@@ -51,17 +51,17 @@ letters_by DropIn Arithmetic = codes "bkOqctvCDEJMNTPL"
 abbrev pub is_among : List ℕ → ℕ → Bool
 is_among letters letter = list_any (λ other. other == letter) letters
 
--- Look-ups in the words that are the flags of a line.
+-- Lookups in the words that are the flags of a line.
 
 abbrev pub has_letter : ℕ → List ℕ → Bool
 has_letter letter [] = false
 has_letter letter (first ∷ token) = first == letter
 
--- whether the flag stands there
+-- whether the flag is among these words
 abbrev pub has_flag : ℕ → List (List ℕ) → Bool
 has_flag letter words = list_any (has_letter letter) words
 
--- its token: what is joined to the letter
+-- its token: the text after the letter
 abbrev pub token_of : ℕ → List (List ℕ) → Option (List ℕ)
 token_of letter words = option_map (λ word. drop 1 word) (find (has_letter letter) words)
 
@@ -70,7 +70,7 @@ unsigned_token bound letter words = option_and_then (number_of bound) (token_of 
 
 -- Tokens.
 
--- what a token of one letter says, by rows of the letters that say it
+-- the value of a token of one letter, by rows of letters
 abbrev pub letter_says : {A : Type 0} → List (List ℕ × A) → List ℕ → Option A
 letter_says rows (letter ∷ []) = lookup (λ letters. is_among letters letter) rows
 letter_says rows token = None
@@ -85,14 +85,14 @@ mode_of token =
 abbrev pub direction_of : List ℕ → Option Direction
 direction_of token = letter_says ((codes "Ii+", Increment) ∷ (codes "Dd-", Decrement) ∷ []) token
 
--- whether a token is one of the flag `M`
+-- whether a token is valid for the flag `M`
 abbrev pub has_mode : MetaKind → List ℕ → Bool
 has_mode Set token = is_some (mode_of token)
 has_mode Arithmetic token = is_some (direction_of token)
 has_mode other token = false
 
--- whether a token is one of its flag: T, N and R are signed, C, D, E and J have 64 bits, F has 32; the other
--- flags take none and ignore what is joined to them
+-- whether a token is valid for its flag: T, N and R are signed, C, D, E and J have 64 bits, F has 32; the
+-- other flags ignore their tokens
 abbrev pub is_token : MetaKind → ℕ → List ℕ → Bool
 is_token name letter token =
     if is_among (codes "TNR") letter then is_some (integer_of token)
@@ -100,9 +100,9 @@ is_token name letter token =
     else (if letter == byte "F" then is_some (number_of (2 ^ 32) token)
     else (if letter == byte "M" then has_mode name token else true)))
 
--- Faults.
+-- Errors.
 
--- what refuses a flag that stands behind others
+-- the refusal of a flag that follows others
 abbrev pub flag_refusal : Rules → MetaKind → List (List ℕ) → List ℕ → Option Refusal
 flag_refusal rules name before [] = Some InvalidFlag
 flag_refusal rules name before (letter ∷ token) =
@@ -111,7 +111,7 @@ flag_refusal rules name before (letter ∷ token) =
     else (if letter == byte "O" && nat_lt OPAQUE_LIMIT (length token) then Some OpaqueTooLong
     else (if is_token name letter token then None else Some BadFormat)))
 
--- what refuses the first of some flags that is refused; they stand behind others
+-- the first refusal among some flags that follow others
 abbrev pub flags_refusal : Rules → MetaKind → List (List ℕ) → List (List ℕ) → Option Refusal
 flags_refusal rules name before [] = None
 flags_refusal rules name before (word ∷ words) =
@@ -122,20 +122,20 @@ abbrev pub unless : {A : Type 0} → Option Refusal → Result A Refusal → Res
 unless (Some refusal) value = Err refusal
 unless None value = value
 
--- the key that a word gives in base64
+-- the key in a base64 word
 unfoldable pub decoded_key : List ℕ → Result (List ℕ) Refusal
 decoded_key word = ok_or (base64_key word) BadKey
 
--- the key that a word gives, in base64 or as it stands
+-- the key in a word, in base64 or as it is
 abbrev pub meta_key_of : Bool → List ℕ → Result (List ℕ) Refusal
 meta_key_of base64 word = if base64 then decoded_key word else key_of word
 
--- `ms` compares in its mode S alone
+-- `ms` compares in mode S alone
 abbrev pub is_set : StoreMode → Bool
 is_set mode.Set = true
 is_set other = false
 
--- By memcached's rules it compares in the others too.
+-- By memcached's rules it compares in the other modes too.
 abbrev pub compare_refusal : Rules → MetaSet → Option Refusal
 compare_refusal rules set = if not (is_drop_in rules) && (is_some set.asked.compare && not (is_set set.asked.mode)) then Some BadFormat else None
 
@@ -149,14 +149,14 @@ compared_in mode compare = compare
 abbrev pub compare_by : Rules → StoreMode → Option ℕ → Option ℕ
 compare_by rules mode compare = if is_drop_in rules then compared_in mode compare else compare
 
--- the exptime, or the seconds, that the token of a flag gives
+-- the exptime, or the seconds, in the token of a flag
 abbrev pub exptime_token : Rules → ℕ → List (List ℕ) → Option ℤ
 exptime_token rules letter words =
     option_map (exptime_by rules) (option_and_then integer_of (token_of letter words))
 
 -- Commands.
 
--- the flag that is given back for a letter
+-- the returned flag of a letter
 abbrev pub return_flag : ℕ → Option ReturnFlag
 return_flag letter =
     lookup (λ other. letter == other) ((byte "c", shows.Unique) ∷ (byte "f", shows.ClientFlags) ∷
@@ -167,7 +167,7 @@ abbrev pub shown_flag : List ℕ → Option ReturnFlag
 shown_flag [] = None
 shown_flag (letter ∷ token) = return_flag letter
 
--- what the flags of every command ask; the reply follows the rules of this profile
+-- the flags common to all commands; the reply follows the rules of this profile
 abbrev pub flags_of : Profile → List (List ℕ) → MetaFlags
 flags_of profile words = record {
   base64 = has_flag (byte "b") words;
@@ -177,11 +177,11 @@ flags_of profile words = record {
   opaque = unwrap_or (token_of (byte "O") words) [];
 }
 
--- the mode that the flags of `ms` give it; S where they give none
+-- the mode of `ms`, from its flags; S by default
 abbrev pub set_mode : List (List ℕ) → StoreMode
 set_mode words = unwrap_or (option_and_then mode_of (token_of (byte "M") words)) mode.Set
 
--- What a key and the flags of each command ask, with the defaults of flags that do not stand there.
+-- The command of a key and flags, with the defaults of missing flags.
 
 abbrev pub meta_get_of : Rules → List ℕ → List (List ℕ) → MetaGet
 meta_get_of rules key words = record {
@@ -222,7 +222,7 @@ meta_delete_of rules key words = record {
   flags = flags_of rules.profile words;
 }
 
--- the item that `ma` makes of a miss: its exptime is the token of N, its number that of J
+-- the item that `ma` creates on a miss: its exptime is the token of N, its number that of J
 abbrev pub vivify_of : Option ℤ → ℕ → Option Vivify
 vivify_of exptime initial = option_map (λ exptime. record { exptime = exptime; initial = initial }) exptime
 
@@ -250,17 +250,17 @@ keyed_command rules Set key words =
 keyed_command rules Delete key words = Ok (command.MetaDelete (meta_delete_of rules key words))
 keyed_command rules Arithmetic key words = Ok (command.MetaArithmetic (meta_arithmetic_of rules key words))
 
--- what was read of mg, as a command
+-- a parsed mg, as a command
 abbrev pub as_meta_get : Result MetaGet Refusal → Result Command Refusal
 as_meta_get (Ok get) = Ok (command.MetaGet get)
 as_meta_get (Err refusal) = Err refusal
 
--- what was read of ms, as a command
+-- a parsed ms, as a command
 abbrev pub as_meta_set : Result MetaSet Refusal → Result Command Refusal
 as_meta_set (Ok set) = Ok (command.MetaSet set)
 as_meta_set (Err refusal) = Err refusal
 
--- what a key word and the flags behind it ask: the flags are judged first
+-- the command of a key word and the flags behind it: the flags are checked first
 abbrev pub meta_command_of : Rules → MetaKind → List ℕ → List (List ℕ) → Result Command Refusal
 meta_command_of rules name word words =
     unless (flags_refusal rules name [] words)
@@ -270,18 +270,18 @@ abbrev pub line_without_block : Rules → MetaKind → List (List ℕ) → Line
 line_without_block rules name [] = Refused (word_count_refusal rules)
 line_without_block rules name (word ∷ words) = whole_line (meta_command_of rules name word words)
 
--- a line of `ms`, whose second word counts the bytes of its block
+-- a line of `ms`, whose second word is the length of its block
 abbrev pub line_with_block : Rules → List (List ℕ) → Line
 line_with_block rules [] = Refused (word_count_refusal rules)
 line_with_block rules (word ∷ []) = Refused BadFormat
 line_with_block rules (word ∷ count ∷ words) = block_line rules (block_count rules count) (meta_command_of rules Set word words)
 
--- what a line of this name is, by the words behind the name
+-- the result for a line of this name, by the words behind the name
 unfoldable pub meta_line_of : Rules → MetaKind → List (List ℕ) → Line
 meta_line_of rules Set words = line_with_block rules words
 meta_line_of rules name words = line_without_block rules name words
 
--- the count of the bytes that a block behind such a line has, where the line has one and it is readable
+-- the length of the block behind such a line, if it has a valid one
 abbrev pub meta_count_in : Rules → MetaKind → List (List ℕ) → Option ℕ
 meta_count_in rules Set words = option_and_then (block_count rules) (slice_get words 1)
 meta_count_in rules other words = None

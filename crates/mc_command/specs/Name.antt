@@ -1,4 +1,4 @@
--- The names of the commands: lower case, as protocol.txt spells them.
+-- The names of the commands, in lower case (protocol.txt).
 use Rattle.std.specs.Prelude.{ℕ, true, false, List, [], ◌∷◌, Option, codes}
 use Rattle.std.specs.Map.{lookup}
 use Rattle.std.specs.Str.{bytes_eq}

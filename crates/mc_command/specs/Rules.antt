@@ -1,15 +1,15 @@
--- The rules by which lines are read: whose they are, and how large values and lines may be.
+-- The parser's rules: the profile, and the limits of values and lines.
 use Rattle.std.specs.Prelude.{ℕ, Bool, true, false}
 use Rattle.mc_wire.specs.declared.TheConstants.{DEFAULT_LINE_LIMIT, DROP_IN_LINE_LIMIT}
 use Rattle.mc_command.specs.declared.rules.Profile.{Profile}
 use Rattle.mc_command.specs.declared.rules.Profile.TheVariants.{Own, DropIn}
 use Rattle.mc_command.specs.declared.rules.Rules.{Rules}
 
--- the server's own rules, for values of at most limit bytes and lines of the default limit
+-- the native rules, with this value limit and the default line limit
 abbrev pub own : ℕ → Rules
 own limit = record { profile = Own; value_limit = limit; line_limit = DEFAULT_LINE_LIMIT }
 
--- memcached's rules, for values of at most limit bytes and lines of their default limit
+-- memcached's rules, with this value limit and their default line limit
 abbrev pub drop_in : ℕ → Rules
 drop_in limit = record { profile = DropIn; value_limit = limit; line_limit = DROP_IN_LINE_LIMIT }
 

@@ -1,4 +1,5 @@
--- The command table: a line by its first word, the name, and the words behind it (protocol.txt, "Commands").
+-- The command table: the result for a line by its first word, the name, and the words behind it
+-- (protocol.txt, "Commands").
 use Rattle.std.specs.Prelude.{ℕ, Bool, true, false, List, [], ◌∷◌, Option, Some, None}
 use Rattle.mc_command.specs.declared.command.Command.TheVariants as command
 use Rattle.mc_command.specs.declared.name.CommandName.{CommandName}
@@ -13,7 +14,7 @@ use Rattle.mc_command.specs.Meta.{meta_line_of, meta_count_in}
 use Rattle.mc_command.specs.Name.{name_of}
 use Rattle.mc_command.specs.Hiding.{hides_faults, shown_line}
 
--- what the words behind a name are
+-- the result for the words behind a name
 abbrev pub line_named : Rules → CommandName → List (List ℕ) → Line
 line_named rules (name.Store mode) words = storage_line rules mode words
 line_named rules name.CompareAndSwap words = cas_line rules words
@@ -34,19 +35,19 @@ abbrev pub line_if_named : Rules → Option CommandName → List (List ℕ) → 
 line_if_named rules (Some name) words = shown_line (hides_faults rules name words) (line_named rules name words)
 line_if_named rules None words = Refused Unknown
 
--- what a line of these words is; no word is no name
+-- the result for a line of these words; no word is no name
 unfoldable pub line_of : Rules → List (List ℕ) → Line
 line_of rules [] = Refused Unknown
 line_of rules (name ∷ words) = line_if_named rules (name_of name) words
 
--- the count of the block that the words behind a name announce
+-- the length of the block announced by the words behind a name
 abbrev pub count_named : Rules → CommandName → List (List ℕ) → Option ℕ
 count_named rules (name.Store mode) words = count_in rules words
 count_named rules name.CompareAndSwap words = cas_count_in rules words
 count_named rules (name.Meta name) words = meta_count_in rules name words
 count_named rules other words = None
 
--- Reading the words behind these names may take memory.
+-- Parsing the words behind these names may take memory.
 abbrev pub takes_memory : CommandName → Bool
 takes_memory name.FlushAll = false
 takes_memory name.Version = false
@@ -60,7 +61,7 @@ abbrev pub takes_memory_if : Option CommandName → Bool
 takes_memory_if (Some name) = takes_memory name
 takes_memory_if None = false
 
--- whether reading a line of these words may take memory; an unknown name takes none
+-- whether parsing a line of these words may take memory; an unknown name takes none
 abbrev pub may_take_memory : List (List ℕ) → Bool
 may_take_memory [] = false
 may_take_memory (name ∷ words) = takes_memory_if (name_of name)

@@ -1,4 +1,4 @@
-//! What stands behind a line and belongs to it, told by the count of its block alone.
+//! The bytes behind a line that belong to it, computed from the length of its block alone.
 ghost use Rattle.std.specs.Prelude.{ℕ, ◌≡◌};
 ghost use Rattle.std.specs.Option.{option_and_then, option_copied};
 ghost use Rattle.std.specs.List.{slice_get};
@@ -16,17 +16,18 @@ use crate::name::{CommandName, read_name};
 use crate::rules::Rules;
 use mc_wire::{WordWalk, words};
 
-/// How many bytes behind a line belong to it, by this server's own rules: as `announced_bytes_under`, whatever the value
-/// limit is.
+/// Number of bytes behind a line that belong to it, under the native rules; see
+/// `announced_bytes_under`. It doesn't depend on the value limit.
 pub fn announced_bytes(line: &[u8]) -> u64
     ensures { (limit : ℕ) → result ≡ bytes_behind (line_of (own limit) (words_of line.now)) }
 {
     announced_bytes_under(line, Rules::own(0))
 }
 
-/// How many bytes behind a line belong to it: its data block and the line end of that, or, of a line that
-/// is refused, what is skipped; 0 where nothing does (protocol.txt, "Storage commands"). It reads the
-/// line as `read_line_under` does, whatever the value limit is, and takes no memory.
+/// Number of bytes behind a line that belong to it: its data block with the line end, or what is
+/// skipped behind a refused line; 0 if there is nothing (protocol.txt, "Storage commands"). Parses
+/// the line as `read_line_under` does; the result doesn't depend on the value limit. Allocates
+/// nothing.
 #[tactic(auto, unfolding(crate::specs::Table::line_of), using(crate::proofs::Behind::behind_shown))]
 pub fn announced_bytes_under(line: &[u8], rules: Rules) -> u64
     ensures { (limit : ℕ) →
@@ -39,7 +40,7 @@ pub fn announced_bytes_under(line: &[u8], rules: Rules) -> u64
     }
 }
 
-/// The bytes of a block and of its line end, by its count.
+/// The size of a block with its line end, from the block's length; 0 if there is none.
 fn block_bytes(count: Option<u32>) -> u64
     ensures { result ≡ bytes_with count }
 {
@@ -49,7 +50,7 @@ fn block_bytes(count: Option<u32>) -> u64
     }
 }
 
-/// The count of the block that a command of this name announces by the words behind the name.
+/// The length of the block announced by a command of this name, from the words behind the name.
 fn announced_behind(rules: Rules, name: CommandName, walk: WordWalk<'_>) -> Option<u32>
     ensures { result ≡ count_named rules name (words_left walk.entry) }
 {
@@ -61,7 +62,7 @@ fn announced_behind(rules: Rules, name: CommandName, walk: WordWalk<'_>) -> Opti
     }
 }
 
-/// The count of the block that the words behind `cas` announce.
+/// The length of the block announced by `cas`, from the words behind the name.
 fn announced_behind_cas(rules: Rules, mut walk: WordWalk<'_>) -> Option<u32>
     ensures { result ≡ cas_count_in rules (words_left walk.entry) }
 {
@@ -72,8 +73,8 @@ fn announced_behind_cas(rules: Rules, mut walk: WordWalk<'_>) -> Option<u32>
     announced_by_cas(rules, count, walk.next())
 }
 
-/// The count of a block by its word and the unique behind it: by memcached's rules there is none where the unique is
-/// missing.
+/// The length of the block announced by `cas`, from its word and the unique behind it. By
+/// memcached's rules there is no block if the unique is missing.
 pub(crate) fn announced_by_cas(
     rules: Rules,
     count: Option<&[u8]>,
@@ -87,14 +88,14 @@ pub(crate) fn announced_by_cas(
     announced(rules, count)
 }
 
-/// The count of a block, where the word in its place is one.
+/// The length of a block, if the word is valid.
 pub(crate) fn announced(rules: Rules, word: Option<&[u8]>) -> Option<u32>
     ensures { result ≡ option_and_then (block_count rules) (option_copied word.entry) }
 {
     read_block_count(rules, word?)
 }
 
-/// The count of a block that a word gives, where it is readable.
+/// Parses the length of a block; `None` if it is invalid.
 pub fn read_block_count(rules: Rules, word: &[u8]) -> Option<u32>
     ensures { result ≡ block_count rules word.now }
 {

@@ -25,7 +25,7 @@ impl Model for Block {
 }
 
 impl Block {
-    /// The block with these bytes.
+    /// A block with these bytes.
     pub fn new(bytes: Vec<u8>) -> Block
         requires { vec_len bytes ≤ GREATEST_VALUE_LIMIT }
         ensures { result ≡ bytes.items }
@@ -33,7 +33,7 @@ impl Block {
         Block { bytes }
     }
 
-    /// The block of a command whose data has not come yet.
+    /// A placeholder, for a command whose data hasn't come yet.
     pub fn empty(alloc: Global) -> Block
         ensures { result ≡ [] }
     {
@@ -50,7 +50,7 @@ impl Block {
         self.bytes.as_slice()
     }
 
-    /// The bytes of the block, without a copy.
+    /// The bytes of the block, moved out of it.
     pub fn into_bytes(self) -> Vec<u8>
         ensures value { result.items ≡ self }
         ensures short { vec_len result ≤ GREATEST_VALUE_LIMIT }

@@ -1,4 +1,5 @@
-//! The classic lines that no block follows: retrieval, deletion, arithmetic, touch, flush and verbosity.
+//! Classic commands without a data block: retrieval, deletion, arithmetic, touch, flush and
+//! verbosity.
 ghost use Rattle.std.specs.Prelude.{◌≡◌};
 ghost use Rattle.mc_wire.specs.Words.{words_left};
 ghost use Rattle.mc_command.specs.Field.{Reads};
@@ -14,7 +15,7 @@ use crate::table::find_word;
 use mc_wire::WordWalk;
 use std::alloc::Global;
 
-/// `get` and `gets`: KEY ..
+/// Parses `get KEY..` and `gets KEY..`.
 pub(crate) fn read_get(
     alloc: Global,
     rules: Rules,
@@ -34,7 +35,7 @@ pub(crate) fn read_get(
     }))
 }
 
-/// `gat` and `gats`: E KEY ..
+/// Parses `gat EXPTIME KEY..` and `gats EXPTIME KEY..`.
 pub(crate) fn read_gat(
     alloc: Global,
     rules: Rules,
@@ -55,7 +56,7 @@ pub(crate) fn read_gat(
     }))
 }
 
-/// `delete`: KEY [noreply], KEY 0 [noreply]
+/// Parses `delete KEY [0] [noreply]`.
 pub(crate) fn read_delete(
     alloc: Global,
     rules: Rules,
@@ -75,7 +76,7 @@ pub(crate) fn read_delete(
     Ok(Command::Delete { key, noreply })
 }
 
-/// `incr` and `decr`: KEY U [noreply]
+/// Parses `incr KEY AMOUNT [noreply]` and `decr KEY AMOUNT [noreply]`.
 pub(crate) fn read_count(
     alloc: Global,
     rules: Rules,
@@ -103,7 +104,7 @@ pub(crate) fn read_count(
     })
 }
 
-/// `touch`: KEY E [noreply]
+/// Parses `touch KEY EXPTIME [noreply]`.
 pub(crate) fn read_touch(
     alloc: Global,
     rules: Rules,
@@ -129,7 +130,7 @@ pub(crate) fn read_touch(
     })
 }
 
-/// `flush_all`: [E] [noreply]
+/// Parses `flush_all [DELAY] [noreply]`.
 pub(crate) fn read_flush_all(rules: Rules, mut walk: WordWalk<'_>) -> Result<Command, Refusal>
     ensures { result ≡ spec.flush_words rules (words_left walk.entry) }
 {
@@ -152,7 +153,7 @@ pub(crate) fn read_flush_all(rules: Rules, mut walk: WordWalk<'_>) -> Result<Com
     Ok(Command::FlushAll { delay, noreply })
 }
 
-/// `verbosity`: U [noreply]
+/// Parses `verbosity LEVEL [noreply]`.
 pub(crate) fn read_verbosity(rules: Rules, mut walk: WordWalk<'_>) -> Result<Command, Refusal>
     ensures { result ≡ spec.verbosity_words rules (words_left walk.entry) }
 {
@@ -164,7 +165,7 @@ pub(crate) fn read_verbosity(rules: Rules, mut walk: WordWalk<'_>) -> Result<Com
     Ok(Command::Verbosity { noreply })
 }
 
-/// `stats`: [WHAT ..], by memcached's rules. By its own the server has no such command.
+/// Parses `stats [WHAT..]`. The native rules don't have this command.
 pub(crate) fn read_stats(rules: Rules, mut walk: WordWalk<'_>) -> Result<Command, Refusal>
     ensures { result ≡ spec.stats_words rules (words_left walk.entry) }
 {
@@ -180,7 +181,7 @@ pub(crate) fn read_stats(rules: Rules, mut walk: WordWalk<'_>) -> Result<Command
     }
 }
 
-/// What `stats` asks for by each word behind it.
+/// The sections of `stats` that can be requested.
 const REQUESTS: [(&[u8], StatsRequest); 6] = [
     (b"reset", StatsRequest::Reset),
     (b"settings", StatsRequest::Empty),

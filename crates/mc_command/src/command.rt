@@ -1,4 +1,4 @@
-//! Commands as typed values: nothing of a line's words is left to be read again.
+//! Parsed commands, with typed fields.
 ghost use Rattle.std.specs.Prelude.{◌≡◌};
 
 use crate::block::Block;
@@ -8,7 +8,7 @@ use crate::refusal::Refusal;
 use crate::rules::Profile;
 use mc_wire::Key;
 
-/// What a client asked.
+/// A command of a client.
 #[derive(Drop)]
 pub enum Command {
     /// `set`, `add`, `replace`, `append`, `prepend`, `cas`.
@@ -20,33 +20,33 @@ pub enum Command {
         key: Key,
         noreply: bool,
     },
-    /// `incr KEY U`, `decr KEY U`.
+    /// `incr KEY AMOUNT`, `decr KEY AMOUNT`.
     Count {
         key: Key,
         direction: Direction,
         amount: u64,
         noreply: bool,
     },
-    /// `touch KEY E`.
+    /// `touch KEY EXPTIME`.
     Touch {
         key: Key,
         exptime: i64,
         noreply: bool,
     },
-    /// `flush_all [E]`; no delay is a delay of 0.
+    /// `flush_all [DELAY]`; the default delay is 0.
     FlushAll {
         delay: i64,
         noreply: bool,
     },
-    /// `version`, whose text is that of the profile.
+    /// `version`, answered with the profile's version.
     Version(Profile),
-    /// `verbosity U`, which changes nothing.
+    /// `verbosity LEVEL`, which has no effect.
     Verbosity {
         noreply: bool,
     },
-    /// `stats [WHAT]`, by memcached's rules.
+    /// `stats [WHAT]`, under memcached's rules.
     Stats(StatsRequest),
-    /// `quit`: nothing is read after it.
+    /// `quit`, which closes the stream.
     Quit,
     /// `mn`.
     MetaNoop,
@@ -58,9 +58,10 @@ pub enum Command {
     MetaDelete(MetaDelete),
     /// `ma`.
     MetaArithmetic(MetaArithmetic),
-    /// A line, or its block, that is no command.
+    /// A refused line, or a refused data block.
     Refused(Refusal),
-    /// A line whose value is too large, by memcached's rules: the item under the key goes, and the line is refused.
+    /// A line whose value is too large, under memcached's rules: the item under the key is deleted,
+    /// and the line is refused.
     Discard {
         key: Key,
         refusal: Refusal,
@@ -70,8 +71,8 @@ pub enum Command {
 impl Command {
     ghost use Rattle.mc_command.specs.Command.{with_block};
 
-    /// The command with this data block in place of its own, which is let go. A command that carries
-    /// no block stays as it is (protocol.txt, "Storage commands").
+    /// The command with this data block, which replaces its own; that is dropped. A command without
+    /// a block is returned unchanged (protocol.txt, "Storage commands").
     pub fn with_block(self, block: Block) -> Command
         ensures { result ≡ with_block self block }
     {
@@ -92,29 +93,29 @@ impl Command {
 /// A classic storage command with its data block (protocol.txt, "Storage commands").
 #[derive(Drop)]
 pub struct Storage {
-    /// What its shard is asked.
+    /// The request to the shard.
     pub asked: StoreRequest<Block>,
     pub noreply: bool,
-    /// A joined value that is too large counts as not stored, and that is no error: `append` and `prepend` by memcached's
-    /// rules.
+    /// A joined value that is too large counts as not stored, which is no error: `append` and
+    /// `prepend` under memcached's rules.
     pub lenient: bool,
 }
 
-/// What a storage command asks of an item, a classic one or `ms`. A line gives it a data block, and a shard takes it with a
-/// value that can be shared.
+/// A request to store an item, by a classic command or by `ms`. A parsed line has a data block in
+/// it, a shard gets it with a value that can be shared.
 #[derive(Drop)]
 pub struct StoreRequest<V> {
-    /// The key of the item, as it is stored: what base64 spelled is decoded.
+    /// The item's key, decoded if it was sent in base64.
     pub key: Key,
-    /// Whether an item has to be there already, and where the value goes: the command's name, or the flag `M`.
+    /// How the value is stored: the command's name, or the flag `M`.
     pub mode: StoreMode,
-    /// `cas`, and the flag `C`: the unique that the item must have.
+    /// `cas`, or the flag `C`: the unique that the item must have.
     pub compare: Option<u64>,
-    /// The flag `E`: the unique that the item is given; without it the shard gives its next one.
+    /// The flag `E`: the item's new unique. By default the shard assigns its next one.
     pub unique: Option<u64>,
-    /// The client flags, 0 where none are given.
+    /// The client flags; 0 by default.
     pub flags: u32,
-    /// The exptime, 0 where none is given.
+    /// The exptime; 0 by default.
     pub exptime: i64,
     /// The bytes of the data block, without its line end.
     pub value: V,
@@ -123,7 +124,7 @@ pub struct StoreRequest<V> {
 impl<V: Drop> StoreRequest<V> {
     ghost use Rattle.mc_command.specs.Command.{with_value};
 
-    /// The same with this value in place of its own, which is let go.
+    /// The request with this value, which replaces its own; that is dropped.
     pub fn with_value(self, value: V) -> StoreRequest<V>
         ensures { result ≡ with_value self value }
     {
@@ -131,7 +132,8 @@ impl<V: Drop> StoreRequest<V> {
     }
 }
 
-/// What a storage command does with the value that is there: the name of a classic one, the flag `M` of `ms`.
+/// How a storage command treats the existing item: the name of a classic command, or the flag `M`
+/// of `ms`.
 #[derive(Clone, Copy, Debug, PartialEq, Eq)]
 pub enum StoreMode {
     /// `set` and `cas`, and `S`.
@@ -150,28 +152,29 @@ pub enum StoreMode {
 #[derive(Drop)]
 pub struct Retrieval {
     pub keys: Keys,
-    /// The exptime that `gat` and `gats` give to what they find.
+    /// The exptime that `gat` and `gats` set on the items found.
     pub touch: Option<i64>,
-    /// Whether uniques are shown, as by `gets` and `gats`.
+    /// Whether uniques are returned, as for `gets` and `gats`.
     pub with_unique: bool,
 }
 
-/// What `stats` asks for (protocol.txt, "Statistics").
+/// A section of `stats` (protocol.txt, "Statistics").
 #[derive(Clone, Copy)]
 pub enum StatsRequest {
-    /// `stats`: the counts of all shards together.
+    /// `stats`: the statistics summed over all shards.
     General,
-    /// `stats reset`: what was counted is counted from 0 again.
+    /// `stats reset`: sets the counters to 0.
     Reset,
-    /// `stats settings`, `items`, `slabs`, `sizes` and `conns`, of which this server has none to show.
+    /// `stats settings`, `items`, `slabs`, `sizes` and `conns`: this server has nothing to show
+    /// there.
     Empty,
 }
 
-/// Whether a number grows or falls.
+/// Whether a number is incremented or decremented.
 #[derive(Clone, Copy, Debug, PartialEq, Eq)]
 pub enum Direction {
-    /// It grows, modulo 2^64.
+    /// Increment, modulo 2^64.
     Increment,
-    /// It falls, not below 0.
+    /// Decrement, but not below 0.
     Decrement,
 }

@@ -1,4 +1,4 @@
-//! The words of a line as its fields: each is a value or a refusal.
+//! Parsing of a line's fields: each is a value or a refusal.
 ghost use Rattle.std.specs.Prelude.{◌≡◌, ◌^◌, true};
 ghost use Rattle.std.specs.Option.{option_copied};
 ghost use Rattle.mc_command.specs.Field.{Reads, exptime_of, key_of, last_word_of, noreply_of, signed_of, unsigned_of};
@@ -9,7 +9,7 @@ use crate::rules::Rules;
 use mc_wire::{Key, number_i64, number_u64};
 use std::alloc::Global;
 
-/// Reads a key word.
+/// Parses a key.
 #[tactic(auto, unfolding(crate::specs::Field::is_key))]
 pub(crate) fn read_key(alloc: Global, word: &[u8]) -> Result<Key, Refusal>
     ensures { Reads (key_of word.now) result }
@@ -18,7 +18,7 @@ pub(crate) fn read_key(alloc: Global, word: &[u8]) -> Result<Key, Refusal>
     Ok(key)
 }
 
-/// Reads an unsigned number of 64 bits.
+/// Parses an unsigned number of 64 bits.
 pub(crate) fn read_u64(word: &[u8]) -> Result<u64, Refusal>
     ensures { result ≡ unsigned_of (2 ^ 64) word.now }
 {
@@ -26,7 +26,7 @@ pub(crate) fn read_u64(word: &[u8]) -> Result<u64, Refusal>
     Ok(number)
 }
 
-/// Reads an unsigned number of 32 bits.
+/// Parses an unsigned number of 32 bits.
 #[tactic(auto, using(crate::proofs::Fields::narrows))]
 pub fn read_u32(word: &[u8]) -> Result<u32, Refusal>
     ensures { result ≡ unsigned_of (2 ^ 32) word.now }
@@ -38,7 +38,7 @@ pub fn read_u32(word: &[u8]) -> Result<u32, Refusal>
     Ok(number as u32)
 }
 
-/// Reads a signed number of 64 bits.
+/// Parses a signed number of 64 bits.
 pub(crate) fn read_i64(word: &[u8]) -> Result<i64, Refusal>
     ensures { result ≡ signed_of word.now }
 {
@@ -46,7 +46,7 @@ pub(crate) fn read_i64(word: &[u8]) -> Result<i64, Refusal>
     Ok(number)
 }
 
-/// Reads an exptime, a signed number of 64 bits of which memcached keeps 32.
+/// Parses an exptime: a signed number of 64 bits, of which memcached keeps the low 32.
 pub fn read_exptime(rules: Rules, word: &[u8]) -> Result<i64, Refusal>
     ensures { result ≡ exptime_of rules word.now }
 {
@@ -54,7 +54,7 @@ pub fn read_exptime(rules: Rules, word: &[u8]) -> Result<i64, Refusal>
     Ok(rules.exptime(number))
 }
 
-/// Reads the word behind the fields: it is `noreply`, or there is none.
+/// Parses the word after the fields: whether it is `noreply`. Any other word is refused.
 pub(crate) fn read_noreply(word: Option<&[u8]>) -> Result<bool, Refusal>
     ensures { result ≡ noreply_of (option_copied word.entry) }
 {
@@ -65,7 +65,8 @@ pub(crate) fn read_noreply(word: Option<&[u8]>) -> Result<bool, Refusal>
     }
 }
 
-/// Whether the word behind the fields is `noreply`; memcached ignores any other word there.
+/// Whether the word after the fields is `noreply`. Under memcached's rules other words are ignored;
+/// natively they are refused.
 pub fn read_last_word(rules: Rules, word: Option<&[u8]>) -> Result<bool, Refusal>
     ensures { result ≡ last_word_of rules (option_copied word.entry) }
 {

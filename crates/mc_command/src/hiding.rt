@@ -1,4 +1,4 @@
-//! Which faults are hidden (protocol.txt, "Commands": "noreply" instructs the server to not send the reply).
+//! Errors that are hidden because of `noreply` (protocol.txt, "Commands").
 ghost use Rattle.std.specs.Prelude.{◌≡◌};
 ghost use Rattle.mc_wire.specs.Words.{words_left, words_of};
 ghost use Rattle.mc_command.specs.Field.{is_noreply};
@@ -10,8 +10,8 @@ use crate::refusal::Refusal;
 use crate::rules::Rules;
 use mc_wire::{WordWalk, words};
 
-/// Hides the refusal of a line where memcached shows none: where its name may end in `noreply`, and the text behind it
-/// does.
+/// Hides the refusal of a line if memcached does: if its command takes `noreply`, and the line ends
+/// in it.
 #[inline(always)]
 pub(crate) fn hide_fault(line: &mut Line, rules: Rules, name: CommandName, behind: &[u8])
     ensures { line.new ≡ shown_line (hides_faults rules name (words_of behind.now)) line.old }
@@ -27,14 +27,14 @@ pub(crate) fn hide_fault(line: &mut Line, rules: Rules, name: CommandName, behin
     }
 }
 
-/// Whether the faults of such a line are hidden.
+/// Whether errors of such a line are hidden.
 fn hides_faults(rules: Rules, name: CommandName, behind: &[u8]) -> bool
     ensures { result ≡ hides_faults rules name (words_of behind.now) }
 {
     takes_noreply(name) && rules.is_drop_in() && ends_in_noreply(words(behind))
 }
 
-/// A refusal, or that it is hidden.
+/// The refusal, or `Hidden`.
 fn shown_refusal(hides: bool, refusal: Refusal) -> Refusal
     ensures { result ≡ shown_refusal hides refusal }
 {
@@ -45,7 +45,7 @@ fn shown_refusal(hides: bool, refusal: Refusal) -> Refusal
     }
 }
 
-/// Whether a line of this name may end in `noreply`.
+/// Whether a command of this name takes `noreply`.
 fn takes_noreply(name: CommandName) -> bool
     ensures { result ≡ takes_noreply name }
 {
@@ -67,7 +67,7 @@ fn takes_noreply(name: CommandName) -> bool
     }
 }
 
-/// Whether the last of the words is `noreply`.
+/// Whether the last word is `noreply`.
 #[tactic(auto, using(crate::proofs::Hidings::ends_from))]
 fn ends_in_noreply(words: WordWalk<'_>) -> bool
     ensures { result ≡ ends_in_noreply (words_left words.entry) }

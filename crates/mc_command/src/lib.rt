@@ -1,4 +1,4 @@
-//! The command table: from the words of a line to the command that it is, or the refusal.
+//! The command table: parses the words of a line into a command or a refusal.
 #![tactic(auto)]
 
 mod announced;

@@ -1,4 +1,4 @@
-//! From a line to the command that it is.
+//! Parsing of a line.
 ghost use Rattle.mc_wire.specs.Words.{words_of, words_left};
 ghost use Rattle.mc_command.specs.Line.{Says};
 ghost use Rattle.mc_command.specs.Rules.{own};
@@ -23,17 +23,18 @@ use crate::storage::{read_cas, read_storage};
 use mc_wire::{Key, WordWalk, words};
 use std::alloc::Global;
 
-/// What a line is.
+/// A parsed line.
 #[derive(Drop)]
 pub enum Line {
     /// A command without a data block.
     Whole(Command),
-    /// A storage command, its block still empty, and how many bytes the block has.
+    /// A storage command with a placeholder as its block, and the block's length.
     Data(Command, u32),
-    /// No command. Nothing behind the line is skipped.
+    /// A refused line; nothing behind it is skipped.
     Refused(Refusal),
-    /// No command, and how many bytes behind the line are skipped: its block and the two that end it. Where there is a key,
-    /// the item under it is discarded: by memcached's rules a value that is too large leaves no old one behind.
+    /// A refused line, and the number of bytes to skip behind it: its block and line end. If there
+    /// is a key, its item is deleted: by memcached's rules a value that is too large leaves no old
+    /// one behind.
     Skip {
         discarded: Option<Key>,
         refusal: Refusal,
@@ -41,7 +42,7 @@ pub enum Line {
     },
 }
 
-/// Reads a line, without its end, by this server's own rules. A value has at most `limit` bytes.
+/// Parses a line without its line end, under the native rules, for values of at most `limit` bytes.
 pub fn read_line(alloc: Global, line: &[u8], limit: usize) -> Line
     ensures says { Says (line_of (own limit) (words_of line.now)) result }
     ensures told { may_take_memory (words_of line.now) ≡ false →
@@ -50,11 +51,11 @@ pub fn read_line(alloc: Global, line: &[u8], limit: usize) -> Line
     read_line_under(alloc, line, Rules::own(limit))
 }
 
-/// Reads a line, without its end, by these rules.
+/// Parses a line without its line end, under these rules.
 #[tactic(auto, unfolding(crate::specs::Table::line_of), using(crate::proofs::Hidings::says_shown))]
 pub fn read_line_under(alloc: Global, line: &[u8], rules: Rules) -> Line
     ensures says { Says (line_of rules (words_of line.now)) result }
-    // A line without keys is never given up.
+    // A line without keys is never refused for want of memory.
     ensures told { may_take_memory (words_of line.now) ≡ false →
         result ≡ line_of rules (words_of line.now) }
 {
@@ -68,7 +69,7 @@ pub fn read_line_under(alloc: Global, line: &[u8], rules: Rules) -> Line
     read
 }
 
-/// Reads the words behind a name.
+/// Parses the words behind a command's name.
 #[tactic(auto, using(crate::proofs::GivingUp::says_whole, crate::proofs::Lines::get_may, crate::proofs::Lines::gat_may, crate::proofs::Lines::delete_may, crate::proofs::Lines::count_may, crate::proofs::Lines::touch_may, crate::proofs::Lines::flush_may, crate::proofs::Told::verbosity_told, crate::proofs::Told::stats_told, crate::proofs::Told::says_told))]
 fn read_named(alloc: Global, name: CommandName, walk: WordWalk<'_>, rules: Rules) -> Line
     ensures says { Says (line_named rules name (words_left walk.entry)) result }
@@ -98,7 +99,7 @@ fn read_named(alloc: Global, name: CommandName, walk: WordWalk<'_>, rules: Rules
     }
 }
 
-/// A line that no block follows.
+/// A line without a block.
 #[inline(always)]
 pub(crate) fn whole_line(read: Result<Command, Refusal>) -> Line
     ensures { result ≡ spec.whole_line read }
@@ -109,8 +110,8 @@ pub(crate) fn whole_line(read: Result<Command, Refusal>) -> Line
     }
 }
 
-/// A line that a block follows, with the count of its bytes where that is readable: what is skipped then
-/// is the block and its line end, whatever else is wrong with the line.
+/// A line with a block of this length, if that is valid: then the block and its line end are
+/// skipped whatever else is wrong with the line.
 #[inline(always)]
 pub(crate) fn block_line(rules: Rules, count: Option<u32>, read: Result<Command, Refusal>) -> Line
     ensures { result ≡ spec.block_line rules count read }
@@ -151,7 +152,8 @@ fn too_large(rules: Rules, command: Command, count: u32) -> Line
     }
 }
 
-/// The key whose item goes where a command's value is too large: of `set`, and of `ms` in each of its modes.
+/// The key whose item is deleted if the command's value is too large: for `set`, and for `ms` in
+/// each mode.
 fn key_set(command: Command) -> Option<Key>
     ensures { result ≡ spec.key_set command }
 {
@@ -175,5 +177,5 @@ fn key_set(command: Command) -> Option<Key>
     }
 }
 
-/// Lets a command go. That is a function, since to drop a command is to look at each of its kinds.
+/// Drops a command. A function of its own, since dropping a command inspects each of its kinds.
 fn let_go(_command: Command) {}

@@ -1,4 +1,4 @@
-//! The meta commands (protocol.txt, "Meta Commands") and what their flags ask.
+//! The meta commands (protocol.txt, "Meta Commands") and their flags.
 ghost use Rattle.std.specs.Prelude.{◌≡◌, ◌<◌, ◌≤◌, [], ◌∷◌, ◌++◌, length};
 ghost use Rattle.std.specs.Option.{SomeIff};
 
@@ -9,13 +9,13 @@ use arrayvec::ArrayVec;
 use mc_wire::{Key, OPAQUE_LIMIT};
 use std::marker::Model;
 
-/// The number of flags that a reply can give back.
+/// Number of flags that a reply can return.
 pub const RETURN_FLAGS: usize = 8;
 
-/// A flag that is given back in the reply.
+/// A flag that is returned in the reply.
 #[derive(Clone, Copy, Debug, Default, PartialEq, Eq)]
 pub enum ReturnFlag {
-    /// `c`: the unique.
+    /// `c`: the cas unique.
     #[default]
     Unique,
     /// `f`: the client flags.
@@ -30,12 +30,12 @@ pub enum ReturnFlag {
     Opaque,
     /// `s`: the length of the value.
     Size,
-    /// `t`: the seconds left.
+    /// `t`: the seconds to live.
     TimeLeft,
 }
 
 /// The token of the flag `O` (protocol.txt, "Meta Commands": "opaque value, consumes a token and
-/// copies back with response"): at most `OPAQUE_LIMIT` bytes. It takes no memory of its own.
+/// copies back with response"): at most `OPAQUE_LIMIT` bytes, stored inline.
 #[derive(Drop)]
 pub struct Opaque {
     bytes: ArrayVec<u8, OPAQUE_LIMIT>,
@@ -54,7 +54,7 @@ impl Model for Opaque {
 }
 
 impl Opaque {
-    /// The token without bytes.
+    /// The empty token.
     pub fn empty() -> Opaque
         ensures { result ≡ [] }
     {
@@ -63,7 +63,7 @@ impl Opaque {
         }
     }
 
-    /// The token of these bytes, or `None` where they are more than `OPAQUE_LIMIT`.
+    /// A token with these bytes; `None` if there are more than `OPAQUE_LIMIT`.
     pub fn from_token(token: &[u8]) -> Option<Opaque>
         ensures { SomeIff result (length token.now ≤ OPAQUE_LIMIT) token.now }
     {
@@ -83,8 +83,8 @@ impl Opaque {
     }
 }
 
-/// The flags that are given back, in the order of the request: at most one of each of the `RETURN_FLAGS`.
-/// They take no memory of their own.
+/// The flags to return, in the order of the request, each of the `RETURN_FLAGS` at most once.
+/// Stored inline.
 #[derive(Drop)]
 pub struct Returned {
     flags: ArrayVec<ReturnFlag, RETURN_FLAGS>,
@@ -104,7 +104,7 @@ impl Model for Returned {
 }
 
 impl Returned {
-    /// No flag.
+    /// No flags.
     pub fn new() -> Returned
         ensures { result ≡ [] }
     {
@@ -113,7 +113,7 @@ impl Returned {
         }
     }
 
-    /// Adds a flag behind the others.
+    /// Appends a flag.
     pub fn push(&mut self, flag: ReturnFlag)
         requires { length self.old < RETURN_FLAGS }
         ensures { self.new ≡ self.old ++ flag ∷ [] }
@@ -130,7 +130,7 @@ impl Returned {
     }
 }
 
-/// A meta command that takes a key.
+/// A meta command with a key.
 #[derive(Clone, Copy)]
 pub enum MetaKind {
     /// `mg`.
@@ -146,14 +146,14 @@ pub enum MetaKind {
 impl MetaKind {
     ghost use Rattle.mc_command.specs.Meta.{is_among, letters_by};
 
-    /// Whether the command has a flag of this letter, by these rules.
+    /// Whether the command has a flag of this letter under these rules.
     pub(crate) fn has_flag(self, rules: Rules, letter: u8) -> bool
         ensures { result ≡ is_among (letters_by rules.profile self) letter }
     {
         self.letters(rules).contains(&letter)
     }
 
-    /// The letters of its flags, by these rules.
+    /// The letters of its flags under these rules.
     fn letters(self, rules: Rules) -> &'static [u8]
         ensures { result.now ≡ letters_by rules.profile self }
     {
@@ -170,49 +170,49 @@ impl MetaKind {
     }
 }
 
-/// What every meta command's flags may ask of its reply.
+/// Flags of all meta commands that affect the reply.
 #[derive(Drop)]
 pub struct MetaFlags {
-    /// `b`: the key word is base64, and is shown so.
+    /// `b`: the key is in base64, and is returned so.
     pub base64: bool,
-    /// `q`: replies that say nothing new are hidden.
+    /// `q`: uninteresting replies are hidden.
     pub quiet: bool,
-    /// Whose rules the reply follows.
+    /// The profile whose rules the reply follows.
     pub profile: Profile,
-    /// The flags to be given back, in the order of the request.
+    /// The flags to return, in the order of the request.
     pub returned: Returned,
-    /// The token of `O`; empty where there is none.
+    /// The token of `O`; empty by default.
     pub opaque: Opaque,
 }
 
 /// `mg`.
 #[derive(Drop)]
 pub struct MetaGet {
-    /// What its shard is asked.
+    /// The request to the shard.
     pub asked: MetaFetch,
     pub flags: MetaFlags,
-    /// `v`: the value is shown.
+    /// `v`: return the value.
     pub value: bool,
 }
 
-/// What `mg` asks of an item.
+/// The request of `mg` to the shard.
 #[derive(Drop)]
 pub struct MetaFetch {
     pub key: Key,
-    /// `T`: the exptime that a hit is given.
+    /// `T`: the new exptime on a hit.
     pub touch: Option<i64>,
-    /// `N`: a miss makes an empty item with this exptime.
+    /// `N`: on a miss, create an empty item with this exptime.
     pub vivify: Option<i64>,
-    /// `R`: who finds fewer seconds left than these is told to recompute.
+    /// `R`: if fewer seconds are left, the client is asked to recache.
     pub recache: Option<i64>,
-    /// `u`, by memcached's rules: that a hit was read isn't noted.
+    /// `u`, under memcached's rules: don't record the fetch.
     pub unnoted: bool,
 }
 
 /// `ms`, with its data block.
 #[derive(Drop)]
 pub struct MetaSet {
-    /// What its shard is asked.
+    /// The request to the shard.
     pub asked: StoreRequest<Block>,
     pub flags: MetaFlags,
 }
@@ -220,56 +220,56 @@ pub struct MetaSet {
 /// `md`.
 #[derive(Drop)]
 pub struct MetaDelete {
-    /// What its shard is asked.
+    /// The request to the shard.
     pub asked: MetaRemoval,
     pub flags: MetaFlags,
 }
 
-/// What `md` asks of an item.
+/// The request of `md` to the shard.
 #[derive(Drop)]
 pub struct MetaRemoval {
     pub key: Key,
     /// `C`: the unique that the item must have.
     pub compare: Option<u64>,
-    /// `E`: the unique that an item marked stale is given; without it the shard gives its next one.
+    /// `E`: the new unique of an item marked stale. By default the shard assigns its next one.
     pub unique: Option<u64>,
-    /// `I`: the item is marked stale in place of going.
+    /// `I`: mark the item stale instead of deleting it.
     pub invalidate: bool,
-    /// `T`: the exptime that an item marked stale is given.
+    /// `T`: the new exptime of an item marked stale.
     pub exptime: Option<i64>,
 }
 
 /// `ma`.
 #[derive(Drop)]
 pub struct MetaArithmetic {
-    /// What its shard is asked.
+    /// The request to the shard.
     pub asked: MetaCount,
     pub flags: MetaFlags,
-    /// `v`: the number is shown.
+    /// `v`: return the number.
     pub value: bool,
 }
 
-/// What `ma` asks of an item.
+/// The request of `ma` to the shard.
 #[derive(Drop)]
 pub struct MetaCount {
     pub key: Key,
     /// `C`: the unique that the item must have.
     pub compare: Option<u64>,
-    /// `E`: the unique that the item is given; without it the shard gives its next one.
+    /// `E`: the item's new unique. By default the shard assigns its next one.
     pub unique: Option<u64>,
     pub direction: Direction,
-    /// `D`: the amount, 1 where none is given.
+    /// `D`: the amount; 1 by default.
     pub amount: u64,
-    /// `T`: the exptime that a present item is given.
+    /// `T`: the new exptime of an existing item.
     pub exptime: Option<i64>,
-    /// `N` and `J`: the item that a miss makes.
+    /// `N` and `J`: the item to create on a miss.
     pub vivify: Option<Vivify>,
 }
 
-/// The item that `ma` makes of a miss, by its flags `N` and `J`.
+/// The item that `ma` creates on a miss, by its flags `N` and `J`.
 #[derive(Clone, Copy)]
 pub struct Vivify {
     pub exptime: i64,
-    /// The number of the item, 0 where none is given.
+    /// The initial number; 0 by default.
     pub initial: u64,
 }

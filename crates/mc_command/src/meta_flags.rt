@@ -1,4 +1,5 @@
-//! The flags of a meta line (protocol.txt, "Meta Commands"): each is one letter, with its token joined to it.
+//! Parsing of meta flags (protocol.txt, "Meta Commands"): each is one letter, directly followed by
+//! its token.
 ghost use Rattle.std.specs.Prelude.{◌≡◌, [], OnOk, IfErr};
 ghost use Rattle.mc_wire.specs.Words.{words_left};
 ghost use Rattle.mc_command.specs.Meta.{flags_refusal, unless};
@@ -14,7 +15,7 @@ use crate::refusal::Refusal;
 use crate::rules::{Profile, Rules};
 use mc_wire::WordWalk;
 
-/// What the flags of a line ask; nothing where a flag is not there.
+/// The flags of a line.
 #[derive(Drop)]
 pub(crate) struct FlagsRead {
     pub(crate) flags: MetaFlags,
@@ -46,7 +47,7 @@ pub(crate) struct FlagsRead {
     pub(crate) direction: Option<Direction>,
 }
 
-/// One flag, with its token as a value.
+/// A parsed flag, with its token's value.
 #[derive(Drop)]
 enum Flag {
     /// `b`.
@@ -81,12 +82,12 @@ enum Flag {
     Initial(u64),
     /// `F`.
     ClientFlags(u32),
-    /// A flag that only asks to be given back.
+    /// A flag that only asks to be returned.
     Bare,
 }
 
-/// Reads the flags of a line, its words behind the key and the count. The first flag that is refused
-/// decides.
+/// Parses the flags of a line: the words behind the key and the length. The first invalid flag
+/// determines the refusal.
 pub(crate) fn read_flags(
     rules: Rules,
     name: MetaKind,
@@ -103,10 +104,10 @@ pub(crate) fn read_flags(
     Ok(reader.asked)
 }
 
-/// The flags read so far.
+/// The parser's state.
 #[derive(Drop)]
 struct FlagReader {
-    /// For each byte, whether it was the letter of a flag.
+    /// For each byte, whether a flag of this letter was parsed.
     seen: [bool; 256],
     asked: FlagsRead,
 }
@@ -122,7 +123,7 @@ impl FlagReader {
         }
     }
 
-    /// Reads one flag more. Where it is refused nothing is changed.
+    /// Parses one more flag. If it is refused, nothing changes.
     fn read(&mut self, rules: Rules, name: MetaKind, word: &[u8]) -> Result<(), Refusal>
         requires { CountsFlags self.old }
         ensures counted { OnOk result (CountsFlags self.new) }
@@ -151,7 +152,7 @@ impl FlagReader {
 }
 
 impl FlagsRead {
-    /// What no flags ask, where the reply follows the rules of this profile.
+    /// The state without flags, for a reply under this profile's rules.
     fn nothing(profile: Profile) -> FlagsRead
         ensures { result ≡ nothing_asked profile }
     {
@@ -179,7 +180,7 @@ impl FlagsRead {
         }
     }
 
-    /// Adds what a flag says beside that it is given back.
+    /// Records what a flag means besides being returned.
     fn add(&mut self, flag: Flag)
         ensures { self.new ≡ with_flag self.old flag }
     {
@@ -205,7 +206,7 @@ impl FlagsRead {
     }
 }
 
-/// What a flag says, by its letter.
+/// Parses a flag's token, by its letter.
 fn flag_of(name: MetaKind, letter: u8, token: &[u8]) -> Result<Flag, Refusal>
     ensures { result ≡ spec.flag_of name letter token.now }
 {
@@ -254,7 +255,7 @@ fn mode_flag(name: MetaKind, token: &[u8]) -> Result<Flag, Refusal>
     }
 }
 
-/// The mode of `ms`, in either case.
+/// Parses the mode of `ms`, in either case.
 fn mode_of(token: &[u8]) -> Option<StoreMode>
     ensures { result ≡ table.mode_of token.now }
 {
@@ -268,7 +269,7 @@ fn mode_of(token: &[u8]) -> Option<StoreMode>
     }
 }
 
-/// The mode of `ma`.
+/// Parses the mode of `ma`.
 fn direction_of(token: &[u8]) -> Option<Direction>
     ensures { result ≡ table.direction_of token.now }
 {
@@ -279,7 +280,7 @@ fn direction_of(token: &[u8]) -> Option<Direction>
     }
 }
 
-/// The flag that is given back for a letter, if one is.
+/// The flag to return for a letter, if there is one.
 fn return_flag(letter: u8) -> Option<ReturnFlag>
     ensures { result ≡ table.return_flag letter }
 {

@@ -1,4 +1,4 @@
-//! From the words behind the name of a meta command to the line that they are (protocol.txt, "Meta Commands").
+//! Parsing of meta commands from the words behind the name (protocol.txt, "Meta Commands").
 ghost use Rattle.std.specs.Prelude.{◌≡◌};
 ghost use Rattle.mc_wire.specs.Words.{words_left};
 ghost use Rattle.mc_command.specs.Line.{Says};
@@ -21,7 +21,7 @@ use crate::rules::Rules;
 use mc_wire::{Key, WordWalk};
 use std::alloc::Global;
 
-/// Reads a meta line by its words behind the name.
+/// Parses a meta command from the words behind its name.
 #[tactic(auto, unfolding(crate::specs::Meta::meta_line_of))]
 pub(crate) fn read_meta(alloc: Global, name: MetaKind, walk: WordWalk<'_>, rules: Rules) -> Line
     ensures { Says (meta_line_of rules name (words_left walk.entry)) result }
@@ -62,7 +62,7 @@ fn read_with_block(alloc: Global, mut walk: WordWalk<'_>, rules: Rules) -> Line
     )
 }
 
-/// Reads what a key word and the flags behind it ask.
+/// Parses the key and the flags behind it.
 fn read_command(
     alloc: Global,
     rules: Rules,
@@ -77,7 +77,7 @@ fn read_command(
     asked.into_command(alloc, rules, name, key)
 }
 
-/// Reads what `mg` asks by its key word and the words of its flags. The refusals are those of a line of `mg`.
+/// Parses `mg` from its key word and the words of its flags, with the refusals of a whole line.
 pub fn read_meta_get(
     alloc: Global,
     rules: Rules,
@@ -92,8 +92,8 @@ pub fn read_meta_get(
     Ok(asked.into_get(rules, key))
 }
 
-/// Reads what `ms` asks by its key word and the words of its flags, its block still empty. The refusals are those of a
-/// line of `ms`, but for those of the block.
+/// Parses `ms` from its key word and the words of its flags, with a placeholder as its block. The
+/// refusals are those of a whole line, except for those of its block.
 pub fn read_meta_set(
     alloc: Global,
     rules: Rules,
@@ -108,7 +108,7 @@ pub fn read_meta_set(
     asked.into_checked_set(alloc, rules, key)
 }
 
-/// Reads a key word, which may be base64.
+/// Parses a key, which may be in base64.
 fn read_meta_key(alloc: Global, base64: bool, word: &[u8]) -> Result<Key, Refusal>
     ensures { Reads (meta_key_of base64 word.now) result }
 {
@@ -119,7 +119,7 @@ fn read_meta_key(alloc: Global, base64: bool, word: &[u8]) -> Result<Key, Refusa
     }
 }
 
-/// Reads a key word in base64.
+/// Parses a key in base64.
 #[tactic(auto, unfolding(crate::specs::Meta::decoded_key))]
 fn read_base64_key(alloc: Global, word: &[u8]) -> Result<Key, Refusal>
     ensures { Reads (decoded_key word.now) result }
@@ -129,7 +129,7 @@ fn read_base64_key(alloc: Global, word: &[u8]) -> Result<Key, Refusal>
 }
 
 impl FlagsRead {
-    /// The command of this name and key, with the defaults of flags that are not there.
+    /// Builds the command of this name and key, with defaults for missing flags.
     fn into_command(
         self,
         alloc: Global,
@@ -147,7 +147,7 @@ impl FlagsRead {
         }
     }
 
-    /// What `ms` asks; by this server's own rules it compares in its mode `S` alone.
+    /// Builds `ms`. Under the native rules, `C` is refused in modes other than `S`.
     fn into_checked_set(self, alloc: Global, rules: Rules, key: Key) -> Result<MetaSet, Refusal>
         ensures { as_meta_set result ≡ command_by rules MetaKind.Set key self }
     {

@@ -1,4 +1,4 @@
-//! The names of the commands.
+//! Command names.
 ghost use Rattle.std.specs.Prelude.{◌≡◌};
 ghost use Rattle.mc_command.specs.Name.{name_of};
 
@@ -6,7 +6,7 @@ use crate::command::{Direction, StoreMode};
 use crate::meta::MetaKind;
 use crate::table::find_word;
 
-/// The command that a line's first word names.
+/// The command that the first word of a line names.
 #[derive(Clone, Copy)]
 pub(crate) enum CommandName {
     /// `set`, `add`, `replace`, `append` and `prepend`.
@@ -67,7 +67,7 @@ const NAMES: [(&[u8], CommandName); 24] = [
     (b"stats", CommandName::Stats),
 ];
 
-/// The command of that name.
+/// Looks up a command name.
 #[tactic(auto, unfolding(crate::specs::Name::name_of))]
 pub(crate) fn read_name(word: &[u8]) -> Option<CommandName>
     ensures { result ≡ name_of word.now }

@@ -1,36 +1,36 @@
-//! Why a line is no command, or a command is not done.
+//! Why a line or its command is refused.
 ghost use Rattle.std.specs.Prelude.{◌≡◌};
 ghost use Rattle.mc_command.specs.declared.refusal.Refusal.TheVariants.{Memory};
 
 use mc_wire::WireFault;
 use std::alloc::AllocError;
 
-/// A refusal by the reader. It takes its turn among the replies like any command, and is shown unless it is hidden.
+/// A refusal by the parser. It is answered in order, like any command, unless it is hidden.
 #[derive(Clone, Copy, Debug, PartialEq, Eq)]
 pub enum Refusal {
-    /// The name of the command is unknown, or there is none.
+    /// The command name is unknown or missing.
     Unknown,
-    /// The words are too few or too many, or one of them is no number of its field.
+    /// Too few or too many words, or an invalid number.
     BadFormat,
-    /// A key is too long or has a byte that keys don't have.
+    /// A key is too long or has an invalid byte.
     BadKey,
-    /// A meta command has no such flag.
+    /// The meta command has no such flag.
     InvalidFlag,
-    /// A flag stands twice.
+    /// A flag occurs twice.
     DuplicateFlag,
     /// The token of the flag `O` is longer than 32 bytes.
     OpaqueTooLong,
-    /// The announced value is longer than values may be.
+    /// The length of the value is above the value limit.
     TooLarge,
-    /// The data block isn't followed by its line end.
+    /// The data block isn't followed by CR LF.
     BadChunk,
-    /// A line has no end within as many bytes as one may have. Nothing is read after it.
+    /// The line is longer than the line limit. The stream is closed.
     LineTooLong,
-    /// A command was given up because memory ran out.
+    /// Memory was refused.
     Memory,
-    /// The words are too few or too many, which by memcached's rules is no command.
+    /// Too few or too many words, which memcached treats as an unknown command.
     WordCount,
-    /// A fault that isn't shown, since its line ends in `noreply` and memcached's rules hold.
+    /// An error that isn't reported, since the line ends in `noreply` and memcached's rules apply.
     Hidden,
 }
 
@@ -39,7 +39,7 @@ impl From<WireFault> for Refusal {
 
     ghost from_gives = { λ fault refusal. refusal ≡ refusal_for fault };
 
-    /// The refusal of a line that has a word with this fault.
+    /// The refusal of a line with this error in a word.
     fn from(fault: WireFault) -> Refusal {
         match fault {
             WireFault::NoKey | WireFault::KeyTooLong | WireFault::KeyByte | WireFault::NotBase64 =>
@@ -53,7 +53,7 @@ impl From<WireFault> for Refusal {
 impl From<AllocError> for Refusal {
     ghost from_gives = { λ _ refusal. refusal ≡ Memory };
 
-    /// The refusal of a command that is given up.
+    /// The refusal of a command for which memory was refused.
     fn from(_error: AllocError) -> Refusal {
         Refusal::Memory
     }

@@ -1,4 +1,4 @@
-//! Whose rules hold where this server and memcached 1.6 differ, and how large values and lines may be.
+//! The rules in which this server and memcached 1.6 differ, and the limits of values and lines.
 ghost use Rattle.std.specs.Prelude.{◌≡◌, ◌≤◌, ◌^◌};
 ghost use Rattle.std.specs.Int.{int_wrap, w32};
 
@@ -6,23 +6,23 @@ use crate::command::StoreMode;
 use crate::refusal::Refusal;
 use mc_wire::DEFAULT_LINE_LIMIT;
 
-/// Whose rules a server follows where the two differ (docs/PROTOCOL.md).
+/// The protocol profile: whose rules apply where the two differ (docs/PROTOCOL.md).
 #[derive(Clone, Copy, PartialEq, Eq)]
 pub enum Profile {
-    /// This server's own.
+    /// The native rules.
     Own,
-    /// Those of memcached 1.6, under which applications that were written for it run unchanged.
+    /// memcached 1.6's rules (`--drop-in`), for applications that were written for it.
     DropIn,
 }
 
-/// The rules by which lines are read. Each rule that differs is one function of them.
+/// The parser's rules. Each difference is one method.
 #[derive(Clone, Copy)]
 pub struct Rules {
-    /// Whose rules they are.
+    /// The protocol profile.
     pub profile: Profile,
-    /// The most bytes that a value has.
+    /// Value limit in bytes.
     pub value_limit: usize,
-    /// The most bytes that a line has, its line feed among them.
+    /// Line limit in bytes, line feed included.
     pub line_limit: usize,
 }
 
@@ -34,7 +34,7 @@ impl Rules {
     ghost use Rattle.mc_command.specs.internal.FlagsAsked.{exptime_in};
     ghost use Rattle.mc_command.specs.Rules.{is_drop_in, own};
 
-    /// This server's own rules, for values of at most `value_limit` bytes and lines of the default limit.
+    /// The native rules, with this value limit and the default line limit.
     pub fn own(value_limit: usize) -> Rules
         ensures { result ≡ own value_limit }
     {
@@ -45,14 +45,14 @@ impl Rules {
         }
     }
 
-    /// Whether these are memcached's rules.
+    /// Whether memcached's rules apply.
     pub fn is_drop_in(self) -> bool
         ensures { result ≡ is_drop_in self }
     {
         matches!(self.profile, Profile::DropIn)
     }
 
-    /// The exptime that a number gives: memcached keeps its lower 32 bits, as a signed number.
+    /// The exptime of a parsed number. memcached keeps its low 32 bits, as a signed number.
     pub fn exptime(self, number: i64) -> i64
         ensures { result ≡ exptime_by self number }
     {
@@ -62,7 +62,7 @@ impl Rules {
         }
     }
 
-    /// The exptime that a token gives, where there is one.
+    /// The exptime of an optional token.
     pub(crate) fn exptime_in(self, token: Option<i64>) -> Option<i64>
         ensures { result ≡ exptime_in self token }
     {
@@ -72,7 +72,7 @@ impl Rules {
         }
     }
 
-    /// What refuses a line whose words are too few or too many.
+    /// The refusal of a line with too few or too many words.
     #[tactic(auto, unfolding(crate::specs::Field::word_count_refusal))]
     pub(crate) fn word_count_refusal(self) -> Refusal
         ensures { result ≡ word_count_refusal self }
@@ -83,7 +83,7 @@ impl Rules {
         }
     }
 
-    /// The count of a block's bytes is less than this: memcached adds 2 to it in 31 bits.
+    /// Upper bound (exclusive) of a block's length. memcached adds 2 to it in 31 bits.
     pub(crate) fn count_bound(self) -> u64
         ensures bound { result ≡ count_bound self }
         ensures small { result ≤ 2 ^ 32 }
@@ -94,8 +94,8 @@ impl Rules {
         }
     }
 
-    /// The unique that `ms` compares in a mode: by memcached's rules none in mode `E`, and 0 is none in the modes `A`
-    /// and `P`. `ma` compares as mode `A` does.
+    /// The unique to compare for `ms` in a mode. Under memcached's rules none is compared in mode
+    /// `E`, and 0 means none in modes `A` and `P`. `ma` compares as mode `A` does.
     pub(crate) fn compared(self, mode: StoreMode, unique: Option<u64>) -> Option<u64>
         ensures { result ≡ compare_by self mode unique }
     {
@@ -108,7 +108,7 @@ impl Rules {
         }
     }
 
-    /// Whether a value that `append` or `prepend` joins counts as not stored where it is too large.
+    /// Whether a value joined by `append` or `prepend` counts as not stored if it is too large.
     pub(crate) fn is_lenient(self, mode: StoreMode) -> bool
         ensures { result ≡ is_lenient self mode }
     {
@@ -116,7 +116,7 @@ impl Rules {
     }
 }
 
-/// What is left of a number in 32 bits, as a signed number.
+/// The low 32 bits of a number, as a signed number.
 fn low_half(number: i64) -> i64
     ensures { result ≡ int_wrap w32 number }
 {

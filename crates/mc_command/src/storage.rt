@@ -1,4 +1,4 @@
-//! The classic storage lines, each with the count of the block behind it.
+//! Classic storage commands, with the length of the block behind the line.
 ghost use Rattle.std.specs.Prelude.{◌≡◌};
 ghost use Rattle.std.specs.Option.{option_copied};
 ghost use Rattle.mc_wire.specs.Words.{words_left};
@@ -17,7 +17,7 @@ use crate::rules::Rules;
 use mc_wire::WordWalk;
 use std::alloc::Global;
 
-/// `set`, `add`, `replace`, `append` and `prepend`: KEY flags E N [noreply]
+/// Parses `set`, `add`, `replace`, `append` and `prepend`: `KEY FLAGS EXPTIME LEN [noreply]`.
 pub(crate) fn read_storage(
     alloc: Global,
     mode: StoreMode,
@@ -41,7 +41,7 @@ pub(crate) fn read_storage(
     }
 }
 
-/// `cas`: KEY flags E N U [noreply]
+/// Parses `cas KEY FLAGS EXPTIME LEN UNIQUE [noreply]`.
 pub(crate) fn read_cas(alloc: Global, mut walk: WordWalk<'_>, rules: Rules) -> Line
     ensures { Says (spec.cas_line rules (words_left walk.entry)) result }
 {
@@ -69,7 +69,7 @@ pub(crate) fn read_cas(alloc: Global, mut walk: WordWalk<'_>, rules: Rules) -> L
     }
 }
 
-/// A line of too few words or too many, by the count of its block.
+/// A line with too few or too many words; its block is skipped if it has a length.
 #[tactic(auto, using(crate::proofs::Told::words_told))]
 fn miscounted(rules: Rules, block: Option<u32>) -> Line
     ensures { Says (blocks.block_line rules block (Err (word_count_refusal rules))) result }
@@ -77,7 +77,7 @@ fn miscounted(rules: Rules, block: Option<u32>) -> Line
     block_line(rules, block, Err(rules.word_count_refusal()))
 }
 
-/// A storage command, by its words. Only `cas` has a unique.
+/// Builds a storage command from its words. Only `cas` has a unique.
 fn storage(
     alloc: Global,
     rules: Rules,
@@ -112,7 +112,7 @@ fn storage(
     }))
 }
 
-/// The unique that `cas` compares, by its word.
+/// Parses the unique of `cas`.
 fn read_compare(unique: Option<&[u8]>) -> Result<Option<u64>, Refusal>
     ensures { result ≡ spec.compare_of (option_copied unique.entry) }
 {

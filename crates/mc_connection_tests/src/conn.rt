@@ -1,5 +1,6 @@
-//! Commands come in, pieces go out, answers come in any order, and outlets fail. What no clause says: that calls succeed where
-//! memory is ample, and the texts of whole conversations.
+//! Tests of whole conversations: commands in, pieces out, answers in any order, and failing
+//! outlets. They cover what no contract states: that calls succeed with ample memory, and the
+//! texts.
 ghost use Rattle.std.specs.Prelude.{◌<◌};
 
 use crate::asserting::{equal, holds};
@@ -23,7 +24,7 @@ const CONVERSATION: &[u8] =
 
 const REPLIES: &[u8] = b"STORED\r\nEND\r\nERROR\r\nOK\r\nNOT_FOUND\r\nMN\r\n";
 
-/// A connection over two shards with this window, which was fed these bytes.
+/// A connection over two shards with this window, and this input.
 fn fed(rt: &impl Abort, alloc: Global, window: usize, bytes: &[u8]) -> Result<Conn, Fail>
     requires { 0 < window }
 {
@@ -32,27 +33,27 @@ fn fed(rt: &impl Abort, alloc: Global, window: usize, bytes: &[u8]) -> Result<Co
     Ok(conn)
 }
 
-/// Asserts that the first `count` bytes are taken in.
+/// Asserts that the first `count` bytes are taken.
 fn feeds(rt: &impl Abort, conn: &mut Conn, bytes: &[u8], count: usize) {
     equal(rt, conn.feed(bytes), count);
 }
 
-/// Asserts what comes of the next command.
+/// Asserts the result of parsing the next command.
 fn takes(rt: &impl Abort, alloc: Global, conn: &mut Conn, want: Taken) {
     equal(rt, conn.take(alloc, 1000), want);
 }
 
-/// Asserts that a reply is taken in.
+/// Asserts that a reply is accepted.
 fn accepts(rt: &impl Abort, conn: &mut Conn, reply: Reply) {
     equal(rt, stranger_of(conn.accept(reply)), None);
 }
 
-/// Asserts that the replies of `count` commands go out.
+/// Asserts that the replies of `count` commands are written.
 fn hands(rt: &impl Abort, conn: &mut Conn, out: &mut MemoryOutlet, count: u64) {
     holds(rt, conn.hand(out) == Ok(count));
 }
 
-/// Asserts whether the connection is at rest, and may so be used again.
+/// Asserts whether the connection is at rest, and can therefore be reused.
 fn renews(rt: &impl Abort, conn: &mut Conn, is_at_rest: bool) {
     equal(rt, conn.is_at_rest(), is_at_rest);
     equal(rt, conn.renew(), is_at_rest);
@@ -75,7 +76,7 @@ fn answer(rt: &impl Abort, piece: &Piece) -> Reply {
     reply(rt, piece.ticket.0, piece.part, kind, answer)
 }
 
-/// Takes commands until one isn't opened.
+/// Parses commands until none is opened.
 fn take_all(alloc: Global, conn: &mut Conn) -> Taken {
     for _ in 0..CONVERSATION.len() {
         let taken = conn.take(alloc, 1000);
@@ -96,7 +97,7 @@ fn answer_all(rt: &impl Abort, conn: &mut Conn) {
     }
 }
 
-/// Takes, answers and hands out until no more commands are whole or none comes.
+/// Parses, answers and writes until no command is complete.
 fn serve(rt: &impl Abort, alloc: Global, conn: &mut Conn, out: &mut MemoryOutlet) -> Taken {
     for _ in 0..CONVERSATION.len() {
         let taken = take_all(alloc, conn);
@@ -138,8 +139,8 @@ fn a_conversation_in_pieces_with_windows(rt: HostRuntime) -> Result<(), Fail> {
     Ok(())
 }
 
-/// The first and the last command and a silent one between them are answered in this order, by their places; a refusal
-/// stands behind the first.
+/// The first command, a silent one and the last one are answered in this order, by index; a refusal
+/// follows the first.
 fn answers_in_order(rt: &impl Abort, alloc: Global, order: [u64; 3]) -> Result<(), Fail> {
     let mut conn = fed(
         rt,
@@ -224,7 +225,7 @@ fn the_last_command_closes_a_full_window(rt: HostRuntime) -> Result<(), Fail> {
     Ok(())
 }
 
-/// No more of a line is taken than the rules allow, until it was refused.
+/// Bytes of a line are taken up to the line limit, then it is refused.
 #[test]
 fn a_line_limit_of_2048(rt: HostRuntime) -> Result<(), Fail> {
     let alloc = rt.alloc();
@@ -248,7 +249,7 @@ fn a_line_limit_of_2048(rt: HostRuntime) -> Result<(), Fail> {
     Ok(())
 }
 
-/// The outlet of a hand fails after `left` bytes.
+/// The outlet fails after `left` bytes.
 fn fails_after(rt: &impl Abort, alloc: Global, left: usize) -> Result<(), Fail> {
     let text = b"END\r\nMN\r\n".as_slice();
     let mut conn = fed(rt, alloc, 4, b"get a\r\nmn\r\n")?;
@@ -302,7 +303,7 @@ fn a_broken_connection_still_answers_its_pieces(rt: HostRuntime) -> Result<(), F
     Ok(())
 }
 
-/// Asserts that a reply is handed back as it was.
+/// Asserts that a reply is returned unchanged.
 fn is_stranger(
     rt: &impl Abort,
     conn: &mut Conn,
@@ -336,7 +337,8 @@ fn strangers_are_handed_back(rt: HostRuntime) -> Result<(), Fail> {
     Ok(())
 }
 
-/// Holds whichever single allocation is refused. Each key takes memory: those of at most 38 bytes take none.
+/// Passes whichever single allocation is refused. Keys are long enough to need an allocation: those
+/// of at most 38 bytes don't.
 #[test]
 fn a_refused_allocation_gives_up_one_command(rt: HostRuntime) {
     let alloc = rt.alloc();

@@ -17,7 +17,7 @@ use std::alloc::Global;
 use std::process::Abort;
 use std::test::Fail;
 
-/// The form of a get of the keys that this text spells.
+/// The form of a get of the keys in this text.
 fn get_words(alloc: Global, ticket: Ticket, text: &[u8]) -> Result<Form, Fail>
     ensures { IfOk result (λ form. form.ticket ≡ ticket) }
 {
@@ -69,7 +69,7 @@ fn reply(rt: &impl Abort, ticket: u64, part: usize, kind: Kind, answer: Answer) 
     Reply::new(Ticket(ticket), part, kind, answer)
 }
 
-/// Opens the next ticket, for which there is room.
+/// Opens the next ticket, for which there is space.
 fn open(rt: &impl Abort, joiner: &mut Joiner, form: Form)
     requires { form.ticket.0 ≡ opened_count joiner.old }
     ensures { opened_count joiner.new ≡ opened_count joiner.old + 1 }
@@ -77,7 +77,7 @@ fn open(rt: &impl Abort, joiner: &mut Joiner, form: Form)
     holds(rt, joiner.open(form).is_ok());
 }
 
-/// Opens a get of these keys, for whose ticket there is room.
+/// Opens a get of these keys, for which there is space.
 fn open_get(
     rt: &impl Abort,
     alloc: Global,
@@ -92,7 +92,7 @@ fn open_get(
     Ok(())
 }
 
-/// Opens an `mn`, for whose ticket there is room.
+/// Opens an `mn`, for which there is space.
 fn open_noop(rt: &impl Abort, alloc: Global, joiner: &mut Joiner, ticket: u64) -> Result<(), Fail>
     requires { ticket ≡ opened_count joiner.old }
     ensures { OnOk result (opened_count joiner.new ≡ opened_count joiner.old + 1) }
@@ -101,7 +101,7 @@ fn open_noop(rt: &impl Abort, alloc: Global, joiner: &mut Joiner, ticket: u64) -
     Ok(())
 }
 
-/// Asserts that there is no room for an `mn`.
+/// Asserts that there is no space for an `mn`.
 fn is_full(rt: &impl Abort, alloc: Global, joiner: &mut Joiner, ticket: u64) -> Result<(), Fail>
     requires { ticket ≡ opened_count joiner.old }
     ensures { opened_count joiner.new ≡ opened_count joiner.old }
@@ -110,14 +110,14 @@ fn is_full(rt: &impl Abort, alloc: Global, joiner: &mut Joiner, ticket: u64) -> 
     Ok(())
 }
 
-/// Whether the reply was taken in.
+/// Whether the reply was accepted.
 fn takes(joiner: &mut Joiner, reply: Reply) -> bool
     ensures { opened_count joiner.new ≡ opened_count joiner.old }
 {
     stranger_of(joiner.accept(reply)).is_none()
 }
 
-/// Asserts that a miss is taken in.
+/// Asserts that a miss is accepted.
 fn misses(rt: &impl Abort, joiner: &mut Joiner, ticket: u64, part: usize)
     ensures { opened_count joiner.new ≡ opened_count joiner.old }
 {
@@ -125,7 +125,7 @@ fn misses(rt: &impl Abort, joiner: &mut Joiner, ticket: u64, part: usize)
     holds(rt, takes(joiner, miss));
 }
 
-/// Asserts that a hit is taken in.
+/// Asserts that a hit is accepted.
 fn hits(
     rt: &impl Abort,
     alloc: Global,
@@ -141,7 +141,7 @@ fn hits(
     Ok(())
 }
 
-/// Asserts what a hand answers and writes, and that `ready` told its length.
+/// Asserts the result and the output of `hand`, and that `ready` returned its length.
 fn hands(rt: &impl Abort, alloc: Global, joiner: &mut Joiner, commands: u64, text: &[u8])
     ensures { opened_count joiner.new ≡ opened_count joiner.old }
 {
@@ -169,7 +169,7 @@ fn a_get_waits_for_its_first_key(rt: HostRuntime) -> Result<(), Fail> {
     Ok(())
 }
 
-/// Whether each of the first `count` parts is among the digits of the code to the base 4.
+/// Whether each of the first `count` parts is among the digits of the code in base 4.
 fn names_each(code: usize, count: usize) -> bool {
     let mut seen = [false; 4];
     let mut rest = code;
@@ -185,8 +185,8 @@ fn names_each(code: usize, count: usize) -> bool {
     true
 }
 
-/// Accepts the answers of a get in the order that the code names; a part that comes again, or isn't there, is not taken
-/// in.
+/// Accepts the answers of a get in the order of the code's digits; a part that is repeated, or
+/// doesn't exist, is refused.
 fn accept_in_order(
     rt: &impl Abort,
     alloc: Global,
@@ -278,7 +278,7 @@ fn a_repeated_key_is_shown_each_time(rt: HostRuntime) -> Result<(), Fail> {
     Ok(())
 }
 
-/// Asserts that the joiner hands the reply back as it was.
+/// Asserts that the reply is refused and returned unchanged.
 fn is_stranger(
     rt: &impl Abort,
     joiner: &mut Joiner,
@@ -300,13 +300,13 @@ fn strangers_are_handed_back(rt: HostRuntime) -> Result<(), Fail> {
     // No ticket is open.
     is_stranger(&rt, &mut joiner, 0, 0, Kind::Fetch, Answer::Miss);
     open_get(&rt, alloc, &mut joiner, 0, &[b"a", b"b"])?;
-    // A part that isn't there, a ticket that isn't open yet, another kind.
+    // A part that doesn't exist, a ticket that isn't open yet, another kind.
     is_stranger(&rt, &mut joiner, 0, 2, Kind::Fetch, Answer::Miss);
     is_stranger(&rt, &mut joiner, 1, 0, Kind::Fetch, Answer::Miss);
     is_stranger(&rt, &mut joiner, u64::MAX, 0, Kind::Fetch, Answer::Miss);
     is_stranger(&rt, &mut joiner, 0, 0, Kind::MetaGet, Answer::Miss);
     misses(&rt, &mut joiner, 0, 0);
-    // A part that is answered, whatever the second answer says.
+    // A part that is answered already, whatever the second answer is.
     is_stranger(&rt, &mut joiner, 0, 0, Kind::Fetch, hit(alloc, b"x")?);
     misses(&rt, &mut joiner, 0, 1);
     hands(&rt, alloc, &mut joiner, 1, b"END\r\n");
@@ -336,7 +336,7 @@ fn a_failed_outlet_is_written_to_no_more(rt: HostRuntime) -> Result<(), Fail> {
         equal(&rt, joiner.hand(&mut out), Ok(0));
         equal(&rt, out.taken.len(), left);
         equal(&rt, out.writes, writes);
-        // Answers are still taken in.
+        // Answers are still accepted.
         misses(&rt, &mut joiner, 2, 0);
         equal(&rt, joiner.hand(&mut out), Ok(0));
         equal(&rt, joiner.waiting(), 3);
@@ -371,7 +371,7 @@ fn a_large_value_goes_out_in_its_turn(rt: HostRuntime) -> Result<(), Fail> {
     Ok(())
 }
 
-/// Takes one byte a write.
+/// Takes one byte per write.
 #[derive(Drop)]
 struct Drip {
     taken: Vec<u8>,
@@ -392,7 +392,7 @@ impl Outlet for Drip {
     }
 }
 
-/// A joiner with a long reply between two short ones: `mn`, a get of a value, and `mn`.
+/// A long reply between two short ones: `mn`, a get of a value, and `mn`.
 fn long_between_short(rt: &impl Abort, alloc: Global) -> Result<Joiner, Fail> {
     let value = vec![in alloc; 7; 1_000]?;
     let mut joiner = Joiner::new(alloc, 4)?;
@@ -427,10 +427,10 @@ fn replies_may_break_off_at_each_byte(rt: HostRuntime) -> Result<(), Fail> {
 /// The length of a value that is shared, not copied.
 const LARGE: usize = 100_000;
 
-/// A key of one byte more than those that take no memory.
+/// A key that is one byte longer than those without an allocation.
 const LONG_KEY: &[u8] = b"a:key:of:39:bytes:lies:in:its:own:block";
 
-/// Counts its writes, those of at least `LARGE` bytes by themselves, and keeps nothing.
+/// Counts its writes, with those of at least `LARGE` bytes apart, and stores nothing.
 #[derive(Drop)]
 struct WriteTally {
     small: u64,
@@ -450,7 +450,8 @@ impl Outlet for WriteTally {
     }
 }
 
-/// A large value, as an item holds it, and the form of a get of one key, which takes memory; none where memory was refused.
+/// A large value, as an item holds it, and the form of a get of one key that needs an allocation;
+/// `None` if memory was refused.
 fn large_value(alloc: Global) -> Option<(Value, Form)>
     ensures { IfSome result (λ made. made.1.ticket.0 ≡ 0) }
 {
@@ -466,9 +467,9 @@ fn large_value(alloc: Global) -> Option<(Value, Form)>
     Some((value, plan.form))
 }
 
-/// A hit shares the value of its item: it goes to the outlet in one write of its whole length, beside the few that
-/// stand around it, and nothing on its way takes memory. Holds whichever one allocation is refused, as by
-/// `rt try --test --fail-alloc N` for each N.
+/// A hit shares the value of its item: the value is written by one call, beside a few for the text
+/// around it, and nothing on the way allocates. Passes whichever allocation is refused, as with `rt
+/// try --test --fail-alloc N` for each N.
 #[test]
 fn a_hit_copies_no_value(rt: HostRuntime) {
     let alloc = rt.alloc();
@@ -501,7 +502,7 @@ fn a_hit_copies_no_value(rt: HostRuntime) {
     equal(&rt, joiner.hand(&mut out), Ok(1));
     equal(&rt, out.bytes, len as u64);
     equal(&rt, out.large, 1);
-    // The line before the value, the end of its block, and the end of the reply.
+    // The header of the value, the end of its block, and the end of the reply.
     equal(&rt, out.small, 3);
 }
 
@@ -528,7 +529,7 @@ fn a_window_of_four_goes_round(rt: HostRuntime) -> Result<(), Fail> {
     open_noop(&rt, alloc, &mut joiner, 2)?;
     open_get(&rt, alloc, &mut joiner, 3, &[b"c"])?;
     is_full(&rt, alloc, &mut joiner, 4)?;
-    // A later reply that is whole waits for the first.
+    // A later, complete reply waits for the first.
     hits(&rt, alloc, &mut joiner, 1, 0, b"1")?;
     hands(&rt, alloc, &mut joiner, 0, b"");
     misses(&rt, &mut joiner, 0, 0);

@@ -1,5 +1,5 @@
-//! Tests of the crates that a connection is made of: pieces, rings, replies and the connection itself. They stand apart from
-//! the crates that they call, which are so proved once, and not a second time with their tests.
+//! Tests of the crates that make up a connection: pieces, rings, replies and the connection itself.
+//! They are in a crate of their own, so that the crates under test are proved without them.
 #![tactic(auto)]
 
 #[cfg(test)]

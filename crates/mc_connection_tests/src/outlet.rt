@@ -1,10 +1,10 @@
-//! An outlet over memory.
+//! An outlet in memory.
 ghost use Rattle.mc_wire.specs.Outlet.{Listed, sight_out};
 
 use mc_wire::{OutFault, Outlet};
 use std::alloc::Global;
 
-/// Counts the writes, takes `left` bytes more, and fails after them.
+/// Counts the writes, takes `left` more bytes, and fails after them.
 #[derive(Drop)]
 pub struct MemoryOutlet {
     pub taken: Vec<u8>,
@@ -34,7 +34,7 @@ impl Outlet for MemoryOutlet {
 }
 
 impl MemoryOutlet {
-    /// It goes on after a fault, and takes `left` bytes more.
+    /// Makes it work again after a failure, for `left` more bytes.
     pub fn allow(&mut self, left: usize) {
         self.left = left;
         self.failed = false;
@@ -46,7 +46,7 @@ pub fn outlet(alloc: Global, left: usize) -> MemoryOutlet {
     outlet_over(Vec::new(alloc), left)
 }
 
-/// The same, which puts them behind these.
+/// An outlet that appends up to `left` bytes to these.
 pub fn outlet_over(taken: Vec<u8>, left: usize) -> MemoryOutlet {
     MemoryOutlet {
         taken,

@@ -1,4 +1,4 @@
-//! Lanes are made, filled, emptied and looked at, and a reply is made.
+//! Channels: they are made, filled, emptied and inspected; and a reply is made.
 ghost use Rattle.std.specs.Prelude.{◌<◌, length};
 ghost use Rattle.mc_ring.specs.Ends.{AreSameEnds};
 
@@ -11,7 +11,7 @@ use mc_sizes::Sizes;
 use mc_split::Piece;
 use std::test::Fail;
 
-/// Two seats, three shards, and rings of one place.
+/// Two slots, three shards, and rings of capacity 1.
 const SIZES: Sizes = Sizes {
     profile: Profile::Own,
     seats: 2,
@@ -23,7 +23,7 @@ const SIZES: Sizes = Sizes {
     window: 256,
 };
 
-/// A piece of the command of this number.
+/// A piece of command number `number`.
 fn piece(number: u64) -> Parcel {
     Parcel::Piece(Piece {
         ticket: Ticket(number),
@@ -39,7 +39,7 @@ fn reply(number: u64) -> Reply {
     Reply::new(Ticket(number), 0, Kind::Flush, Answer::Done)
 }
 
-/// What a parcel is, where there is one: the piece of the command of this number, or the end.
+/// The content of a parcel, if there is one: the number of its piece's command, or the end.
 fn content(parcel: &Option<Parcel>) -> Option<Option<u64>> {
     match parcel {
         Some(Parcel::Piece(piece)) => Some(Some(piece.ticket.0)),
@@ -48,12 +48,12 @@ fn content(parcel: &Option<Parcel>) -> Option<Option<u64>> {
     }
 }
 
-/// The same, of a parcel that is let go.
+/// The content of a parcel, which is dropped.
 fn parcel_of(parcel: Option<Parcel>) -> Option<Option<u64>> {
     content(&parcel)
 }
 
-/// The number of the command of a reply, where there is one.
+/// The number of a reply's command, if there is a reply.
 fn number(reply: &Option<Reply>) -> Option<u64> {
     match reply {
         Some(reply) => Some(reply.ticket.0),
@@ -61,7 +61,7 @@ fn number(reply: &Option<Reply>) -> Option<u64> {
     }
 }
 
-/// The same, of a reply that is let go.
+/// The number of a reply's command; the reply is dropped.
 fn reply_of(reply: Option<Reply>) -> Option<u64> {
     number(&reply)
 }
@@ -106,7 +106,7 @@ fn what_waits_is_seen_on_its_lane_alone(rt: HostRuntime) -> Result<(), Fail> {
     Ok(())
 }
 
-/// Sends a piece of the command of this number to the first shard, and tells whether it went out.
+/// Sends a piece of this command to the first shard. Returns whether it was sent.
 fn sends(seat: &mut SeatEnds, number: u64) -> bool
     requires { 0 < length seat.old.lanes }
     ensures { AreSameEnds seat.old seat.new }
@@ -114,7 +114,7 @@ fn sends(seat: &mut SeatEnds, number: u64) -> bool
     parcel_of(seat.send(0, piece(number)).err()).is_none()
 }
 
-/// Gives the first seat the reply to that piece, and tells whether it went out.
+/// Sends the reply to this piece to the first slot. Returns whether it was sent.
 fn gives(shard: &mut ShardEnds, number: u64) -> bool
     requires { 0 < length shard.old.lanes }
     ensures { AreSameEnds shard.old shard.new }
@@ -122,7 +122,7 @@ fn gives(shard: &mut ShardEnds, number: u64) -> bool
     reply_of(shard.give(0, reply(number)).err()).is_none()
 }
 
-/// The parcel of the first seat that is taken, if one is.
+/// Takes the first slot's next parcel, if there is one.
 fn takes(shard: &mut ShardEnds) -> Option<Option<u64>>
     requires { 0 < length shard.old.lanes }
     ensures { AreSameEnds shard.old shard.new }
@@ -149,7 +149,7 @@ fn what_waits_is_counted(rt: HostRuntime) -> Result<(), Fail> {
     Ok(())
 }
 
-/// Numbers of seats, shards and places of a ring, and whether there are lanes for them.
+/// Numbers of slots, shards and places of a ring, and whether there are channels for them.
 static NUMBERS: [(usize, usize, usize, bool); 8] = [
     (0, 1, 1, false),
     (65_537, 1, 1, false),

@@ -1,4 +1,4 @@
-//! Plans of a few commands, as they are told to shards and to the joiner.
+//! Plans of a few commands: their pieces and their forms.
 ghost use Rattle.std.specs.Prelude.{◌<◌};
 
 use crate::asserting::{equal, holds};
@@ -18,13 +18,13 @@ const TICKET: Ticket = Ticket(7);
 
 const MOMENT: u64 = 1000;
 
-/// Keys that take memory: those of at most 38 bytes take none. The first belongs to the first of two shards, the second to the
-/// second.
+/// Keys that need an allocation: those of at most 38 bytes don't. The first belongs to the first of
+/// two shards, the second to the second.
 const KEY_A: &[u8] = b"a:key:of:39:bytes:lies:in:its:own:block";
 
 const KEY_B: &[u8] = b"b:key:of:39:bytes:lies:in:its:own:block";
 
-/// Both again, and a third, which belongs to the first of two shards.
+/// Both again, and a third one, which belongs to the first of two shards.
 const OTHER_KEYS: &[u8] = b"\
     b:key:of:39:bytes:lies:in:its:own:block \
     a:key:of:39:bytes:lies:in:its:own:block \
@@ -78,13 +78,13 @@ fn meta_get(alloc: Global, shows_key: bool) -> Result<Command, Refusal> {
     }))
 }
 
-/// What becomes of a command.
+/// The plan of a command.
 struct PlanOf {
     plan: Plan,
 }
 
 impl Drop for PlanOf {
-    /// By hand, so that to let one go is one call for whoever holds it.
+    /// Written by hand, so that its owners drop it by a single call (docs/DECISIONS.md, F20).
     fn drop(self) {
         let PlanOf { plan: _plan } = self;
     }
@@ -99,7 +99,7 @@ fn planned(alloc: Global, command: Command, shards: usize) -> Result<PlanOf, NoM
     })
 }
 
-/// Asserts the shards of a plan's pieces, that they are numbered, and that each has a slot.
+/// Asserts the shards of a plan's pieces, that the pieces are numbered, and that each has a slot.
 fn has_shards(rt: &impl Abort, plan: &Plan, shards: &[usize]) {
     equal(rt, plan.form.ticket, TICKET);
     equal(rt, plan.form.slots.answers().len(), shards.len());
@@ -122,7 +122,7 @@ fn a_get_asks_its_keys_in_order(rt: HostRuntime) -> Result<(), Fail> {
     Ok(())
 }
 
-/// Fills the slots in this order, and asserts that the last one fills the form.
+/// Fills the slots in this order, and asserts that the last one completes the form.
 fn fills(rt: &impl Abort, form: &mut Form, parts: &[usize]) {
     for part in parts {
         holds(rt, !form.slots.is_filled());
@@ -132,7 +132,7 @@ fn fills(rt: &impl Abort, form: &mut Form, parts: &[usize]) {
     holds(rt, form.slots.is_filled());
 }
 
-/// Whether a piece, with its shard, stores three bytes with the flags 5.
+/// Whether a piece, with its shard, stores three bytes with flags 5.
 fn stores_three(piece: Option<&(usize, Piece)>) -> bool {
     match piece {
         Some((_, piece)) => match &piece.op {
@@ -183,7 +183,7 @@ fn some_commands_ask_no_shard(rt: HostRuntime) -> Result<(), Fail> {
     Ok(())
 }
 
-/// Whether the reply to an `mg` shows its value, and then whether it keeps its key.
+/// Whether the reply to an `mg` returns its value, and whether it then keeps its key.
 fn keeps_key(shape: &Shape) -> Option<bool> {
     match shape {
         Shape::Meta { key, value, .. } if *value => Some(key.is_some()),
@@ -202,7 +202,7 @@ fn a_meta_reply_keeps_the_key_where_it_shows_it(rt: HostRuntime) -> Result<(), F
     Ok(())
 }
 
-/// A get that names a key 32,766 times: as often as the longest line has room for.
+/// A get that names a key 32,766 times: as often as fits into the longest line.
 fn longest_get(alloc: Global) -> Result<Command, Fail> {
     let mut others = Vec::new(alloc);
     for _ in 1..32_766u32 {
@@ -229,7 +229,7 @@ fn a_get_of_32766_keys(rt: HostRuntime) -> Result<(), Fail> {
     Ok(())
 }
 
-/// Whether the command was made and split over two shards; then its pieces are for these.
+/// Whether the command was made and split over two shards; its pieces are then for these shards.
 fn is_split(
     rt: &impl Abort,
     alloc: Global,
@@ -246,8 +246,8 @@ fn is_split(
     true
 }
 
-/// Holds whichever one allocation is refused, as by `rt try --test --fail-alloc N` for each N: one command isn't
-/// split, and the others are.
+/// Passes whichever allocation is refused, as with `rt try --test --fail-alloc N` for each N: one
+/// command isn't split, and the others are.
 #[test]
 fn a_refused_allocation_refuses_one_plan(rt: HostRuntime) {
     let alloc = rt.alloc();

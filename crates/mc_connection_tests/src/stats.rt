@@ -49,8 +49,7 @@ fn stats(alloc: Global) -> Result<Form, Fail>
     Ok(split(alloc, asked, Ticket(0), 1000, 3)?.form)
 }
 
-/// What a shard tells: it had as many items that it was asked for, lacked as many, and stored as many with a unique, as its
-/// number says.
+/// The statistics of a shard: as many hits, misses and stores with a unique as its number.
 fn counts(alloc: Global, shard: usize) -> Result<Answer, Fail> {
     let mut tally = Tally::new();
     for _ in 0..shard {

@@ -1,9 +1,9 @@
-//! A reply that nobody waits for.
+//! Replies that no open command expects.
 use mc_item::Kind;
 use mc_join::Stranger;
 use mc_reply::Ticket;
 
-/// The ticket, the part and the kind of a reply that was handed back, or nothing where it was taken in.
+/// The ticket, part and kind of a refused reply; `None` if it was accepted.
 fn told(accepted: &Result<(), Stranger>) -> Option<(Ticket, usize, Kind)> {
     match accepted {
         Ok(()) => None,
@@ -11,7 +11,7 @@ fn told(accepted: &Result<(), Stranger>) -> Option<(Ticket, usize, Kind)> {
     }
 }
 
-/// The same, of a reply that is let go.
+/// The ticket, part and kind of a refused reply, which is dropped.
 pub fn stranger_of(accepted: Result<(), Stranger>) -> Option<(Ticket, usize, Kind)> {
     told(&accepted)
 }

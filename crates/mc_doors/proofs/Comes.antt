@@ -1,4 +1,4 @@
--- What is told of a door when a stream comes in by it, and when its connection goes back.
+-- The history of a door when a stream is accepted, and when its connection is returned.
 use Rattle.std.proofs.Common.{◌≡◌, ℕ, Bool, true, List, [], ◌∷◌, Option, Some, None, refl, sym, ap, ◌∙◌}
 use Rattle.mc_wire.specs.Outlet.{Sight}
 use Rattle.mc_seat.specs.Explains.{LineTold}

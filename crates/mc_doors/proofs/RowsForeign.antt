@@ -9,7 +9,7 @@ foreign = codes "GET / HTTP/1.1\r\nHost: a\r\n" ∷ codes "GET /" ∷ codes "HEA
     ∷ codes "DELETE /a HTTP/1.1\r\n" ∷ codes "OPTIONS /" ∷ codes "PATCH /a" ∷ codes "TRACE /a"
     ∷ (0x80 ∷ []) ∷ (0x80 ∷ 0x0A ∷ 0 ∷ 0 ∷ []) ∷ (0x16 ∷ 0x03 ∷ []) ∷ (0x16 ∷ 0x03 ∷ 0x01 ∷ 2 ∷ 0 ∷ 1 ∷ []) ∷ []
 
--- commands, lines that are none, and begins that tell too little
+-- commands, invalid lines, and beginnings that are too short to detect a protocol
 abbrev ours : List (List ℕ)
 ours = [] ∷ codes "get /" ∷ codes "get /key\r\n" ∷ codes "set a 0 0 1\r\nx\r\n" ∷ codes "mg a v\r\n" ∷ codes "mn\r\n" ∷ codes "version\r\n" ∷ codes "\r\n"
     ∷ codes "G" ∷ codes "GET" ∷ codes "GET " ∷ codes "GET a\r\n" ∷ codes "GET  /" ∷ codes " GET /" ∷ codes "GETS /" ∷ codes "OPTIONS *" ∷ codes "put /"

@@ -1,4 +1,4 @@
--- What comes in at a seat.
+-- The streams of a slot.
 use Rattle.std.specs.Prelude.{ℕ, ◌≡◌, Bool, List, [], ◌∷◌, Option, Some, None}
 use Rattle.std.specs.Io.KnownBytes.{Keeps}
 use Rattle.mc_doors.specs.declared.lingering.Lingering.{Lingering}
@@ -8,30 +8,30 @@ use Rattle.mc_doors.specs.declared.arrivals.NewStream.{NewStream}
 use Rattle.mc_doors.specs.declared.door.Arrival.{Arrival}
 use Rattle.mc_doors.specs.declared.door.Arrival.TheVariants as arrival
 
--- This stream is the next to come, where that is known.
+-- This stream is the next one to come, if that is known.
 abbrev pub ComesNext : {S : Type 0} → S → Option (List S) → Option (List S) → Type 0
 ComesNext stream None after = after ≡ None
 ComesNext stream (Some []) after = ⊥
 ComesNext stream (Some (next ∷ streams)) after = (next ≡ stream) × (after ≡ Some streams)
 
--- No further stream comes, where that is known.
+-- No further stream comes, if that is known.
 abbrev pub NoneComes : {S : Type 0} → Option (List S) → Type 0
 NoneComes None = Unit {0}
 NoneComes (Some streams) = streams ≡ []
 
--- What arriving answers, and which streams will come then.
+-- The result of `next`, and the streams to come then.
 abbrev pub StreamArrives : {S : Type 0} → Arrival (NewStream S) → Option (List S) → Option (List S) → Type 0
 StreamArrives (arrival.Came new) old after = ComesNext new.stream old after
 StreamArrives arrival.NotYet old after = after ≡ old
 StreamArrives arrival.Over old after = (after ≡ old) × NoneComes old
 
--- A line that came is wary, or isn't, as it has to be.
+-- A line that was accepted has protocol detection, as the door requires it.
 abbrev pub CameWary : {S : Type 0} {g : Ghosts S} → Bool → Arrival (TcpLine S g) → Type 0
 CameWary is_wary (arrival.Came line) = line.wary ≡ is_wary
 CameWary is_wary arrival.NotYet = Unit {0}
 CameWary is_wary arrival.Over = Unit {0}
 
--- A stream that lingers has taken what it had taken by then, and no more.
+-- A lingering stream has the output that it had then, and no more.
 abbrev pub KeepsContents : {S : Type 0} → (S → Option (List ℕ)) → S → Option (Lingering S) → Type 0
 KeepsContents contents stream None = Unit {0}
 KeepsContents contents stream (Some lingering) = Keeps (contents stream) (contents lingering.stream)

@@ -1,10 +1,10 @@
--- How a connection begins that speaks another protocol than memcached's commands.
+-- The first bytes of connections that speak other protocols.
 use Rattle.std.specs.Prelude.{ℕ, ◌≡◌, ◌==◌, ◌&&◌, ◌||◌, ⊤, Bool, List, [], ◌∷◌, Option, Some, None, codes, length, nat_eq, take, if◌then◌else◌}
 use Rattle.std.specs.List.{list_any, starts_with}
 use Rattle.mc_watch.specs.declared.event.Manner.{Manner}
 use Rattle.mc_watch.specs.declared.event.Manner.TheVariants.{Binary, Http, Tls}
 
--- HTTP requests: a method, a blank and the begin of a path (RFC 9112, section 3)
+-- HTTP requests: a method, a space and the start of a path (RFC 9112, section 3)
 abbrev pub http_begins : List (List ℕ)
 http_begins = codes "GET /" ∷ codes "HEAD /" ∷ codes "POST /" ∷ codes "PUT /" ∷ codes "DELETE /" ∷ codes "OPTIONS /" ∷ codes "PATCH /" ∷ codes "TRACE /" ∷ []
 
@@ -12,33 +12,34 @@ http_begins = codes "GET /" ∷ codes "HEAD /" ∷ codes "POST /" ∷ codes "PUT
 abbrev pub binary_begin : List ℕ
 binary_begin = 0x80 ∷ []
 
--- TLS: a handshake, of whichever version (RFC 8446, section 5.1)
+-- TLS: a handshake of any version (RFC 8446, section 5.1)
 abbrev pub tls_begin : List ℕ
 tls_begin = 0x16 ∷ 0x03 ∷ []
 
--- whether these bytes, which come first, are those of an HTTP request
+-- whether these first bytes are those of an HTTP request
 unfoldable pub is_http : List ℕ → Bool
 is_http bytes = list_any (λ begin. starts_with nat_eq bytes begin) http_begins
 
--- whether these bytes, which come first, are those of another protocol
+-- whether these first bytes are those of another protocol
 unfoldable pub is_foreign : List ℕ → Bool
 is_foreign bytes = starts_with nat_eq bytes binary_begin || starts_with nat_eq bytes tls_begin || is_http bytes
 
--- which protocol these bytes are, where they are another one's: no two of them begin with the same byte
+-- the protocol of these bytes, if it is another one; no two of them start with the same byte
 unfoldable pub protocol_of : List ℕ → Manner
 protocol_of bytes =
     if starts_with nat_eq bytes binary_begin then Binary else if starts_with nat_eq bytes (0x16 ∷ []) then Tls else Http
 
--- the most bytes that it takes to tell it
+-- the number of bytes needed to detect it
 abbrev pub first_bytes : ℕ
 first_bytes = 9
 
--- Looking at the bytes that come next, where those are known, shows as many of them as there are and as there is room for.
+-- Peeking at the next bytes, if they are known, shows as many of them as there are and as fit.
 abbrev pub ShowsNext : Option (List ℕ) → List ℕ → ℕ → Type 0
 ShowsNext None room count = ⊤
 ShowsNext (Some bytes) room count = take count room ≡ take (length room) bytes
 
--- A read of a line that is wary, or isn't, gives no byte just where what comes first is another protocol's, or nothing is left.
+-- A read returns no byte exactly if the first bytes are another protocol's, and detection is on, or if
+-- nothing is left.
 abbrev pub EndsWhere : Bool → Option (List ℕ) → ℕ → Type 0
 EndsWhere wary None count = ⊤
 EndsWhere wary (Some bytes) count = (count == 0) ≡ ((wary && is_foreign (take first_bytes bytes)) || length bytes == 0)

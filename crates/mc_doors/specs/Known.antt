@@ -1,4 +1,4 @@
--- What is known of bytes that went over a stream has one proof at most.
+-- The knowledge of a stream's bytes has at most one proof.
 use Rattle.std.specs.Prelude.{ℕ, List, Option, Some, None}
 use Rattle.std.specs.Io.KnownBytes.{Appends, Consumes}
 use denote.Struct.Props as logic

@@ -1,4 +1,4 @@
--- What is told of a connection over a stream, and of the door that lets connections in.
+-- The history of a connection over a stream, and of the door that accepts connections.
 use Rattle.std.specs.Prelude.{ℕ, ◌≡◌, ◌+◌, Bool, false, List, [], ◌∷◌, Option, Some, None, Result, Ok, Err, length, map, take}
 use Rattle.mc_wire.specs.Outlet.{Listed, Read, Sight, Trace, Untold}
 use Rattle.mc_seat.specs.Explains.{LineTold}
@@ -9,25 +9,26 @@ use Rattle.mc_doors.specs.declared.tcp_line.TcpLine.{TcpLine}
 use Rattle.std.specs.declared.snapshot.Snapshot.{Snapshot}
 use Rattle.std.specs.Io.KnownBytes.{Appends, Consumes, Keeps}
 
--- a read, by the bytes given and taken before it
+-- a read, by the bytes read and written before it
 abbrev pub read_of : List ℕ × List ℕ → Read
 read_of one = record { given = Listed one.0; taken = Listed one.1 }
 
--- bytes that are known, or aren't
+-- bytes that are known or not
 abbrev pub trace_of : Option (List ℕ) → Trace
 trace_of None = Untold
 trace_of (Some bytes) = Listed bytes
 
--- the note that a connection begins with: what its stream had to give when it came in, and what it had taken
+-- the note at the start of a connection: the bytes that its stream had to read, and those written to it
+-- before
 abbrev pub note_of : Option (List ℕ) → Option (List ℕ) → Read
 note_of remaining contents = record { given = trace_of remaining; taken = trace_of contents }
 
--- a connection over a stream that has just come in, which has these bytes to give and has taken those, if they are known:
--- nothing was read of it, nor written to it
+-- a connection over a new stream, with these bytes to read and those written, if they are known: nothing was
+-- read or written by the connection
 abbrev pub new_line : Option (List ℕ) → Option (List ℕ) → Sight
 new_line remaining contents = record { given = Listed []; ended = false; reads = Some (note_of remaining contents ∷ []); taken = Listed []; failed = false }
 
--- what is seen of one
+-- the history of a connection
 abbrev pub sight_of : {S : Type 0} {g : Ghosts S} → TcpLine S g → Sight
 sight_of {g = g} line = record {
   given = Listed line.tap.given;
@@ -37,25 +38,25 @@ sight_of {g = g} line = record {
   failed = line.failed;
 }
 
--- Just the bytes that a read says it gave came from the stream, whose bytes are known or not.
+-- Exactly the bytes that a read reports were read from the stream, whose bytes are known or not.
 abbrev pub ReadsStream : {E : Type 0} → List ℕ → Result (Option ℕ) E → Option (List ℕ) → Option (List ℕ) → Type 0
 ReadsStream room (Ok (Some count)) old new = Consumes old new (take count room)
 ReadsStream room (Ok None) old new = Keeps old new
 ReadsStream room (Err fault) old new = Keeps old new
 
--- Just the bytes that a write says it took went to the stream, whose bytes are known or not.
+-- Exactly the bytes that a write reports were written to the stream, whose bytes are known or not.
 abbrev pub WritesStream : {E : Type 0} → List ℕ → Result ℕ E → Option (List ℕ) → Option (List ℕ) → Type 0
 WritesStream bytes (Ok count) old new = Appends old new (take count bytes)
 WritesStream bytes (Err fault) old new = Keeps old new
 
--- A line tells of a write as many bytes as its stream took, also none; and where that is a failure, the stream took none.
+-- A write of a line reports as many bytes as its stream took, 0 included; if it fails, the stream took none.
 abbrev pub TellsWrite : {D E : Type 0} → Result ℕ D → Result ℕ E → Type 0
 TellsWrite (Ok count) (Ok told) = told ≡ count
 TellsWrite (Ok count) (Err fault) = count ≡ 0
 TellsWrite (Err why) (Ok told) = told ≡ 0
 TellsWrite (Err why) (Err fault) = Unit {0}
 
--- one that is gone: what its reads gave and its writes took
+-- a closed connection: the bytes read and written
 abbrev pub gone_line : {S : Type 0} {g : Ghosts S} → ClosedConnection S g → LineTold
 gone_line gone = record {
   begin = sight_of gone.begin.value;
@@ -64,36 +65,36 @@ gone_line gone = record {
   broke = gone.broke;
 }
 
--- those of a seat that are gone, in their order
+-- the closed connections of a slot, in order
 abbrev pub gone_lines : {S : Type 0} {g : Ghosts S} → List (ClosedConnection S g × Unit {0}) → List LineTold
 gone_lines gone = map (λ one. gone_line one.0) gone
 
--- the connection that is out, as it was when it came in
+-- the connection being served, in the state in which it was accepted
 abbrev pub out_line : {S : Type 0} {g : Ghosts S} → Option (Snapshot (TcpLine S g)) → Option Sight
 out_line None = None
 out_line (Some begin) = Some (sight_of begin.value)
 
--- streams that will come, where they are known, as connections
+-- the streams to come, if they are known, as connections
 abbrev pub new_lines : {S : Type 0} → (S → Option (List ℕ)) → (S → Option (List ℕ)) → Option (List S) → Option (List Sight)
 new_lines remaining contents None = None
 new_lines remaining contents (Some streams) = Some (map (λ stream. new_line (remaining stream) (contents stream)) streams)
 
--- a door by which no stream came in yet
+-- a door that has accepted nothing yet
 abbrev pub new_door : {S : Type 0} → (S → Option (List ℕ)) → (S → Option (List ℕ)) → Option (List S) → DoorTold
 new_door remaining contents coming = TellsLines (new_lines remaining contents coming) None [] false
 
--- what is told of the door of a seat: the streams that will come, where they are known, the connection that is out, those that are
--- gone, and whether it said that no more come
+-- the history of a slot's door: the streams to come, if they are known, the connection being served, the
+-- closed ones, and whether it returned that no more will come
 abbrev pub told_door : {S : Type 0} {g : Ghosts S} → Option (List S) → Option (Snapshot (TcpLine S g)) → List (ClosedConnection S g × Unit {0}) → Bool → DoorTold
 told_door {g = g} coming out gone over = TellsLines (new_lines g.remaining g.contents coming) (out_line out) (gone_lines gone) over
 
--- The stream of this connection, which was so when it came in, gave just the bytes that the connection was given, and no others,
--- and took just those that it took, until the connection ended.
+-- The stream of this connection, which was in this state when it was accepted, was read for exactly the bytes
+-- of the connection's input. It took exactly the connection's output, until the connection ended.
 pub record IsServed {S : Type 0} {g : Ghosts S} (stream : S) (one : ClosedConnection S g) : Type 0 where
   pub gave : Consumes (g.remaining stream) (g.remaining one.line.value.tap.stream) one.line.value.tap.given
   pub took : Appends (g.contents stream) (g.contents one.line.value.tap.stream) one.line.value.tap.taken
 
--- how many lines went back to the doors, all of them together
+-- the number of lines returned to the doors, all together
 abbrev pub gone_count : List DoorTold → ℕ
 gone_count [] = 0
 gone_count (TellsNothing ∷ doors) = gone_count doors

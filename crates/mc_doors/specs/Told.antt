@@ -1,68 +1,68 @@
--- What is told of a door: the lines that it lets in and takes back.
+-- The history of a door: the lines that it accepts and takes back.
 use Rattle.std.specs.Prelude.{ℕ, ◌≡◌, Bool, true, List, [], ◌∷◌, ◌++◌, Option, Some, None, map}
 use Rattle.mc_wire.specs.Outlet.{Sight}
 use Rattle.mc_seat.specs.Explains.{LineTold}
 use Rattle.mc_doors.specs.declared.door.Arrival.{Arrival}
 use Rattle.mc_doors.specs.declared.door.Arrival.TheVariants as arrival
 
--- what is told of a door: nothing; or the lines that will come, where they are known, the one that is out, those that went back,
--- in their order, and whether it has said that no more come
+-- the history of a door: unknown; or the lines to come, if they are known, the one being served, the returned
+-- ones in order, and whether it returned that no more will come
 pub data DoorTold : Type 0 where
   TellsNothing : DoorTold
   TellsLines : Option (List Sight) → Option Sight → List LineTold → Bool → DoorTold
 
--- those that come later
+-- the lines to come after the next one
 abbrev pub later : Option (List Sight) → Option (List Sight)
 later None = None
 later (Some []) = Some []
 later (Some (line ∷ lines)) = Some lines
 
--- This line is the next to come, where that is known.
+-- This line is the next one to come, if that is known.
 abbrev pub IsNext : Sight → DoorTold → Type 0
 IsNext line TellsNothing = Unit {0}
 IsNext line (TellsLines None out back over) = Unit {0}
 IsNext line (TellsLines (Some []) out back over) = ⊥
 IsNext line (TellsLines (Some (next ∷ lines)) out back over) = next ≡ line
 
--- a line came in
+-- a line was accepted
 abbrev pub let_in : Sight → DoorTold → DoorTold
 let_in line TellsNothing = TellsNothing
 let_in line (TellsLines coming out back over) = TellsLines (later coming) (Some line) back over
 
--- the line that was out went back
+-- the line being served was returned
 abbrev pub took_back : Sight → ℕ → Bool → DoorTold → DoorTold
 took_back now commands broke TellsNothing = TellsNothing
 took_back now commands broke (TellsLines coming None back over) = TellsLines coming None back over
 took_back now commands broke (TellsLines coming (Some begin) back over) = TellsLines coming None (back ++ record { begin = begin; now = now; commands = commands; broke = broke } ∷ []) over
 
--- it said that no more come
+-- it returned that no more will come
 abbrev pub closed : DoorTold → DoorTold
 closed TellsNothing = TellsNothing
 closed (TellsLines coming out back over) = TellsLines coming out back true
 
--- No line is out.
+-- No line is being served.
 abbrev pub IsFree : DoorTold → Type 0
 IsFree TellsNothing = Unit {0}
 IsFree (TellsLines coming out back over) = out ≡ None
 
--- No further line comes, where that is known.
+-- No further line comes, if that is known.
 abbrev pub IsDone : DoorTold → Type 0
 IsDone TellsNothing = Unit {0}
 IsDone (TellsLines None out back over) = Unit {0}
 IsDone (TellsLines (Some lines) out back over) = lines ≡ []
 
--- What accepting answers, and what is told of the door then.
+-- The result of `accept`, and the history of the door then.
 abbrev pub Arrives : {L : Type 0} → (L → Sight) → Arrival L → DoorTold → DoorTold → Type 0
 Arrives sight (arrival.Came line) old new = IsNext (sight line) old × (new ≡ let_in (sight line) old)
 Arrives sight arrival.NotYet old new = new ≡ old
 Arrives sight arrival.Over old new = (new ≡ closed old) × IsDone old
 
--- These lines came, of those that were to come, where they are known.
+-- These lines came, of those that were to come, if they are known.
 abbrev pub Comes : Option (List Sight) → List Sight → Option (List Sight) → Type 0
 Comes None lines after = after ≡ None
 Comes (Some before) lines after = (left : List Sight) × (before ≡ lines ++ left) × (after ≡ Some left)
 
--- Just these lines came in and went back.
+-- Exactly these lines were accepted and returned.
 abbrev pub Passes : DoorTold → List LineTold → DoorTold → Type 0
 Passes TellsNothing lines after = after ≡ TellsNothing
 Passes (TellsLines coming out back over) lines after = (rest : Option (List Sight)) × Comes coming (map (λ line. line.begin) lines) rest × (after ≡ TellsLines rest out (back ++ lines) over)

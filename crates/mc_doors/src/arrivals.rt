@@ -1,4 +1,4 @@
-//! Where the streams of a seat come in, and how sockets do.
+//! Sources of a slot's streams, and the source of sockets.
 ghost use Rattle.std.specs.Prelude.{◌≡◌, None};
 ghost use Rattle.mc_doors.specs.Arrivals.{StreamArrives};
 
@@ -8,48 +8,50 @@ use crate::socket::Socket;
 use crate::stream::Stream;
 use mc_watch::Meter;
 
-/// A stream that has come in, and what measures it.
+/// A new stream and its meter.
 #[derive(Drop)]
 pub struct NewStream<S> {
     pub stream: S,
     pub meter: Meter,
-    /// A poll reports when it is ready. Otherwise it is asked again at each step.
+    /// Whether a poll reports when it is ready. Otherwise it is tried in each step.
     pub is_polled: bool,
 }
 
-/// Where the streams of one seat come in, one at a time.
+/// The source of one slot's streams, one at a time.
 pub trait Arrivals {
     ghost use Rattle.std.specs.Prelude.{List, Option};
 
-    /// What comes in.
+    /// The type of the streams.
     type Stream: Stream + Drop;
 
-    /// The streams that will come, in their order, where they are known.
+    /// The streams to come, in order, if they are known.
     ghost coming: { Self → Option (List Self.Stream) };
 
-    /// The next stream, if one has come. It doesn't wait for one.
+    /// Returns the next stream, if there is one. Never blocks.
     fn next(&mut self) -> Arrival<NewStream<Self::Stream>>
         ensures { StreamArrives result (coming self.old) (coming self.new) };
 
-    /// Notes that the connection of the last stream has ended: how many commands it took, and whether it has failed.
+    /// Records the end of the last stream's connection: the number of commands, and whether it
+    /// failed.
     fn close(&mut self, meter: &Meter, commands: u64, broke: bool)
         ensures { coming self.new ≡ coming self.old };
 
-    /// Asks for another step of the seat: at once, or after a while.
+    /// Requests another step of the slot: at once, or after a while.
     fn call_again(&self, at_once: bool);
 
-    /// Whether it could take in no more, though more may come.
+    /// Whether no further connection could be accepted because of a fault, though more may come.
     fn has_failed(&self) -> bool;
 }
 
-/// An entrance hands each connection to a free seat. Which ones come isn't known.
+/// The accepting thread hands each connection to a free slot. Contracts don't know which
+/// connections come.
 impl Arrivals for Way {
     type Stream = Socket;
 
     ghost coming = { λ _. None };
 
     fn next(&mut self) -> Arrival<NewStream<Socket>> {
-        // Looked at first: a connection that was handed over before the entrance closed is found then.
+        // Read first: a connection that was handed over before the end is then found below.
         let is_last = self.bell.is_over();
         if let Some(new) = self.take() {
             return Arrival::Came(new);
@@ -79,12 +81,12 @@ impl Arrivals for Way {
 }
 
 impl Way {
-    /// The connection that was handed to the seat, if one was.
+    /// Takes the connection that was handed to the slot, if there is one.
     fn take(&mut self) -> Option<NewStream<Socket>> {
         let NewConnection { mut stream, peer } = self.come.pop().ok()?;
         self.told_free = false;
         if stream.register(&self.seats, self.seat).is_err() {
-            // It could never be read from: it is closed at once.
+            // It could never be read from, so it is closed at once.
             self.watch.turn_away();
             return None;
         }
@@ -96,7 +98,7 @@ impl Way {
         })
     }
 
-    /// Tells the entrance that the seat is free, once.
+    /// Reports the slot as free to the accepting thread, once.
     fn tell_free(&mut self) {
         if !self.told_free {
             self.told_free = true;

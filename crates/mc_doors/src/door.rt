@@ -1,33 +1,33 @@
-//! Where the lines of a seat come in, one at a time, and where they go back.
+//! The source of a slot's lines, one at a time, to which they are returned.
 ghost use Rattle.std.specs.Prelude.{◌≡◌};
 ghost use Rattle.mc_doors.specs.Told.{Arrives, DoorTold, took_back};
 
 use mc_seat::Line;
 
-/// What a door answers.
+/// The result of `Door::accept`.
 #[derive(Drop)]
 pub enum Arrival<L> {
-    /// A line.
+    /// A new line.
     Came(L),
     /// No line yet.
     NotYet,
-    /// No line any more.
+    /// No more lines will come.
     Over,
 }
 
-/// Lets in the lines of a seat, one at a time, and takes them back.
+/// Accepts the lines of a slot, one at a time, and takes them back after they were served.
 pub trait Door {
-    /// What comes in.
+    /// The type of the lines.
     type Line: Line + Drop;
 
-    /// What is told of it.
+    /// Its history, for contracts.
     ghost told: { Self → DoorTold };
 
-    /// The next line, if one has come. It doesn't wait for one.
+    /// Returns the next line, if there is one. Never blocks.
     fn accept(&mut self) -> Arrival<Self::Line>
         ensures { Arrives (λ line. Self.Line.sight line) result (told self.old) (told self.new) };
 
-    /// Takes back the line that is out, once it was served: how many commands it took, and whether it has failed.
+    /// Takes back the line that was served: the number of commands, and whether it failed.
     fn give_back(&mut self, line: Self::Line, commands: u64, broke: bool)
         ensures { told self.new ≡ took_back (Self.Line.sight line) commands broke (told self.old) };
 }

@@ -1,4 +1,4 @@
-//! Where connections come in: a thread of its own takes them from the listeners, and hands each to a free seat.
+//! The accepting thread: it accepts connections from all listeners and hands each to a free slot.
 use crate::free_seats::FreeSeats;
 use crate::listener::Listener;
 use crate::socket::Socket;
@@ -14,20 +14,20 @@ use std::sync::{Arc, Wait};
 use std::time::Duration;
 use std::{io, slice, thread, time};
 
-/// Milliseconds that the thread waits after a fault of `accept` that passes, before it tries again.
+/// Pause in milliseconds after a transient error of `accept`.
 const PAUSE_MILLIS: u64 = 10;
 
-/// What memcached says to a connection that is one too many (`maxconns_fast`).
+/// memcached's reply to a connection beyond the limit (`maxconns_fast`).
 const TOO_MANY: &[u8] = b"ERROR Too many open connections\r\n";
 
-/// It sleeps at once where no connection has come, or no seat is free.
+/// Spin policy: block at once if no connection is pending or no slot is free.
 const AT_ONCE: Patience = Patience {
     looks: 0,
     yields: 0,
 };
 
-/// Linux's error numbers for a listener that is none, or can't be one (accept(2)): a bad descriptor, a bad address,
-/// one that doesn't listen, no socket, no socket of streams.
+/// Errors of `accept` that mean that the listener itself is broken (accept(2)): bad descriptor, bad
+/// address, not listening, not a socket, not a stream socket.
 const LASTING_FAULTS: [i32; 5] = [
     9, // EBADF
     14, // EFAULT
@@ -36,26 +36,26 @@ const LASTING_FAULTS: [i32; 5] = [
     95, // EOPNOTSUPP
 ];
 
-/// What is told between the entrance and the doors.
+/// Flags shared by the accepting thread and the slots.
 #[derive(Drop)]
 struct Closing {
-    /// No more connections come.
+    /// No more connections will come.
     is_over: AtomicBool,
-    /// None can be accepted, though more may come.
+    /// None can be accepted because of a fault, though more may come.
     has_failed: AtomicBool,
-    /// No further connection is to be accepted.
+    /// Accepting was stopped by request.
     is_dismissed: AtomicBool,
 }
 
-/// How the doors and the server reach the entrance.
+/// A handle to the accepting thread, for slots and server.
 pub struct Bell {
     closing: Arc<Closing, Global>,
-    /// What wakes the entrance.
+    /// Wakes the accepting thread.
     wakers: Wakers,
 }
 
 impl Drop for Bell {
-    /// By hand, so that to let one go is one call for whoever holds it (docs/DECISIONS.md).
+    /// Written by hand, so that its owners drop it by a single call (docs/DECISIONS.md, F20).
     fn drop(self) {
         let Bell {
             closing: _closing,
@@ -65,7 +65,7 @@ impl Drop for Bell {
 }
 
 impl Bell {
-    /// A bell of an entrance whose thread sleeps there.
+    /// A handle to the accepting thread that blocks in this sleeper.
     fn new(alloc: Global, sleeper: &Sleeper) -> Result<Bell, AllocError> {
         let closing = Closing {
             is_over: AtomicBool::new(false),
@@ -78,7 +78,7 @@ impl Bell {
         })
     }
 
-    /// The same bell, for one more.
+    /// Clones the handle. Fails if memory is refused.
     fn share(&self) -> Result<Bell, AllocError> {
         Ok(Bell {
             closing: Arc::try_clone(&self.closing)?,
@@ -86,57 +86,58 @@ impl Bell {
         })
     }
 
-    /// Tells the entrance that the seat is free. To be said once, and again only after a connection came.
+    /// Reports a slot as free. Call it once at first, and again only after the slot was given a
+    /// connection.
     pub(crate) fn tell_free(&self, seat: usize) {
         self.wakers.call(0, seat);
     }
 
-    /// Whether no more connections come, but for those that were handed to the seats.
+    /// Whether no more connections will come, except those already handed to slots.
     pub(crate) fn is_over(&self) -> bool {
         self.closing.is_over.load(Ordering::SeqCst)
     }
 
-    /// Whether none can be accepted, though more may come.
+    /// Whether none can be accepted because of a fault, though more may come.
     pub(crate) fn has_failed(&self) -> bool {
         self.closing.has_failed.load(Ordering::SeqCst)
     }
 
-    /// Whether no further connection is to be accepted.
+    /// Whether accepting was stopped by request.
     fn is_dismissed(&self) -> bool {
         self.closing.is_dismissed.load(Ordering::SeqCst)
     }
 
-    /// Has the entrance accept no further connection: those that wait to be accepted are refused.
+    /// Stops accepting: connections that wait in the backlog are refused.
     pub fn dismiss(&self) {
         self.closing.is_dismissed.store(true, Ordering::SeqCst);
         self.wakers.rouse(0);
     }
 }
 
-/// A connection that has come in, and whose it is.
+/// An accepted connection and its client's address.
 #[derive(Drop)]
 pub(crate) struct NewConnection {
     pub(crate) stream: Socket,
     pub(crate) peer: SocketAddr,
 }
 
-/// The way of connections to a seat.
+/// The channel of connections from the accepting thread to one slot.
 pub struct Way {
-    /// The number of the seat.
+    /// The number of the slot.
     pub(crate) seat: usize,
-    /// The connection that comes next.
+    /// The receiving end.
     pub(crate) come: Consumer<NewConnection>,
     pub(crate) bell: Bell,
-    /// What wakes the seats.
+    /// Wakes the threads of the slots.
     pub(crate) seats: Wakers,
-    /// What is watched of its connections.
+    /// Telemetry of the slot's connections.
     pub(crate) watch: SeatWatch,
-    /// It has told the entrance that the seat is free.
+    /// Whether the slot was reported as free.
     pub(crate) told_free: bool,
 }
 
 impl Drop for Way {
-    /// By hand, so that to let one go is one call for whoever holds it (docs/DECISIONS.md).
+    /// Written by hand, so that its owners drop it by a single call (docs/DECISIONS.md, F20).
     fn drop(self) {
         let Way {
             seat: _seat,
@@ -149,31 +150,31 @@ impl Drop for Way {
     }
 }
 
-/// The listeners, and the ways from them to the seats.
+/// The accepting thread's state: its listeners, and the channels to the slots.
 pub struct Entrance {
     listeners: Vec<Listener>,
-    /// The listener that is looked at first: the one behind the last that had a connection.
+    /// The listener to try first: the one after the last that had a connection.
     first: usize,
-    /// Connections still to be taken, where their number is bounded.
+    /// Number of connections still to accept, if it is limited.
     left: Option<u64>,
-    /// A connection that comes while all seats are taken is refused: so it is by memcached's rules.
+    /// Whether a connection is refused while all slots are in use, as by memcached's rules.
     refuses: bool,
-    /// How often a seat has said that it is free, a count that stays at its greatest value.
+    /// Number of times that a slot was reported as free; it saturates.
     freed: usize,
-    /// It was reported that all seats are taken, and not yet that one is free again.
+    /// Whether it was reported that all slots are in use, and not yet that one is free again.
     is_full: bool,
-    /// The seats call it when they are free, and each listener has a place of it.
+    /// Slots wake it when they become free, and each listener is one of its places.
     sleeper: Sleeper,
     bell: Bell,
     free: FreeSeats,
-    /// The way to each seat.
+    /// The channel to each slot.
     ways: Vec<Producer<NewConnection>>,
     seats: Wakers,
     watch: EntranceWatch,
 }
 
 impl Drop for Entrance {
-    /// By hand, so that to let one go is one call for whoever holds it (docs/DECISIONS.md).
+    /// Written by hand, so that its owners drop it by a single call (docs/DECISIONS.md, F20).
     fn drop(self) {
         let Entrance {
             listeners: _listeners,
@@ -192,20 +193,20 @@ impl Drop for Entrance {
     }
 }
 
-/// What a look at the listeners finds.
+/// The result of polling the listeners.
 #[derive(Drop)]
 enum Found {
     Connection(NewConnection),
-    /// No connection has come.
+    /// No connection is pending.
     Nothing,
-    /// A listener gave none.
+    /// An accept failed.
     Fault(io::Error),
 }
 
 impl Entrance {
-    /// The connections come in by the listeners, at most `connections` of them, or any number where it is none. The sleepers are
-    /// those of the threads of the seats. Where it refuses, a connection that comes while all seats are taken is answered with an
-    /// error and closed; else it waits.
+    /// Accepts from these listeners, at most `connections` connections if it is given. The sleepers
+    /// are those of the slots' threads. With `refuses`, a connection beyond the slots is answered
+    /// with an error and closed; otherwise it waits in the backlog.
     pub fn new<R: Net>(
         rt: &R,
         alloc: Global,
@@ -237,7 +238,8 @@ impl Entrance {
         })
     }
 
-    /// The way to the next seat, of which is watched what that watch says: they are numbered from 0.
+    /// Makes the channel to the next slot, with its telemetry from `watch`. Slots are numbered from
+    /// 0.
     pub fn next_way(&mut self, alloc: Global, watch: &mut Watch) -> Result<Way, AllocError> {
         let (way, come) = RingBuffer::new(alloc, 1)?;
         let seat = self.ways.len();
@@ -252,12 +254,13 @@ impl Entrance {
         })
     }
 
-    /// How it is reached.
+    /// A handle to this thread.
     pub fn bell(&self) -> Result<Bell, AllocError> {
         self.bell.share()
     }
 
-    /// Takes in connections until as many have come as are taken, none can be accepted, or it is dismissed.
+    /// Accepts connections until the limit is reached, the listener is broken, or a stop is
+    /// requested.
     pub fn run<R: Wait + time::Clock>(self, rt: &R) {
         let mut entrance = self;
         entrance.take_all(rt);
@@ -283,8 +286,8 @@ impl Entrance {
         }
     }
 
-    /// Takes the next connection, where one has come and a seat is free, or it is refused. Whether there may be another: else it
-    /// is to be asked again once a connection comes or a seat is free.
+    /// Accepts the next connection if one is pending and a slot is free, or refuses it. Returns
+    /// whether there may be another; otherwise call again after a wake-up.
     fn take_one<R: time::Clock>(&mut self, rt: &R) -> io::Result<bool> {
         self.note_free();
         let is_full = self.free.is_empty();
@@ -306,7 +309,7 @@ impl Entrance {
         }
     }
 
-    /// Looks at each listener until one has a connection.
+    /// Tries each listener until one has a connection.
     fn look(&mut self) -> Found {
         for _ in 0..self.listeners.len() {
             let place = self.first;
@@ -324,7 +327,8 @@ impl Entrance {
         Found::Nothing
     }
 
-    /// A fault of an accept that passes, as too many open files or a peer that went away, is waited out; another one is returned.
+    /// Pauses after a transient error of `accept`, such as too many open files or a peer that
+    /// disconnected; returns any other error.
     fn wait_out<R: time::Clock>(&mut self, rt: &R, fault: io::Error) -> io::Result<bool> {
         self.watch.failed(fault.raw_os_error());
         if is_lasting(&fault) {
@@ -334,7 +338,8 @@ impl Entrance {
         Ok(true)
     }
 
-    /// Reports that all seats are taken, or that one is free again. Before each was free once, none is taken.
+    /// Records that all slots are in use, or that one is free again. Until each slot was free once,
+    /// none counts as in use.
     fn note_full(&mut self, is_full: bool) {
         if self.is_full == is_full || self.freed < self.ways.len() {
             return;
@@ -347,7 +352,7 @@ impl Entrance {
         }
     }
 
-    /// Notes the seats that have told that they are free.
+    /// Records the slots that were reported as free.
     fn note_free(&mut self) {
         for word in 0..self.ways.len().div_ceil(64) {
             for seat in Marked::of(word, self.sleeper.callers_in(word)) {
@@ -357,7 +362,7 @@ impl Entrance {
         }
     }
 
-    /// Hands the connection to a free seat of the thread that has the most.
+    /// Hands the connection to a free slot of the thread with the most free slots.
     fn hand_over(&mut self, connection: NewConnection) {
         let Some(seat) = self.free.take() else {
             return;
@@ -368,14 +373,14 @@ impl Entrance {
             *left = left.saturating_sub(1);
         }
         if let Some(way) = self.ways.get_mut(seat) {
-            // A seat that is free has taken what came before.
+            // A free slot has taken its previous connection, so there is space.
             let _ = way.push(connection);
         }
         self.seats.rouse(seat);
     }
 }
 
-/// Has the thread of the entrance roused where a connection comes: the place of each listener is its number.
+/// Registers the listeners with the thread's poll, each by its number.
 fn register_all(listeners: &mut Vec<Listener>, wakers: &Wakers) -> io::Result<()> {
     for (place, listener) in listeners.iter_mut().enumerate() {
         listener.register(wakers, place)?;
@@ -383,7 +388,7 @@ fn register_all(listeners: &mut Vec<Listener>, wakers: &Wakers) -> io::Result<()
     Ok(())
 }
 
-/// Answers the connection as memcached does one that is too many, and closes it. What the answer becomes is its client's matter.
+/// Answers with memcached's error for too many connections, and closes. Errors are ignored.
 fn refuse(connection: NewConnection) {
     let NewConnection {
         mut stream,
@@ -392,7 +397,7 @@ fn refuse(connection: NewConnection) {
     let _ = stream.write(TOO_MANY);
 }
 
-/// Whether the fault of an `accept` comes again at each further one.
+/// Whether this error of `accept` is permanent.
 fn is_lasting(fault: &io::Error) -> bool {
     match fault.raw_os_error() {
         Some(number) => LASTING_FAULTS.contains(&number),

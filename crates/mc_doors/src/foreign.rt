@@ -1,14 +1,14 @@
-//! Connections that speak another protocol.
+//! Detection of other protocols.
 ghost use Rattle.std.specs.Prelude.{◌≡◌};
 ghost use Rattle.mc_doors.specs.Foreign.{is_foreign, is_http, protocol_of};
 
 use mc_watch::Manner;
 
-/// The most bytes that it takes to tell that a connection speaks another protocol.
+/// Number of bytes needed to detect another protocol.
 pub(crate) const FIRST_BYTES: usize = 9;
 
-/// Whether a connection whose first bytes these are speaks another protocol: memcached's binary protocol, TLS or HTTP. No command
-/// begins like that: their names are lower case.
+/// Whether a connection with these first bytes speaks another protocol: memcached's binary
+/// protocol, TLS or HTTP. No command starts like that, since command names are lower case.
 #[tactic(auto, unfolding(crate::specs::Foreign::is_foreign))]
 pub(crate) fn is_foreign(bytes: &[u8]) -> bool
     ensures { result ≡ is_foreign bytes.now }
@@ -16,7 +16,7 @@ pub(crate) fn is_foreign(bytes: &[u8]) -> bool
     bytes.starts_with(&[0x80]) || bytes.starts_with(&[0x16, 0x03]) || is_http(bytes)
 }
 
-/// Why a connection ends whose first bytes are another protocol's.
+/// The reason to log for a connection with these first bytes of another protocol.
 #[tactic(auto, unfolding(crate::specs::Foreign::protocol_of))]
 pub(crate) fn protocol_of(bytes: &[u8]) -> Manner
     ensures { result ≡ protocol_of bytes.now }

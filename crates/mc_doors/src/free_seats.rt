@@ -1,18 +1,19 @@
-//! Which seats are free, by the threads that serve them.
+//! Free slots, by the threads that serve them.
 use mc_wake::Sleeper;
 use std::alloc::{AllocError, Global};
 
-/// The free seats of each thread.
+/// The free slots of each thread.
 #[derive(Drop)]
 pub(crate) struct FreeSeats {
-    /// Of each thread.
+    /// By thread.
     free: Vec<Vec<usize>>,
-    /// The thread of each seat.
+    /// The thread of each slot.
     threads: Vec<usize>,
 }
 
 impl FreeSeats {
-    /// None is free yet. The sleepers are those of the threads; the seats are numbered from 0, in the order of their threads.
+    /// No slot is free at first. The sleepers are those of the threads; slots are numbered from 0,
+    /// in the order of their threads.
     pub(crate) fn new(alloc: Global, sleepers: &[Sleeper]) -> Result<FreeSeats, AllocError> {
         let mut free = Vec::with_capacity(alloc, sleepers.len())?;
         let mut threads = Vec::new(alloc);
@@ -26,12 +27,12 @@ impl FreeSeats {
         Ok(FreeSeats { free, threads })
     }
 
-    /// How many seats there are, free or not.
+    /// Number of slots, free or not.
     pub(crate) fn seats(&self) -> usize {
         self.threads.len()
     }
 
-    /// The thread of the seat; the first one where there is no such seat.
+    /// The thread of the slot; the first one if there is no such slot.
     pub(crate) fn thread_of(&self, seat: usize) -> usize {
         match self.threads.get(seat) {
             Some(thread) => *thread,
@@ -39,23 +40,24 @@ impl FreeSeats {
         }
     }
 
-    /// The seat is free. It must not be told twice before it was taken: there is room for each seat once.
+    /// Marks a slot free; at most once until it is taken again, since the capacity is one place per
+    /// slot.
     pub(crate) fn add(&mut self, seat: usize) {
         let Some(thread) = self.threads.get(seat) else {
             return;
         };
         if let Some(seats) = self.free.get_mut(*thread) {
-            // There is room for all seats of the thread.
+            // Can't fail: there is capacity for all slots of the thread.
             let _ = seats.push(seat);
         }
     }
 
-    /// Whether no seat is free.
+    /// Whether no slot is free.
     pub(crate) fn is_empty(&self) -> bool {
         self.free.iter().all(|seats| seats.is_empty())
     }
 
-    /// Takes a free seat of the thread that has the most.
+    /// Takes a free slot of the thread with the most free slots.
     pub(crate) fn take(&mut self) -> Option<usize> {
         let mut most = 0;
         let mut found = None;

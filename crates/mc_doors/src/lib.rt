@@ -1,5 +1,6 @@
-//! Doors: where the lines of a seat come in, one at a time, and go back once they were served. A door over memory has one line;
-//! a door for streams has those that come in at its seat, as the sockets that a thread of its own accepts.
+//! Sources of connections for the slots. A door accepts one line at a time and takes it back once
+//! it was served. `OneDoor` has a single line in memory; `StreamDoor` has the streams of its slot,
+//! such as sockets from the accepting thread.
 #![tactic(auto)]
 
 mod arrivals;

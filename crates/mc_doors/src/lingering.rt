@@ -1,4 +1,4 @@
-//! A connection that is closed while its peer may still be sending.
+//! Closing a connection whose peer may still be sending.
 ghost use Rattle.std.specs.Prelude.{IfSome};
 ghost use Rattle.std.specs.Io.KnownBytes.{Keeps};
 
@@ -8,41 +8,42 @@ use std::io::ErrorKind;
 use std::time;
 use std::time::{Duration, Instant};
 
-/// Milliseconds that a connection waits at most, after its last write, for the end of its peer's bytes.
+/// Longest time in milliseconds to wait for the peer's end of input after the last write.
 const LINGER_MILLIS: u64 = 500;
 
-/// The most reads of its peer's bytes that are dropped.
+/// Maximum number of reads that are discarded.
 const LINGER_READS: u32 = 1_024;
 
-/// Reads at once, before other seats have their turn.
+/// Number of reads in one turn.
 const READS_AT_ONCE: u32 = 16;
 
-/// The most bytes that one read drops.
+/// Maximum number of bytes discarded by one read.
 const LINGER_BYTES: usize = 4_096;
 
-/// How a connection lingers on.
+/// The state of a lingering connection.
 #[derive(Clone, Copy)]
 pub(crate) enum Lingers {
-    /// There is more to drop at once.
+    /// More may be discarded at once.
     More,
-    /// Nothing has come.
+    /// Nothing is pending.
     Waits,
-    /// It has waited long enough, or its peer has ended or failed.
+    /// The time is over, or the peer has closed or failed.
     Over,
 }
 
-/// A connection whose output was ended, and of which what comes is dropped for a while: to close with bytes unread would reset
-/// the connection, and the peer could lose the last reply (RFC 1122, section 4.2.2.13). Nothing is written to it.
+/// A connection with its output shut down, whose input is discarded for a while. Closing with
+/// unread bytes would reset it, and the peer could lose the last reply (RFC 1122, section
+/// 4.2.2.13). Nothing is written to it.
 pub(crate) struct Lingering<S> {
     stream: S,
-    /// Reads of it that may still be dropped.
+    /// Number of reads that may still be discarded.
     reads: u32,
-    /// It lingers no longer.
+    /// Deadline of lingering.
     until: Instant,
 }
 
 impl<S: Drop> Drop for Lingering<S> {
-    /// By hand, so that to let one go is one call for whoever holds it (docs/DECISIONS.md).
+    /// Written by hand, so that its owners drop it by a single call (docs/DECISIONS.md, F20).
     fn drop(self) {
         let Lingering {
             stream: _stream,
@@ -53,7 +54,7 @@ impl<S: Drop> Drop for Lingering<S> {
 }
 
 impl<S: Stream + Drop> Lingering<S> {
-    /// Ends the output of the stream, which is closed at once where that fails.
+    /// Shuts down the output of the stream. If this fails, the stream is closed at once.
     pub(crate) fn begin<R: time::Clock>(rt: &R, stream: S) -> Option<Lingering<S>>
         ensures { IfSome result (λ now. Keeps (S.contents stream) (S.contents now.stream)) }
     {
@@ -68,7 +69,7 @@ impl<S: Stream + Drop> Lingering<S> {
         })
     }
 
-    /// Drops what has come.
+    /// Discards pending input.
     pub(crate) fn go_on<R: time::Clock>(&mut self, rt: &R) -> Lingers
         ensures { Keeps (S.contents self.old.stream) (S.contents self.new.stream) }
     {
@@ -87,7 +88,7 @@ impl<S: Stream + Drop> Lingering<S> {
         Lingers::More
     }
 
-    /// Whether there is time left to wait for more.
+    /// `Waits` before the deadline, `Over` after it.
     fn wait<R: time::Clock>(&self, rt: &R) -> Lingers {
         match Instant::now(rt) {
             Ok(now) if now < self.until => Lingers::Waits,

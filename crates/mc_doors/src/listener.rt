@@ -1,4 +1,4 @@
-//! Where connections are accepted: at an address of TCP, or at a path.
+//! Listening sockets: a TCP address, or a path of a Unix socket.
 use crate::socket::Socket;
 use mc_wake::Wakers;
 use mio::net::{TcpListener, UnixListener, UnixStream};
@@ -8,7 +8,7 @@ use std::net::{Ipv4Addr, Net, SocketAddr, SocketAddrV4};
 use std::os::unix::fs::{FileTypeExt, PermissionsExt};
 use std::{fs, io, net};
 
-/// Accepts connections, and doesn't wait for one.
+/// A non-blocking listening socket.
 #[derive(Drop)]
 pub enum Listener {
     Tcp(TcpListener),
@@ -16,14 +16,15 @@ pub enum Listener {
 }
 
 impl Listener {
-    /// Listens at the address. As many connections as the system allows may wait to be accepted (net.core.somaxconn).
+    /// Listens at the TCP address. The backlog is as long as the system allows
+    /// (net.core.somaxconn).
     pub fn at(net: &impl Net, address: SocketAddr) -> io::Result<Listener> {
         Ok(Listener::Tcp(TcpListener::bind(net, address)?))
     }
 
-    /// Listens at the path of a Unix socket, to which those may connect whom the mode lets write. A socket that is there already is
-    /// replaced if nobody listens at it; else the path is in use, as one is where another file is. Until the mode is set, for a
-    /// moment, it is that of the process's mask.
+    /// Listens at the path of a Unix socket, with this file mode. A stale socket is replaced if
+    /// nobody listens at it; any other existing file is an error. Until the mode is set, the
+    /// process's umask applies.
     pub fn at_path<R: Files + Net>(rt: &R, path: &str, mode: u32) -> io::Result<Listener> {
         if path.is_empty() {
             return Err(io::Error::from(ErrorKind::InvalidInput));
@@ -34,13 +35,13 @@ impl Listener {
         Ok(Listener::Unix(listener))
     }
 
-    /// The same listener, of which an `accept` doesn't wait from now on.
+    /// Makes the listener non-blocking.
     pub fn of(listener: net::TcpListener) -> io::Result<Listener> {
         listener.set_nonblocking(true)?;
         Ok(Listener::Tcp(TcpListener::from_std(listener)))
     }
 
-    /// Its address; none where it listens at a path.
+    /// Its TCP address; `None` for a path.
     pub fn address(&self) -> Option<SocketAddr> {
         match self {
             Listener::Tcp(listener) => listener.local_addr().ok(),
@@ -48,7 +49,7 @@ impl Listener {
         }
     }
 
-    /// Has the thread of this place roused where a connection comes.
+    /// Registers the listener with the thread's poll, as number `place`.
     pub(crate) fn register(&mut self, wakers: &Wakers, place: usize) -> io::Result<()> {
         match self {
             Listener::Tcp(listener) => wakers.register(place, listener),
@@ -56,7 +57,8 @@ impl Listener {
         }
     }
 
-    /// The next connection, and whose it is: of a Unix socket's clients nothing is known. `WouldBlock` where none has come.
+    /// Accepts the next connection, with its client's address; a placeholder for Unix sockets.
+    /// `WouldBlock` if none is pending.
     pub(crate) fn accept(&self) -> io::Result<(Socket, SocketAddr)> {
         match self {
             Listener::Tcp(listener) => {
@@ -71,12 +73,12 @@ impl Listener {
     }
 }
 
-/// The address of a client that has none.
+/// The placeholder for a client without an address.
 fn nowhere() -> SocketAddr {
     SocketAddr::V4(SocketAddrV4::new(Ipv4Addr::UNSPECIFIED, 0))
 }
 
-/// Removes a socket at which nobody listens any more.
+/// Removes a stale socket file at which nobody listens.
 fn remove_stale<R: Files + Net>(rt: &R, path: &str) -> io::Result<()> {
     match fs::symlink_metadata(rt, path) {
         Ok(known) if known.file_type().is_socket() => {}

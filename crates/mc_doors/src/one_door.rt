@@ -1,4 +1,4 @@
-//! A door over memory that lets in one line, and keeps it once it was served.
+//! A door in memory for a single line, which it keeps after it was served.
 ghost use Rattle.std.specs.Prelude.{◌≡◌, IfSome};
 ghost use Rattle.mc_doors.specs.One.{IsBack, told_of, waits};
 
@@ -6,17 +6,17 @@ use crate::door::{Arrival, Door};
 use mc_seat::Line;
 use std::snapshot::Snapshot;
 
-/// A line as it came back.
+/// A served line with its result.
 #[derive(Drop)]
 pub struct ServedLine<L> {
     pub line: L,
-    /// How many commands it took.
+    /// Number of commands.
     pub commands: u64,
-    /// Whether it has failed.
+    /// Whether it failed.
     pub broke: bool,
 }
 
-/// A line that was served, and how it was seen when it came in.
+/// A served line, and its history when it was accepted.
 #[derive(Drop)]
 pub struct ReturnedLine<L> {
     begin: Snapshot<L>,
@@ -32,19 +32,19 @@ impl<L: Drop> ReturnedLine<L> {
     }
 }
 
-/// A door for one line: it waits, is out, or came back.
+/// A door for one line, which waits, is being served, or was returned.
 #[derive(Drop)]
 pub struct OneDoor<L> {
     waits: Option<L>,
-    /// The line that is out, as it was seen when it came in.
+    /// The line being served, in the state in which it was accepted.
     out: Option<Snapshot<L>>,
     back: Option<ReturnedLine<L>>,
-    /// It has said that no more lines come.
+    /// `accept` has returned `Over`.
     over: bool,
 }
 
 impl<L: Line + Drop> OneDoor<L> {
-    /// The line comes in by it.
+    /// A door with this line.
     pub fn new(line: L) -> OneDoor<L>
         ensures { told_of (λ line. L.sight line) result ≡
             waits (L.sight line) }

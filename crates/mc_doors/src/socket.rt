@@ -1,4 +1,4 @@
-//! Connections that the system's sockets are, over TCP or a Unix socket.
+//! TCP and Unix sockets as streams.
 ghost use Rattle.std.specs.Io.{ReadsAtMost};
 
 use crate::stream::Stream;
@@ -10,7 +10,7 @@ use std::io::{IoSlice, Read, Write};
 use std::net::Shutdown;
 use std::os::fd::AsRawFd;
 
-/// A connection that waits for nothing: `WouldBlock` is answered where it would.
+/// A non-blocking socket: operations that would block return `WouldBlock`.
 #[derive(Drop)]
 pub enum Socket {
     Tcp(TcpStream),
@@ -18,8 +18,8 @@ pub enum Socket {
 }
 
 impl Socket {
-    /// Has what is written to it go out at once (TCP_NODELAY), and the system find out where its client has vanished. Where the
-    /// first fails replies are only later. A Unix socket does both.
+    /// Sets TCP_NODELAY and keep-alive. If TCP_NODELAY fails, replies are only delayed. Unix
+    /// sockets need neither.
     pub(crate) fn prepare(&self) {
         if let Socket::Tcp(stream) = self {
             let _ = stream.set_nodelay(true);
@@ -27,7 +27,7 @@ impl Socket {
         }
     }
 
-    /// Has the seat roused whenever the socket has something.
+    /// Registers the socket with the poll of the slot's thread.
     pub(crate) fn register(&mut self, wakers: &Wakers, seat: usize) -> io::Result<()> {
         match self {
             Socket::Tcp(stream) => wakers.register(seat, stream),
@@ -36,14 +36,14 @@ impl Socket {
     }
 }
 
-/// Has the system ask the peer now and then whether it is still there, while nothing is sent (SO_KEEPALIVE, socket(7); how often,
-/// tcp(7) says). Where this fails, a connection whose client has vanished stays.
+/// Sets SO_KEEPALIVE (socket(7); intervals in tcp(7)), so that vanished clients are detected. If
+/// this fails, such a connection stays open.
 fn keep_alive(stream: &TcpStream) {
     let on = [1u8, 0, 0, 0, 0, 0, 0, 0, 0, 0, 0, 0, 0, 0, 0, 0];
     let _ = unsafe { setsockopt(stream.as_raw_fd(), SOL_SOCKET, SO_KEEPALIVE, &on, 4) };
 }
 
-/// Each is one system call: of the socket's bytes nothing is known.
+/// Each method is one system call. Contracts know nothing about the socket's bytes.
 impl Stream for Socket {
     fn read(&mut self, room: &mut [u8]) -> io::Result<usize> {
         match self {
@@ -66,9 +66,10 @@ impl Stream for Socket {
         }
     }
 
-    /// One system call writes the first four buffers that are not empty.
+    /// Writes the first four nonempty buffers by one system call.
     fn write_vectored(&mut self, bufs: &[IoSlice<'_>]) -> io::Result<usize> {
-        // The streams' own methods: that of `Write` is a call for each buffer.
+        // The methods of the stream types themselves: the default of `Write` makes a call for each
+        // buffer.
         match self {
             Socket::Tcp(stream) => TcpStream::write_vectored(stream, bufs),
             Socket::Unix(stream) => UnixStream::write_vectored(stream, bufs),
@@ -83,7 +84,8 @@ impl Stream for Socket {
     }
 }
 
-/// Puts the bytes that come next into the front of the room (recv(2)): the stream has no method of its own for this.
+/// Copies the next bytes to the front of `room` without consuming them (recv(2) with MSG_PEEK),
+/// since `UnixStream` has no such method.
 fn peek_unix(stream: &UnixStream, room: &mut [u8]) -> io::Result<usize>
     ensures { ReadsAtMost result room.new }
 {

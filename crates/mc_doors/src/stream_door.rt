@@ -1,4 +1,4 @@
-//! The door of one seat, by which streams come in.
+//! The door of one slot for streams.
 ghost use Rattle.std.specs.Prelude.{◌≡◌, ◌^◌, ◌-◌, length, min};
 ghost use Rattle.mc_doors.specs.Arrivals.{CameWary, KeepsContents};
 ghost use Rattle.mc_doors.specs.Tcp.{new_door, sight_of, told_door};
@@ -13,7 +13,8 @@ use http_server::Log;
 use std::snapshot::Snapshot;
 use std::time;
 
-/// A connection that was served and closed, as contracts see it: what it was when it came in, and just before it was closed.
+/// A served and closed connection, as contracts see it: its state when it was accepted, and just
+/// before it was closed.
 #[derive(Drop)]
 pub struct ClosedConnection<S: Stream> {
     begin: Snapshot<TcpLine<S>>,
@@ -22,30 +23,30 @@ pub struct ClosedConnection<S: Stream> {
     broke: bool,
 }
 
-/// Lets in the streams of one seat as lines, and closes them. It keeps none of them: contracts alone see the list of those that are
-/// gone.
+/// Accepts the streams of one slot as lines, and closes them after they were served. Contracts see
+/// the list of closed ones; at run time none is kept.
 pub struct StreamDoor<R, A: Arrivals> {
     rt: R,
     arrivals: A,
-    /// Connections that begin as another protocol's are closed: so it is by memcached's rules.
+    /// Whether connections of other protocols are detected and closed, as by memcached's rules.
     is_wary: bool,
-    /// The last stream, while it waits for the end of its peer's bytes.
+    /// The last stream, while it waits for its peer's end of input.
     lingering: Option<Lingering<A::Stream>>,
-    /// The connection that came in and did not go back yet, as it was then.
+    /// The line being served, in the state in which it was accepted.
     out: Option<Snapshot<TcpLine<A::Stream>>>,
-    /// Those that went back.
+    /// The closed connections.
     pub gone: Log<ClosedConnection<A::Stream>, ()>,
-    /// It has said that no more connections come.
+    /// `accept` has returned `Over`.
     is_over: bool,
-    /// How many of its connections have ended, a count that stays at its greatest value.
+    /// Number of ended connections; it saturates.
     pub ended: u64,
-    /// Whether it could accept no more, though more connections may come.
+    /// Whether a fault prevents further accepts, though more connections may come.
     pub failed: bool,
     ghost counted: { ended ≡ min (length gone.items) (2 ^ 64 - 1) },
 }
 
 impl<R: Drop, A: Arrivals + Drop> Drop for StreamDoor<R, A> {
-    /// By hand, so that to let one go is one call for whoever holds it (docs/DECISIONS.md).
+    /// Written by hand, so that its owners drop it by a single call (docs/DECISIONS.md, F20).
     fn drop(self) {
         let StreamDoor {
             rt: _rt,
@@ -62,7 +63,8 @@ impl<R: Drop, A: Arrivals + Drop> Drop for StreamDoor<R, A> {
 }
 
 impl<R: time::Clock, A: Arrivals> StreamDoor<R, A> {
-    /// No connection has come in yet. The clock of `rt` bounds how long a connection lingers.
+    /// A door that has accepted nothing yet. The clock of `rt` limits how long a connection
+    /// lingers.
     pub fn new(rt: R, arrivals: A, is_wary: bool) -> StreamDoor<R, A>
         ensures wary { result.is_wary ≡ is_wary }
         ensures told { told_door (A.coming result.arrivals) result.out result.gone.items
@@ -83,7 +85,7 @@ impl<R: time::Clock, A: Arrivals> StreamDoor<R, A> {
     }
 }
 
-/// Whether the last stream still waits for the end of its peer's bytes.
+/// Whether the last stream still waits for its peer's end of input.
 fn lingers<R: time::Clock, A: Arrivals>(
     rt: &R,
     arrivals: &A,
@@ -115,7 +117,7 @@ impl<R: time::Clock, A: Arrivals> Door for StreamDoor<R, A> {
             self.old.is_over)
             (told_door (A.coming self.new.arrivals) self.new.out self.new.gone.items
             self.new.is_over) }
-        // By memcached's rules it is wary.
+        // By memcached's rules other protocols are detected.
         ensures wary { CameWary self.old.is_wary result }
     {
         if lingers(&self.rt, &self.arrivals, &mut self.lingering) {
@@ -147,7 +149,7 @@ impl<R: time::Clock, A: Arrivals> Door for StreamDoor<R, A> {
             took_back (sight_of line) commands broke
             (told_door (A.coming self.old.arrivals) self.old.out self.old.gone.items
             self.old.is_over) }
-        // Nothing is written to its stream any more.
+        // Nothing more is written to its stream.
         ensures kept { KeepsContents A.Stream.contents line.tap.stream self.new.lingering }
     {
         if let Some(begin) = self.out.take() {

@@ -1,4 +1,4 @@
-//! A stream of which every byte is noted.
+//! A stream with the history of its bytes.
 ghost use Rattle.std.specs.Prelude.{◌≡◌, ◌<◌, ◌++◌, [], false, true, IfOk, OnErr, length, take};
 ghost use Rattle.std.specs.Io.{ReadsAtMost, WritesAtMost};
 ghost use Rattle.std.specs.Io.KnownBytes.{Appends, Consumes, Keeps};
@@ -14,12 +14,12 @@ use std::io;
 use std::io::{ErrorKind, IoSlice};
 use std::snapshot::Snapshot;
 
-/// A stream since it came in. What was read from it and written to it since then is noted for contracts, and it is nothing else:
-/// whoever holds it can reach the stream by its methods alone.
+/// A stream, and the bytes read from and written to it since it was accepted, which only contracts
+/// see. The stream is reachable by these methods alone.
 #[derive(Drop)]
 pub(crate) struct Tap<S: Stream> {
     stream: S,
-    /// The stream as it came in.
+    /// The stream in the state in which it was accepted.
     begin: Snapshot<S>,
     pub(crate) given: Trail,
     pub(crate) taken: Trail,
@@ -28,7 +28,7 @@ pub(crate) struct Tap<S: Stream> {
 }
 
 impl<S: Stream> Tap<S> {
-    /// The stream has just come in.
+    /// A stream that was just accepted.
     pub(crate) fn new(stream: S) -> Tap<S>
         ensures stream { result.stream ≡ stream }
         ensures begin { result.begin.value ≡ stream }
@@ -43,8 +43,8 @@ impl<S: Stream> Tap<S> {
         }
     }
 
-    /// Reads, again where a signal interrupts it. Where it is wary, and what comes first is another protocol's, it reads nothing, and
-    /// that is the manner in which it ends.
+    /// Reads, and retries if a signal interrupts (EINTR). With `wary`, if the first bytes are
+    /// another protocol's, it reads nothing and sets `manner` to the reason to end.
     pub(crate) fn read(
         &mut self,
         room: &mut [u8],
@@ -76,7 +76,7 @@ impl<S: Stream> Tap<S> {
         Ok(count)
     }
 
-    /// Writes, again where a signal interrupts it.
+    /// Writes, and retries if a signal interrupts (EINTR).
     pub(crate) fn write(&mut self, bytes: &[u8]) -> io::Result<usize>
         ensures bound { WritesAtMost result bytes.now }
         ensures begin { self.new.begin ≡ self.old.begin }
@@ -95,7 +95,7 @@ impl<S: Stream> Tap<S> {
         Ok(count)
     }
 
-    /// The same of the bytes of all the buffers, one after another.
+    /// Writes several buffers, and retries if a signal interrupts (EINTR).
     pub(crate) fn write_vectored(&mut self, bufs: &[IoSlice<'_>]) -> io::Result<usize>
         ensures bound { WritesAtMost result (io_slices_bytes bufs.now) }
         ensures begin { self.new.begin ≡ self.old.begin }
@@ -116,7 +116,7 @@ impl<S: Stream> Tap<S> {
 }
 
 impl<S: Stream + Drop> Tap<S> {
-    /// The stream as it is.
+    /// The stream in its current state.
     pub(crate) fn into_stream(self) -> S
         ensures { result ≡ self.stream }
     {
@@ -130,7 +130,7 @@ impl<S: Stream + Drop> Tap<S> {
     }
 }
 
-/// Reads, again where a signal interrupts it.
+/// Reads, and retries if a signal interrupts (EINTR).
 pub(crate) fn read_some<S: Stream>(stream: &mut S, room: &mut [u8]) -> io::Result<usize>
     ensures bound { ReadsAtMost result room.new }
     ensures same { length room.new ≡ length room.old }
@@ -149,7 +149,7 @@ pub(crate) fn read_some<S: Stream>(stream: &mut S, room: &mut [u8]) -> io::Resul
     Err(io::Error::from(ErrorKind::Interrupted))
 }
 
-/// Looks at the bytes that come next, again where a signal interrupts it.
+/// Peeks, and retries if a signal interrupts (EINTR).
 fn peek_some<S: Stream>(stream: &S, room: &mut [u8]) -> io::Result<usize>
     ensures bound { ReadsAtMost result room.new }
     ensures same { length room.new ≡ length room.old }
@@ -164,7 +164,8 @@ fn peek_some<S: Stream>(stream: &S, room: &mut [u8]) -> io::Result<usize>
     Err(io::Error::from(ErrorKind::Interrupted))
 }
 
-/// Reads what comes first: nothing, and all of it is left, where it is another protocol's, which is the reason then.
+/// Reads the first bytes. If they are another protocol's, it reads nothing and sets `manner` to the
+/// reason.
 fn read_first<S: Stream>(stream: &mut S, room: &mut [u8], manner: &mut Manner) -> io::Result<usize>
     ensures bound { ReadsAtMost result room.new }
     ensures same { length room.new ≡ length room.old }
@@ -184,7 +185,7 @@ fn read_first<S: Stream>(stream: &mut S, room: &mut [u8], manner: &mut Manner) -
     read_some(stream, room)
 }
 
-/// Writes, again where a signal interrupts it.
+/// Writes, and retries if a signal interrupts (EINTR).
 fn write_some<S: Stream>(stream: &mut S, bytes: &[u8]) -> io::Result<usize>
     ensures bound { WritesAtMost result bytes.now }
     ensures ok { IfOk result (λ count.
@@ -201,7 +202,7 @@ fn write_some<S: Stream>(stream: &mut S, bytes: &[u8]) -> io::Result<usize>
     Err(io::Error::from(ErrorKind::Interrupted))
 }
 
-/// The same of the bytes of all the buffers, one after another.
+/// Writes several buffers, and retries if a signal interrupts (EINTR).
 fn write_some_of<S: Stream>(stream: &mut S, bufs: &[IoSlice<'_>]) -> io::Result<usize>
     ensures bound { WritesAtMost result (io_slices_bytes bufs.now) }
     ensures ok { IfOk result (λ count.

@@ -17,36 +17,36 @@ use mc_wire::{OutFault, Outlet};
 use std::io::{ErrorKind, IoSlice};
 use std::{io, thread};
 
-/// The end of the last reply to a line that is too long, after which the connection is closed.
+/// The reply to a line beyond the line limit, after which the connection is closed.
 const TOO_LONG: &[u8] = b"CLIENT_ERROR line too long\r\n";
 
-/// A stream of bytes in both directions, as a TCP connection. It tells each byte that its own reads gave and its own writes
-/// took, to contracts alone.
+/// A connection over a stream. Its history of all bytes read and written is visible to contracts
+/// alone.
 pub struct TcpLine<S: Stream> {
     pub(crate) tap: Tap<S>,
-    /// A poll reports when the stream has something new: it is `rouse`d then, and not asked again before.
+    /// Whether a poll reports events of the stream. If so, it is only used after an event.
     is_polled: bool,
-    /// The stream may have bytes to give.
+    /// The stream may be readable.
     may_read: bool,
-    /// The stream may take bytes.
+    /// The stream may be writable.
     may_write: bool,
-    /// A read that doesn't fill its room doesn't tell that nothing is left.
+    /// Input has ended, failed or is urgent, so a short read doesn't mean that nothing is left.
     is_closing: bool,
-    /// Nothing was read yet, and first bytes that are another protocol's are its end.
+    /// Nothing was read yet, and first bytes of another protocol end the connection.
     wary: bool,
-    /// No command is taken any more, though its input has not ended.
+    /// No command is parsed any more, though the input has not ended.
     is_over: bool,
     failed: bool,
-    /// The last read found the end of the input.
+    /// The last read returned the end of input.
     ended: bool,
-    /// What was given and taken before each read.
+    /// The bytes read and written before each read.
     reads: Log<Trail, Trail>,
-    /// What it measures of itself.
+    /// The connection's meter.
     meter: Meter,
 }
 
 impl<S: Stream + Drop> Drop for TcpLine<S> {
-    /// By hand, so that to let one go is one call for whoever holds it (docs/DECISIONS.md).
+    /// Written by hand, so that its owners drop it by a single call (docs/DECISIONS.md, F20).
     fn drop(self) {
         let TcpLine {
             tap: _tap,
@@ -65,7 +65,8 @@ impl<S: Stream + Drop> Drop for TcpLine<S> {
 }
 
 impl<S: Stream> TcpLine<S> {
-    /// The stream as a line that is asked anew at each call: nothing was read of it, nor written to it. It serves whatever comes.
+    /// A line whose stream is tried at each call; nothing was read or written yet. It accepts any
+    /// protocol.
     pub fn new(stream: S) -> TcpLine<S>
         ensures stream { result.tap.stream ≡ stream }
         ensures new { sight_of result ≡ new_line (S.remaining stream) (S.contents stream) }
@@ -86,8 +87,9 @@ impl<S: Stream> TcpLine<S> {
         }
     }
 
-    /// The same of a stream that may be registered with a poll, which reports when it is ready, and so it does at first. It fails
-    /// once the meter finds it idle. Where it is wary, first bytes that are another protocol's are its end, and are left unread.
+    /// A line with a meter, and with a poll that reports its events, if `is_polled`; it counts as
+    /// ready at first. It fails once the meter reports it idle. With `wary`, first bytes of another
+    /// protocol end the connection and are left unread.
     pub fn begin(stream: S, meter: Meter, is_polled: bool, wary: bool) -> TcpLine<S>
         ensures stream { result.tap.stream ≡ stream }
         ensures new { sight_of result ≡ new_line (S.remaining stream) (S.contents stream) }
@@ -101,12 +103,12 @@ impl<S: Stream> TcpLine<S> {
         line
     }
 
-    /// What it has measured of itself.
+    /// The connection's meter.
     pub(crate) fn meter(&self) -> &Meter {
         &self.meter
     }
 
-    /// It has failed, for that reason.
+    /// Marks the connection as failed for this reason.
     fn fail(&mut self, manner: Manner)
         ensures sight { sight_of self.new ≡ broke (sight_of self.old) }
         ensures tap { self.new.tap ≡ self.old.tap }
@@ -115,7 +117,8 @@ impl<S: Stream> TcpLine<S> {
         self.meter.note_end(manner);
     }
 
-    /// Whether it ends now, though nothing has failed: it was idle for too long, or the server cuts its connections off.
+    /// Whether the connection ends now without an error: it exceeded the idle timeout, or the
+    /// server cuts connections off.
     fn lapses(&mut self, may_move: bool) -> bool
         ensures sight { sight_of self.new ≡ sight_of self.old }
         ensures tap { self.new.tap ≡ self.old.tap }
@@ -132,7 +135,8 @@ impl<S: Stream> TcpLine<S> {
         false
     }
 
-    /// Notes what is written once no command is taken any more: whether that is for a line that is too long.
+    /// Notes the output after the last command: whether it is the reply to a line beyond the line
+    /// limit.
     fn note_last(&mut self, bytes: &[u8])
         ensures sight { sight_of self.new ≡ sight_of self.old }
         ensures tap { self.new.tap ≡ self.old.tap }
@@ -143,7 +147,7 @@ impl<S: Stream> TcpLine<S> {
         }
     }
 
-    /// It is asked for bytes.
+    /// Records that a read is tried.
     fn ask(&mut self)
         ensures sight { sight_of self.new ≡ asked (sight_of self.old) }
         ensures stream { self.new.tap.stream ≡ self.old.tap.stream }
@@ -152,7 +156,8 @@ impl<S: Stream> TcpLine<S> {
         self.reads = self.reads.and(&self.tap.given, &self.tap.taken);
     }
 
-    /// Notes that a read gave `count` bytes, for which there was this room. Where there are none it has ended, for that reason.
+    /// Records that a read into a buffer of `room` bytes returned `count` bytes. At 0 the input has
+    /// ended for this reason.
     fn give(&mut self, count: usize, room: usize, manner: Manner)
         ensures given { self.new.ended ≡ (count == 0) }
         ensures tap { self.new.tap ≡ self.old.tap }
@@ -167,12 +172,12 @@ impl<S: Stream> TcpLine<S> {
         if self.ended {
             self.meter.note_end(manner);
         }
-        // A read that doesn't fill its room leaves nothing, unless the end or urgent bytes come after it.
+        // A short read leaves nothing behind, unless the end or urgent bytes follow.
         self.may_read = !self.is_polled || self.is_closing || self.ended || count == room;
     }
 
-    /// What a write of some bytes came to: how many of them the stream took, none where it would wait. A line whose stream takes
-    /// none otherwise has failed.
+    /// The result of a write: number of bytes written, 0 if it would block. If the stream otherwise
+    /// accepts nothing, the line has failed.
     fn after_write(&mut self, done: io::Result<usize>) -> Result<usize, OutFault>
         ensures told { TellsWrite done result }
         ensures ok { IfOk result (λ _. sight_of self.new ≡ sight_of self.old) }
@@ -197,8 +202,8 @@ impl<S: Stream> TcpLine<S> {
 }
 
 impl<S: Stream + Drop> TcpLine<S> {
-    /// The stream, if it can be read from and written to: its input has not ended, and it has not failed or been given up, but for
-    /// the server's end.
+    /// The stream, if it is still usable: its input has not ended, and it has neither failed nor been
+    /// given up, except by the server's shutdown.
     pub(crate) fn into_open(self, given_up: bool) -> Option<S>
         ensures { IfSome result (λ stream. stream ≡ self.tap.stream) }
     {
@@ -223,7 +228,7 @@ impl<S: Stream + Drop> TcpLine<S> {
     }
 }
 
-/// The bytes of the last buffer that isn't empty.
+/// The bytes of the last nonempty buffer.
 fn last_filled<'a>(bufs: &[IoSlice<'a>]) -> &'a [u8] {
     for buf in bufs.iter().rev() {
         let bytes = buf.as_slice();
@@ -234,7 +239,7 @@ fn last_filled<'a>(bufs: &[IoSlice<'a>]) -> &'a [u8] {
     &[]
 }
 
-/// Why a line ends of which a read failed: where nothing came, the server is to end.
+/// The reason of an end by a failed read: `WouldBlock` means that the server shuts down.
 fn failed_read(fault: &io::Error) -> Manner {
     match fault.kind() {
         ErrorKind::WouldBlock => Manner::Shutdown,
@@ -242,7 +247,7 @@ fn failed_read(fault: &io::Error) -> Manner {
     }
 }
 
-/// Whether no buffer has a byte.
+/// Whether all buffers are empty.
 fn are_empty(bufs: &[IoSlice<'_>]) -> bool {
     bufs.iter().all(|buf| buf.as_slice().is_empty())
 }
@@ -256,7 +261,7 @@ impl<S: Stream> Outlet for TcpLine<S> {
         ensures ok { IfOk result
             (λ count. sight_of self.new ≡ took (take count bytes.now) (sight_of self.old)) }
         ensures err { OnErr result (sight_of self.new ≡ broke (sight_of self.old)) }
-        // Just the bytes that it says went to the stream.
+        // Exactly the bytes reported were written to the stream.
         ensures stream { WritesStream bytes.now result (S.contents self.old.tap.stream)
             (S.contents self.new.tap.stream) }
     {
@@ -277,7 +282,7 @@ impl<S: Stream> Line for TcpLine<S> {
     fn read(&mut self, room: &mut [u8]) -> Result<usize, LineFault>
         ensures within { IfOk result (λ count. count ≤ length room.old) }
         ensures read { ReadsIntoRoom room.new result (sight_of self.old) (sight_of self.new) }
-        // Just the bytes that it says came from the stream.
+        // Exactly the bytes reported were read from the stream.
         ensures stream { IfOk result (λ count.
             Consumes (S.remaining self.old.tap.stream) (S.remaining self.new.tap.stream)
             (take count room.new)) }
@@ -299,11 +304,11 @@ impl<S: Stream> Line for TcpLine<S> {
     fn read_if_ready(&mut self, room: &mut [u8]) -> Result<Option<usize>, LineFault>
         ensures within { IfOk result (λ given. IfSome given (λ count. count ≤ length room.old)) }
         ensures read { ReadsIfReady room.new result (sight_of self.old) (sight_of self.new) }
-        // Just the bytes that it says came from the stream.
+        // Exactly the bytes reported were read from the stream.
         ensures stream { ReadsStream room.new result (S.remaining self.old.tap.stream)
             (S.remaining self.new.tap.stream) }
-        // It reads as ended just where nothing is left, or it is wary and first bytes come that are another protocol's. After a read it
-        // is wary no more.
+        // The result is the end of input exactly if nothing is left, or if first bytes of another
+        // protocol are detected. Detection is over after a read.
         ensures end { 0 < length room.old →
             IfOk result
             (λ given. IfSome given (EndsWhere self.old.wary (S.remaining self.old.tap.stream))) }
@@ -320,7 +325,7 @@ impl<S: Stream> Line for TcpLine<S> {
         if !self.may_read && !drains {
             return Ok(None);
         }
-        // What was given and taken before the read, in case that it is one.
+        // The bytes read and written before this read, if it is one.
         let reads = self.reads.and(&self.tap.given, &self.tap.taken);
         let mut manner = Manner::ByClient;
         match self.tap.read(room, self.wary, &mut manner) {
@@ -346,7 +351,7 @@ impl<S: Stream> Line for TcpLine<S> {
         ensures ok { IfOk result
             (λ count. sight_of self.new ≡ took (take count bytes.now) (sight_of self.old)) }
         ensures err { OnErr result (sight_of self.new ≡ broke (sight_of self.old)) }
-        // Just the bytes that it says went to the stream.
+        // Exactly the bytes reported were written to the stream.
         ensures stream { WritesStream bytes.now result (S.contents self.old.tap.stream)
             (S.contents self.new.tap.stream) }
     {
@@ -370,7 +375,7 @@ impl<S: Stream> Line for TcpLine<S> {
         ensures ok { IfOk result (λ count.
             sight_of self.new ≡ took (take count (io_slices_bytes bufs.now)) (sight_of self.old)) }
         ensures err { OnErr result (sight_of self.new ≡ broke (sight_of self.old)) }
-        // Just the bytes that it says went to the stream.
+        // Exactly the bytes reported were written to the stream.
         ensures stream { WritesStream (io_slices_bytes bufs.now) result
             (S.contents self.old.tap.stream) (S.contents self.new.tap.stream) }
     {

@@ -1,4 +1,4 @@
-//! Bytes that only proofs read.
+//! Ghost histories of bytes.
 ghost use Rattle.std.specs.Prelude.{◌≡◌, ◌++◌, [], take};
 ghost use Rattle.std.specs.Io.Slices.{io_slices_bytes};
 
@@ -6,7 +6,8 @@ use http_server::Log;
 use std::io::IoSlice;
 use std::marker::Model;
 
-/// The bytes that went one way over a connection. It keeps none of them and takes no memory: contracts alone see the list.
+/// The bytes that went in one direction of a connection, as contracts see them. It stores nothing
+/// and takes no memory.
 #[derive(Drop)]
 pub struct Trail {
     log: Log<u8, ()>,
@@ -21,14 +22,14 @@ impl Model for Trail {
 }
 
 impl Trail {
-    /// No bytes.
+    /// The empty history.
     pub fn new() -> Trail
         ensures { result ≡ [] }
     {
         Trail { log: Log::new() }
     }
 
-    /// And then these.
+    /// Appends these bytes.
     pub fn add(&mut self, bytes: &[u8])
         ensures { self.new ≡ self.old ++ bytes.now }
     {
@@ -37,7 +38,7 @@ impl Trail {
         }
     }
 
-    /// And then the first `count` bytes of all the buffers.
+    /// Appends the first `count` bytes of the concatenated buffers.
     pub fn add_first(&mut self, bufs: &[IoSlice<'_>], count: usize)
         ensures { self.new ≡ self.old ++ take count (io_slices_bytes bufs.now) }
     {

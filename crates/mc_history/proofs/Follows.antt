@@ -65,7 +65,7 @@ unopened_parts sizes history lawful = holds_of_all sizes NothingFrom (nothing_ke
 pub unopened_part : (sizes : Sizes) (history : List Event) → IsHistory sizes history → own_part (Connection (length (seats_in history))) history ≡ []
 unopened_part sizes history lawful = unopened_parts sizes history lawful (length (seats_in history)) (omega arith)
 
--- A piece that is due by what was seen is due, at the same place, by all that happened.
+-- A piece that is due after the events seen is due, at its index, after all events.
 pub due_stays : (shards s k n : ℕ) (seen history : List Event) (piece : Piece) → Lengthens seen history → slice_get (due shards s (taken_in k seen)) n ≡ Some piece → slice_get (due shards s (taken_in k history)) n ≡ Some piece
 due_stays shards s k n seen history piece more next =
     let taken = lengthens_picked (taken_of k) seen history more in
@@ -84,7 +84,8 @@ due_later sizes seen history s k piece more same next =
     ap (λ i. slice_get (due sizes.shards s (taken_in k history)) i) count
     ∙ due_stays sizes.shards s k (length (on_shard s (of_asker k (ran_in seen)))) seen history piece more next
 
--- Of an event that is the token's own: if it may follow what the token has seen, it may follow all that happened.
+-- Of an event that is the token's own: if it may follow what the token has seen, it may follow all that
+-- happened.
 pub may_later : (sizes : Sizes) (role : Role) (seen history : List Event) (event : Event) → is_own role event ≡ true → Lengthens seen history → own_part role history ≡ own_part role seen → MayFollow sizes seen event → MayFollow sizes history event
 may_later sizes role seen history (Opened seat) own more same may = may
 may_later sizes role seen history (Took connection command moment given_up) own more same may = (opened_later connection seen history more may.0, may.1)

@@ -26,7 +26,7 @@ use Rattle.mc_history.proofs.Follows.{holds_of_all, seats_push, unopened_parts}
 abbrev Begins : List Piece → List Piece → Type 0
 Begins some all = (rest : List Piece) × (some ++ rest ≡ all)
 
--- with the next piece of a list, what begins the list still does
+-- a prefix of a list with the next piece is a prefix too
 begins_next : (some all : List Piece) (piece : Piece) → Begins some all → slice_get all (length some) ≡ Some piece → Begins (some ++ piece ∷ []) all
 begins_next [] [] piece b next = absurd (cc)
 begins_next [] (p ∷ all) piece b next = (all, ap (λ q. q ∷ all) (sym (same_Some p piece next)))
@@ -34,7 +34,7 @@ begins_next (s ∷ some) [] piece b next = absurd (cc (b.1))
 begins_next (s ∷ some) (p ∷ all) piece b next =
     let rest = begins_next some all piece (b.0, cc (b.1)) next in (rest.0, cc (b.1, rest.1))
 
--- what begins a list begins a longer one
+-- a prefix of a list is a prefix of a longer one
 begins_longer : (some all more : List Piece) → Begins some all → Begins some (all ++ more)
 begins_longer some all more b = (b.0 ++ more, sym (append_assoc some b.0 more) ∙ ap (λ ps. ps ++ more) b.1)
 

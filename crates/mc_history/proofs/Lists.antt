@@ -6,11 +6,11 @@ use Rattle.std.proofs.lemmas.List.Elements.{filter-append}
 use Rattle.mc_model.specs.Grows.{Lengthens}
 use Rattle.mc_model.proofs.Growing.{further}
 
--- What begins a list begins it also where one element more comes behind it.
+-- A prefix of a list is also one after an element is appended.
 pub lengthens_push : {X : Type 0} (xs ys : List X) (y : X) → Lengthens xs ys → Lengthens xs (ys ++ y ∷ [])
 lengthens_push xs ys y more = further xs ys (ys ++ y ∷ []) more (y ∷ [], refl)
 
--- What is picked from a beginning begins what is picked from the whole.
+-- The elements picked from a prefix are a prefix of those picked from the whole list.
 pub lengthens_picked : {X Y : Type 0} (pick : X → List Y) (xs ys : List X) → Lengthens xs ys → Lengthens (flat_map pick xs) (flat_map pick ys)
 lengthens_picked pick xs ys more = (flat_map pick more.0, ap (λ zs. flat_map pick zs) more.1 ∙ flat_map-append pick xs more.0)
 

@@ -51,7 +51,7 @@ apart_connection (Shards from) past connection (Took number command moment given
 apart_connection (Connection k) past connection (Took number command moment given_up) begun is =
     ne_eqb number (length (seats_in past)) (λ same. let mine = eqb-true number k is in absurd (omega (arith, same, mine, begun)))
 
--- Whoever may act for a connection that was opened may not for the next one.
+-- A role that may act for a connection that was opened may not act for the next one.
 pub apart_new : (role : Role) (past : List Event) → HasBegun role past → AreApart role (Connection (length (seats_in past)))
 apart_new role past begun event is = apart_connection role past 0 event begun is
 
@@ -119,7 +119,7 @@ pub none_own : (history : List Event) → own_part Reader history ≡ []
 none_own [] = refl
 none_own (event ∷ history) = none_own history
 
--- Where two histories have the same part for a role, they have the same for one within it.
+-- If two histories have equal parts for a role, they have equal parts for one within it.
 pub part_within : (within role : Role) (one other : List Event) → IsWithin within role → own_part role one ≡ own_part role other → own_part within one ≡ own_part within other
 part_within within role one other inside same =
     sym (filter_within (is_own within) (is_own role) inside one) ∙ (ap (filter (is_own within)) same ∙ filter_within (is_own within) (is_own role) inside other)

@@ -1,5 +1,5 @@
--- A worked history: a connection is opened, takes one command, and a shard runs its piece. What it says, what may follow what
--- in it, and who may add what.
+-- A worked history: a connection is opened and parses one command, and a shard runs its piece. Its content,
+-- what may follow what in it, and who may append what.
 use Rattle.std.proofs.Common.{◌≡◌, false, inr, List, [], ◌∷◌, refl, arith, lit<}
 use Rattle.mc_item.specs.declared.answer.Answer.TheVariants as answer
 use Rattle.mc_item.specs.Expiry.{expiry_of}
@@ -30,7 +30,7 @@ ran = Ran 0 0 piece answer.Done
 abbrev whole : List Event
 whole = opened ∷ took ∷ ran ∷ []
 
--- what it says
+-- its content
 seats_are : seats_in whole ≡ 0 ∷ []
 seats_are = refl
 
@@ -46,7 +46,7 @@ entries_are = refl
 world_is : world_in whole ≡ record { log = entry ∷ []; links = record (new_link 0) { taken = one ∷ [] } ∷ [] }
 world_is = refl
 
--- the shard at the moment of the flush
+-- the shard at the time of the flush
 abbrev at_flush : State
 at_flush = record (empty_state 0 1 1024 0 1024) { time = 1000 }
 
@@ -66,8 +66,8 @@ runs = record {
 is_lawful : IsHistory one_each whole
 is_lawful = (lit< tt, ((lit< tt, λ gone. absurd (cc)), ((lit< tt, lit< tt, runs), tt)))
 
--- These may not happen: a connection on a seat that isn't there, a command of a connection that wasn't opened, a piece that
--- wasn't asked for, one that was run before, and one on a shard that isn't there.
+-- These may not happen: a connection on a seat that isn't there, a command of a connection that wasn't
+-- opened, a piece that wasn't asked for, one that was run before, and one on a shard that isn't there.
 
 no_such_seat : MayFollow one_each [] (Opened 1) → ⊥
 no_such_seat may = absurd (omega (arith, may))

@@ -45,7 +45,7 @@ part_added : (role : Role) (event : Event) (old new : Acting) → old.role ≡ r
 part_added role event old new is adds =
     sym (part_of role new (adds.role ∙ is)) ∙ (adds.own ∙ ap (λ part. part ++ event ∷ []) (part_of role old is))
 
--- An actor that hears of others has the same part.
+-- An actor that receives evidence keeps its part.
 part_heard : (role : Role) (heard : List Event) (old new : Acting) → old.role ≡ role → Sees heard old new → own_part role new.events ≡ own_part role old.events
 part_heard role heard old new is sees = sym (part_of role new (sees.role ∙ is)) ∙ (sees.own ∙ part_of role old is)
 

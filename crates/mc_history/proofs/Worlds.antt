@@ -1,4 +1,4 @@
--- What a history says where it has one event more, and what an actor's own part says.
+-- The content of a history with one more event, and of an actor's own part.
 use Rattle.std.proofs.Common.{◌≡◌, ℕ, zero, suc, ◌<◌, inl, inr, length, Some, arith, length-append, ◌==◌, true, false, cond, List, [], ◌∷◌, ◌++◌, refl, sym, ap, ◌∙◌, eqb-true}
 use Rattle.std.specs.Prelude.{nat_le}
 use Rattle.std.specs.List.{slice_get}
@@ -17,7 +17,7 @@ use Rattle.mc_history.specs.Worlds.{link_in, links_in, ran_in, taken_in}
 use Rattle.mc_history.specs.Roles.{IsWithin, is_own, own_part}
 use Rattle.mc_history.proofs.Roles.{part_within}
 
--- What a shard ran is what its own part says.
+-- The operations that a shard ran are those of its own part.
 pub shard_part : (s : ℕ) (history : List Event) → ran_in (own_part (Shard s) history) ≡ on_shard s (ran_in history)
 shard_part s [] = refl
 shard_part s (Opened seat ∷ history) = shard_part s history
@@ -31,7 +31,7 @@ shard_part s (Ran shard asker piece answer ∷ history) =
       | false ↦ rest
     ]
 
--- What a connection took is what its own part says.
+-- The commands that a connection parsed are those of its own part.
 pub connection_part : (k : ℕ) (history : List Event) → taken_in k (own_part (Connection k) history) ≡ taken_in k history
 connection_part k [] = refl
 connection_part k (Opened seat ∷ history) = connection_part k history
@@ -59,7 +59,8 @@ acts_for_shard (Shard index) (Ran shard asker piece answer) s of is (Ran shard' 
 acts_for_shard (Shards from) (Ran shard asker piece answer) s of is (Ran shard' asker' piece' answer') mine =
     ap (λ t. nat_le from t) (eqb-true shard' s mine ∙ sym (eqb-true shard s of)) ∙ is
 
--- Where two histories have the same part for whoever may add what a shard did, that shard ran the same in both.
+-- If two histories have equal parts for a role that may append a shard's events, that shard ran the same
+-- operations in both.
 pub same_entries : (role : Role) (one other : List Event) (event : Event) (s : ℕ) → is_own (Shard s) event ≡ true → is_own role event ≡ true → own_part role one ≡ own_part role other → on_shard s (ran_in one) ≡ on_shard s (ran_in other)
 same_entries role one other event s of is same =
     sym (shard_part s one) ∙ (ap ran_in (part_within (Shard s) role one other (acts_for_shard role event s of is) same) ∙ shard_part s other)

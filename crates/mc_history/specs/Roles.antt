@@ -1,4 +1,4 @@
--- Whose events a token may add.
+-- Whose events a token may append.
 use Rattle.std.specs.Prelude.{ℕ, ◌≡◌, ◌==◌, Bool, true, false, List, filter, nat_le}
 use Rattle.mc_history.specs.declared.event.Event.{Event}
 use Rattle.mc_history.specs.declared.event.Event.TheVariants.{Opened, Took, Ran}
@@ -24,22 +24,22 @@ is_of_shards from (Opened seat) = false
 is_of_shards from (Took connection command moment given_up) = false
 is_of_shards from (Ran shard asker piece answer) = nat_le from shard
 
--- whether a token of this role may add this
+-- whether a token of this role may append this event
 abbrev pub is_own : Role → Event → Bool
 is_own Reader event = false
 is_own (Connection number) event = is_of_connection number event
 is_own (Shard index) event = is_of_shard index event
 is_own (Shards from) event = is_of_shards from event
 
--- of a history what tokens of this role added
+-- the part of a history that tokens of this role appended
 abbrev pub own_part : Role → List Event → List Event
 own_part role history = filter (is_own role) history
 
--- What one of them may add the other one may not.
+-- No event may be appended by both.
 abbrev pub AreApart : Role → Role → Type 0
 AreApart one other = (event : Event) → is_own one event ≡ true → is_own other event ≡ false
 
--- What the first may add the second may too.
+-- Everything that the first may append, the second may too.
 abbrev pub IsWithin : Role → Role → Type 0
 IsWithin one other = (event : Event) → is_own one event ≡ true → is_own other event ≡ true
 

@@ -13,7 +13,7 @@ use Rattle.mc_history.specs.Worlds.{seats_in}
 use Rattle.mc_history.specs.Lawful.{IsHistory}
 use Rattle.mc_history.specs.Roles.{AreApart, HasBegun, own_part}
 
--- What was seen and heard begins the history, and of its own part all was seen.
+-- What was seen and received is a prefix of the history, and everything of its own part was seen.
 pub record Fits (history : List Event) (v : Knowledge) : Type 0 where
   pub seen : Lengthens v.seen history
   pub heard : Lengthens v.heard history
@@ -24,7 +24,7 @@ pub record Fits (history : List Event) (v : Knowledge) : Type 0 where
 abbrev pub AllFit : List Event → List Knowledge → Type 0
 AllFit history views = (id : ℕ) (v : Knowledge) → get_elem? views id ≡ some v → Fits history v
 
--- No two tokens may add the same event.
+-- No two tokens may append the same event.
 abbrev pub AllApart : List Knowledge → Type 0
 AllApart views =
     (i j : ℕ) (v w : Knowledge) → i ≢ j → get_elem? views i ≡ some v → get_elem? views j ≡ some w → AreApart v.role w.role
@@ -36,11 +36,11 @@ pub record IsKept (sizes : Sizes) (views : List Knowledge) : Type 0 where
   pub fit : AllFit history views
   pub apart : AllApart views
 
--- the same token, once it has seen these events
+-- the token after it has seen these events
 abbrev pub seeing : Knowledge → List Event → Knowledge
 seeing v history = record { sizes = v.sizes; role = v.role; seen = history; heard = [] }
 
--- a token that may add nothing
+-- a token that may append nothing
 abbrev pub reader : Sizes → List Event → Knowledge
 reader sizes seen = record { sizes = sizes; role = Reader; seen = seen; heard = [] }
 
@@ -48,11 +48,11 @@ reader sizes seen = record { sizes = sizes; role = Reader; seen = seen; heard = 
 abbrev pub opening : Sizes → Knowledge
 opening sizes = record { sizes = sizes; role = Shards 0; seen = []; heard = [] }
 
--- what a token knows that is used up
+-- the knowledge of a token that was consumed
 abbrev pub used_up : Knowledge
 used_up = reader (record { profile = Own; seats = 0; shards = 0; bytes = 0; ring = 0; value = 0; line = 0; window = 0 }) []
 
--- the token, once it has heard what the other has seen
+-- the token after it has received what the other one has seen
 abbrev pub hearing : Knowledge → Knowledge → Knowledge
 hearing v w = record { sizes = v.sizes; role = v.role; seen = v.seen; heard = w.seen }
 
@@ -71,7 +71,7 @@ first_shard v = record { sizes = v.sizes; role = Shard (from_of v.role); seen = 
 abbrev pub later_shards : Knowledge → Knowledge
 later_shards v = record { sizes = v.sizes; role = Shards (from_of v.role + 1); seen = v.seen; heard = [] }
 
--- The event was added to all that was there, of which the token's own part was known.
+-- The event was appended to all events, of which the token's own part was known.
 pub record Extends (event : Event) (v w : Knowledge) : Type 0 where
   pub before : List Event
   pub more : Lengthens v.seen before
@@ -79,7 +79,7 @@ pub record Extends (event : Event) (v w : Knowledge) : Type 0 where
   pub new : w ≡ seeing v (before ++ event ∷ [])
   pub lawful : IsHistory v.sizes w.seen
 
--- A connection was opened by this event, and its token knows all that was there.
+-- A connection was opened by this event, and its token knows all earlier events.
 pub record IsNew (event : Event) (v w : Knowledge) : Type 0 where
   pub before : List Event
   pub new : w ≡ record { sizes = v.sizes; role = Connection (length (seats_in before)); seen = before ++ event ∷ []; heard = [] }

@@ -1,4 +1,4 @@
--- A history and its tokens as contracts see them.
+-- What contracts see of a history and its tokens.
 use Rattle.std.specs.Prelude.{ℕ, ◌≡◌, List, [], ◌∷◌, ◌++◌, length}
 use Rattle.atomic_table.specs.Seated.{TableId}
 use Rattle.mc_sizes.specs.declared.sizes.Sizes.{Sizes}
@@ -15,12 +15,12 @@ pub record Name : Type 0 where
   pub table : TableId
   pub sizes : Sizes
 
--- what evidence shows: of this history, these were the events so far
+-- what evidence shows: these events were the first ones of this history
 pub record Sight : Type 0 where
   pub name : Name
   pub events : List Event
 
--- an actor: whose events it may add, and the events that it has seen
+-- an actor: whose events it may append, and the events that it has seen
 pub record Acting : Type 0 where
   pub name : Name
   pub role : Role
@@ -31,7 +31,7 @@ pub record Waiting : Type 0 where
   pub name : Name
   pub from : ℕ
 
--- The event was added to all that had happened, of which the actor knew its own part.
+-- The event was appended to all events, of which the actor knew its own part.
 pub record Adds (event : Event) (old new : Acting) : Type 0 where
   pub name : new.name ≡ old.name
   pub role : new.role ≡ old.role
@@ -40,7 +40,8 @@ pub record Adds (event : Event) (old new : Acting) : Type 0 where
   pub events : new.events ≡ before ++ event ∷ []
   pub own : own_part new.role new.events ≡ own_part old.role old.events ++ event ∷ []
 
--- A connection was opened on this seat, and this is its actor. It has the next number, and has done nothing yet.
+-- A connection was opened on this seat, and this is its actor. It has the next number, and has done nothing
+-- yet.
 pub record Opens (name : Name) (seat : ℕ) (new : Acting) : Type 0 where
   pub name_is : new.name ≡ name
   pub before : List Event
@@ -48,7 +49,7 @@ pub record Opens (name : Name) (seat : ℕ) (new : Acting) : Type 0 where
   pub events : new.events ≡ before ++ Opened seat ∷ []
   pub own : own_part new.role new.events ≡ []
 
--- The actor has seen these events too. It did nothing.
+-- The actor has seen these events too. It appended none.
 pub record Sees (heard : List Event) (old new : Acting) : Type 0 where
   pub name : new.name ≡ old.name
   pub role : new.role ≡ old.role

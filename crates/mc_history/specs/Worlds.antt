@@ -1,4 +1,4 @@
--- What a history says: which connections were opened, what each of them took, and what the shards ran.
+-- The content of a history: which connections were opened, what each of them parsed, and what the shards ran.
 use Rattle.std.specs.Prelude.{ℕ, zero, suc, ◌<◌, ◌==◌, List, [], ◌∷◌, ◌++◌, length, slice_index_or, if◌then◌else◌}
 use Rattle.std.specs.List.{flat_map}
 use Rattle.mc_conn.specs.History.{Taken}
@@ -13,7 +13,7 @@ seats_of (Opened seat) = seat ∷ []
 seats_of (Took connection command moment given_up) = []
 seats_of (Ran shard asker piece answer) = []
 
--- the command that was taken, where the connection of this number took one
+-- the command parsed by the connection of this number, if there is one
 abbrev pub taken_of : ℕ → Event → List Taken
 taken_of k (Opened seat) = []
 taken_of k (Took connection command moment given_up) =
@@ -30,7 +30,7 @@ entries_of (Ran shard asker piece answer) = record { shard = shard; asker = aske
 abbrev pub seats_in : List Event → List ℕ
 seats_in history = flat_map seats_of history
 
--- all commands that the connection of this number took, in order
+-- all commands that the connection of this number parsed, in order
 abbrev pub taken_in : ℕ → List Event → List Taken
 taken_in k history = flat_map (taken_of k) history
 
@@ -42,7 +42,7 @@ ran_in history = flat_map entries_of history
 abbrev pub IsOpened : ℕ → List Event → Type 0
 IsOpened k history = k < length (seats_in history)
 
--- the connection of this number, with what it took
+-- the connection of this number, with its commands
 abbrev pub link_in : ℕ → List Event → Link
 link_in k history = record (new_link (slice_index_or (seats_in history) k 0)) { taken = taken_in k history }
 
@@ -51,6 +51,6 @@ abbrev pub links_in : ℕ → List Event → List Link
 links_in zero history = []
 links_in (suc count) history = links_in count history ++ link_in count history ∷ []
 
--- the world that the events lead to: what the shards ran, and of each connection its seat and what it took
+-- the world that the events lead to: the log, and of each connection its seat and its commands
 abbrev pub world_in : List Event → World
 world_in history = record { log = ran_in history; links = links_in (length (seats_in history)) history }

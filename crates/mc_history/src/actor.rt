@@ -1,5 +1,5 @@
-//! An actor: a connection's thread or a shard's worker, with all that it has seen. Each step is a load of a word that nobody
-//! writes.
+//! An actor: a connection's thread or a shard's worker, with everything that it has seen of the
+//! history. Each step is a load of a word that is never written.
 ghost use Rattle.std.specs.Prelude.{◌≡◌, ◌<◌, [], true};
 ghost use Rattle.mc_history.specs.declared.event.Event.{Event};
 ghost use Rattle.mc_history.specs.Lawful.{IsHistory, MayFollow};
@@ -14,7 +14,8 @@ use crate::rule::{AddsEvent, Hears, Looks, Occurrence, Shows};
 use atomic_table::Seat;
 use std::marker::{Brand, Model};
 
-/// The right to add the events of one connection or shard. It takes no bytes.
+/// The right to append the events of one connection or shard to the history. It has a size of 0
+/// bytes.
 #[derive(Drop)]
 pub struct Actor {
     seat: Seat<u64, Knowledge>,
@@ -49,8 +50,8 @@ impl Actor {
         Actor { seat }
     }
 
-    /// Adds the event, which the caller's proof names by what `about` has. It must be the actor's own, and may follow what the
-    /// actor has seen.
+    /// Appends an event, which the proof of the caller names by what `about` has. It must be an
+    /// event of this actor, and may follow what the actor has seen.
     pub fn add<T>(&mut self, history: &History, about: &T)
         ghost event: { Event }
         requires same { self.old.name ≡ history.now }
@@ -63,7 +64,7 @@ impl Actor {
         note::<Brand>(&history.table.shared, &mut self.seat);
     }
 
-    /// Evidence of all that the actor has seen, for another thread.
+    /// Evidence of everything that the actor has seen, for another thread.
     pub fn show(&mut self, history: &History) -> Evidence
         requires same { self.old.name ≡ history.now }
         ensures shown { result ≡ record { name = self.old.name; events = self.old.events } }
@@ -73,7 +74,8 @@ impl Actor {
         Evidence::new(history.table.shared.split_seat::<Shows>(&mut self.seat))
     }
 
-    /// Sees all that has happened, and so what the evidence shows. Of its own events there is no new one.
+    /// Takes in evidence: the actor has then seen everything that has happened. None of its own
+    /// events is new.
     pub fn hear(&mut self, history: &History, evidence: Evidence)
         requires same { self.old.name ≡ history.now }
         requires evidence { evidence.name ≡ history.now }
@@ -89,7 +91,7 @@ impl Actor {
     }
 }
 
-/// Adds the event by one step.
+/// Appends the event by one step.
 fn note<E: Occurrence>(table: &Steps, seat: &mut Seat<u64, Knowledge>)
     requires table { seat.old.table_id ≡ table.now.table_id }
     requires word { 0 < table.now.table_id.words }

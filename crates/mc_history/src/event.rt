@@ -1,16 +1,16 @@
-//! What happens in a server.
+//! Events of a server's history.
 use mc_command::Command;
 use mc_item::Answer;
 use mc_split::Piece;
 
-/// One event of a history. No value of it is made: proofs alone know a history.
+/// An event of a history. No value of it is ever made: histories are visible to proofs alone.
 pub enum Event {
-    /// A connection was opened on this seat. Its number is how many were opened before it.
+    /// A connection was opened on this slot. Its number is the number of connections opened before.
     Opened {
         seat: usize,
     },
-    /// The connection of this number took a command, at this moment in seconds since 1970. It was given up where memory ran
-    /// out before a shard was asked.
+    /// The connection of this number parsed a command at this time, in seconds since 1970.
+    /// `given_up`: memory was refused before a shard was asked.
     Took {
         connection: usize,
         command: Command,

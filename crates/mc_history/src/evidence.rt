@@ -1,4 +1,4 @@
-//! Evidence of a history, which threads can send to each other.
+//! Evidence about a history that threads can send to each other.
 ghost use Rattle.std.specs.Prelude.{◌≡◌, []};
 ghost use Rattle.mc_model.specs.Grows.{Lengthens};
 ghost use Rattle.mc_history.specs.Lawful.{IsHistory};
@@ -9,7 +9,7 @@ use crate::rule::{Hears, Looks};
 use atomic_table::Seat;
 use std::marker::Model;
 
-/// Evidence that these events happened, in this order, before all others. It takes no bytes.
+/// Evidence that these events happened first, in this order. It has a size of 0 bytes.
 #[derive(Drop)]
 pub struct Evidence {
     pub(crate) seat: Seat<u64, Knowledge>,
@@ -42,7 +42,8 @@ impl Evidence {
         Evidence { seat }
     }
 
-    /// Both show beginnings of one lawful history: of this one, which has all that has happened so far.
+    /// Both show prefixes of one lawful history: this one, with everything that has happened so
+    /// far.
     pub fn agree(self, history: &History, other: Evidence) -> Evidence
         requires own { self.name ≡ history.now }
         requires other { other.name ≡ history.now }

@@ -1,4 +1,4 @@
-//! A history, and what opens a connection in it.
+//! A history, and opening connections in it.
 ghost use Rattle.std.specs.Prelude.{◌≡◌, ◌<◌, [], IfOk};
 ghost use Rattle.mc_history.specs.declared.event.Event.TheVariants.{Opened};
 ghost use Rattle.mc_history.specs.Lawful.{IsHistory};
@@ -14,10 +14,10 @@ use mc_sizes::Sizes;
 use std::alloc::{AllocError, Global};
 use std::marker::{Brand, Model};
 
-/// The tokens' table. Its one word is loaded at each step of a token, and never written.
+/// The table of tokens. Its one word is loaded at each step of a token, and never written.
 pub(crate) type Steps = Shared<u64, Knowledge, Sizes, Rule>;
 
-/// All that happens in a server of these sizes, known to proofs alone. Threads share it by a `&`.
+/// The events of a server of these sizes, visible to proofs alone. Threads share it by reference.
 #[derive(Drop)]
 pub struct History {
     pub(crate) table: Table<u64, Knowledge, Sizes, Rule, Global>,
@@ -35,8 +35,8 @@ impl Model for History {
 }
 
 impl History {
-    /// A history in which nothing has happened, and the right to act for each of its shards. It takes one word of memory, and
-    /// fails where there is none.
+    /// An empty history, and the right to act for each of its shards. It takes one word of memory,
+    /// and fails if that is refused.
     pub fn new(alloc: Global, sizes: Sizes) -> Result<(History, Shards), AllocError>
         ensures sizes { IfOk result (λ made. made.0.sizes ≡ sizes) }
         ensures shards { IfOk result (λ made. made.1 ≡ record { name = made.0; from = 0 }) }
@@ -45,8 +45,8 @@ impl History {
         Ok((History { table }, Shards::new(seat)))
     }
 
-    /// Opens a connection on a seat, and makes the actor that may add its events. The connection's number is how many were
-    /// opened before, whichever threads opened them.
+    /// Opens a connection on a slot, and returns the actor that may append its events. The
+    /// connection's number is the number of connections opened before, by any thread.
     pub fn connect(&self, seat: usize) -> Actor
         requires seat { seat < self.now.sizes.seats }
         ensures opens { Opens self.now seat result }

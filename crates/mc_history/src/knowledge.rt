@@ -1,9 +1,9 @@
-//! What a token knows. No value of these types is made.
+//! What a token knows. No value of these types is ever made.
 use crate::event::Event;
 use mc_sizes::Sizes;
 use std::collections::LinkedList;
 
-/// Whose events a token may add.
+/// Whose events a token may append.
 pub enum Role {
     /// Nobody's.
     Reader,
@@ -15,12 +15,12 @@ pub enum Role {
     Shards { from: usize },
 }
 
-/// What a token knows of the history.
+/// A token's knowledge of the history.
 pub struct Knowledge {
     pub sizes: Sizes,
     pub role: Role,
-    /// All that had happened at its last look.
+    /// Everything that had happened at its last look.
     pub seen: LinkedList<Event>,
-    /// What another token had seen, of which it has not looked yet.
+    /// What another token had seen, received as evidence since its last look.
     pub heard: LinkedList<Event>,
 }

@@ -1,5 +1,5 @@
-//! What every lawful history has, and what an actor knows of its own events. Each is a function with an empty body, whose
-//! contract is the law.
+//! Laws of lawful histories, and what an actor knows of its own events. Each is a function with an
+//! empty body, whose contract is the law.
 ghost use Rattle.std.specs.Prelude.{◌≡◌, ◌++◌, ◌∷◌, [], ℕ, List, Bool, Some};
 ghost use Rattle.std.specs.List.{slice_get};
 ghost use Rattle.mc_command.specs.declared.command.Command.{Command};
@@ -17,14 +17,16 @@ ghost use Rattle.mc_history.specs.Worlds.{IsOpened, link_in, ran_in, taken_in, w
 ghost use Rattle.mc_history.specs.Lawful.{Holds, IsHistory};
 ghost use Rattle.mc_history.specs.Tokens.{Acting, Adds, Sees};
 
-/// After each lawful history, as after each schedule of the model: what each shard ran is one run of the protocol's step; it ran
-/// each connection's pieces once, in sending order, and nothing else.
+/// After each lawful history, as after each schedule of the model, the log of each shard is one run
+/// of the protocol's step. The shard ran each connection's pieces once, in sending order, and
+/// nothing else.
 pub fn lawful_histories_hold()
     ensures { (sizes : Sizes) (history : List Event) → IsHistory sizes history →
         Holds sizes history }
 {}
 
-/// The world of a history has the connections that were opened, each with what it took, and no other.
+/// The world of a history has exactly the connections that were opened, each with the commands that
+/// it parsed.
 pub fn worlds_have_the_connections_opened()
     ensures there { (k : ℕ) (history : List Event) → IsOpened k history →
         IsLink (world_in history) k (link_in k history) }
@@ -32,7 +34,8 @@ pub fn worlds_have_the_connections_opened()
         IsLink (world_in history) k link → IsOpened k history × (link ≡ link_in k history) }
 {}
 
-/// A connection that adds a command has taken just this one more, whatever others did meanwhile.
+/// If a connection appends a command, it has parsed exactly one more, whatever others did
+/// meanwhile.
 pub fn a_command_added_is_the_next_taken()
     ensures { (k : ℕ) (command : Command) (moment : ℕ) (given_up : Bool) (old new : Acting) →
         old.role ≡ Connection k → Adds (Took k command moment given_up) old new →
@@ -40,7 +43,7 @@ pub fn a_command_added_is_the_next_taken()
         ++ record { entry = command; moment = moment; given_up = given_up } ∷ [] }
 {}
 
-/// A shard that adds an entry has run just this one more, whatever others did meanwhile.
+/// If a shard appends an entry, it has run exactly one more, whatever others did meanwhile.
 pub fn an_entry_added_is_the_next_run()
     ensures { (s asker : ℕ) (piece : Piece) (answer : Answer) (old new : Acting) →
         old.role ≡ Shard s → Adds (Ran s asker piece answer) old new →
@@ -48,7 +51,8 @@ pub fn an_entry_added_is_the_next_run()
         ++ record { shard = s; asker = asker; piece = piece; answer = answer } ∷ [] }
 {}
 
-/// Whoever hears of others has done nothing meanwhile: a connection took no command, and a shard ran nothing.
+/// Receiving evidence adds no event of the receiver: a connection parsed no command, and a shard
+/// ran nothing.
 pub fn hearing_adds_nothing_of_ones_own()
     ensures connection { (k : ℕ) (heard : List Event) (old new : Acting) →
         old.role ≡ Connection k → Sees heard old new →
@@ -58,7 +62,8 @@ pub fn hearing_adds_nothing_of_ones_own()
         on_shard s (ran_in new.events) ≡ on_shard s (ran_in old.events) }
 {}
 
-/// What evidence shows stays so, by all that its reader sees: a connection that was opened, and a piece that was due.
+/// What evidence shows stays true for its receiver: that a connection was opened, and that a piece
+/// was due.
 pub fn what_was_shown_stays()
     ensures opened { (k : ℕ) (seen history : List Event) → Lengthens seen history →
         IsOpened k seen → IsOpened k history }

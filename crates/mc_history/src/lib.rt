@@ -1,5 +1,6 @@
-//! One history of all that is opened, taken and run, and evidence of it: tokens with no bytes, any two of which show beginnings
-//! of one lawful history. Each thread adds its own events and sends evidence with its messages; nothing of it is stored.
+//! One history of all connections opened, commands parsed and operations run, and evidence of it:
+//! tokens without bytes, any two of which show prefixes of one lawful history. Each thread appends
+//! its own events and sends evidence with its messages; nothing of it is stored.
 #![tactic(auto)]
 
 mod actor;

@@ -1,11 +1,11 @@
-//! The rule over all tokens of a history, and what each step of a token does to its knowledge.
+//! The invariant over all tokens of a history, and what each step of a token does to its knowledge.
 use crate::event::Event;
 use crate::knowledge::Knowledge;
 use atomic_table::{Join, Play, Split, TableRule};
 use mc_sizes::Sizes;
 use std::marker::{Brand, PhantomData};
 
-/// All tokens together know beginnings of one lawful history.
+/// All tokens know prefixes of one lawful history.
 pub(crate) struct Rule;
 
 impl TableRule<u64, Knowledge, Sizes> for Rule {
@@ -16,7 +16,7 @@ impl TableRule<u64, Knowledge, Sizes> for Rule {
     ghost first = { λ sizes. opening sizes };
 }
 
-/// The event that a step adds.
+/// The event that a step appends.
 pub(crate) trait Occurrence {
     ghost use Rattle.mc_history.specs.declared.event.Event.{Event};
 
@@ -29,7 +29,7 @@ impl Occurrence for Brand {
     ghost event = { Opened 0 };
 }
 
-/// An actor's event is added to all that has happened.
+/// An actor's event is appended to all that has happened.
 pub(crate) struct AddsEvent<E: Occurrence>(PhantomData<E>);
 
 impl<E: Occurrence> Play<u64, Knowledge> for AddsEvent<E> {
@@ -39,7 +39,7 @@ impl<E: Occurrence> Play<u64, Knowledge> for AddsEvent<E> {
     ghost then = { λ s me found new. (new.1 ≡ me.1) × Extends E.event me.0 new.0 };
 }
 
-/// A connection is opened, and a new token may add its events.
+/// A connection is opened, and a new token may append its events.
 pub(crate) struct OpensConnection<E: Occurrence>(PhantomData<E>);
 
 impl<E: Occurrence> Play<u64, Knowledge> for OpensConnection<E> {
@@ -70,7 +70,7 @@ impl Split<Knowledge> for Shows {
     ghost right = { λ v. reader v.sizes v.seen };
 }
 
-/// A new token may add the events of the first shard of those that this one could.
+/// A new token gets the right to append the events of the first of this token's shards.
 pub(crate) struct Deals;
 
 impl Split<Knowledge> for Deals {
@@ -81,7 +81,7 @@ impl Split<Knowledge> for Deals {
     ghost right = { first_shard };
 }
 
-/// A token hears what another has seen. The other one is used up.
+/// A token receives what another one has seen. The other one is consumed.
 pub(crate) struct Hears;
 
 impl Join<Knowledge> for Hears {

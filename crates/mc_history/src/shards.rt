@@ -1,4 +1,4 @@
-//! Who may act for the shards.
+//! The right to act for the shards.
 ghost use Rattle.std.specs.Prelude.{◌≡◌, ◌+◌, []};
 ghost use Rattle.mc_history.specs.declared.knowledge.Role.TheVariants.{Shard};
 ghost use Rattle.mc_history.specs.Rule.{opening};
@@ -10,7 +10,7 @@ use crate::rule::Deals;
 use atomic_table::Seat;
 use std::marker::Model;
 
-/// The right to act for each shard that has no actor yet. It takes no bytes.
+/// The right to act for each shard that has no actor yet. It has a size of 0 bytes.
 #[derive(Drop)]
 pub struct Shards {
     seat: Seat<u64, Knowledge>,
@@ -35,7 +35,7 @@ impl Model for Shards {
 }
 
 impl Shards {
-    /// All shards, of a history that has just begun.
+    /// All shards of a new history.
     pub(crate) fn new(seat: Seat<u64, Knowledge>) -> Shards
         requires first { seat.me ≡ (opening seat.me.0.sizes, []) }
         ensures table { result.name.table ≡ seat.table_id }
@@ -45,7 +45,7 @@ impl Shards {
         Shards { seat }
     }
 
-    /// The actor of the next shard, which has done nothing and seen nothing.
+    /// The actor of the next shard, which has done and seen nothing.
     pub fn next(&mut self, history: &History) -> Actor
         requires same { self.old.name ≡ history.now }
         ensures actor { result ≡

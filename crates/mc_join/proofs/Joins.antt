@@ -52,7 +52,7 @@ handed_within forms handed beginning =
 first_texts : (forms : List Form) (n : ℕ) → n ≤ prefix_len is_answered forms → take n (map form_text (complete forms)) ≡ map form_text (take n forms)
 first_texts forms n within = take-map form_text n (complete forms) ∙ ap (map form_text) (take-take n (prefix_len is_answered forms) forms within)
 
--- what was handed out stays a beginning of the replies where the first forms stay
+-- the texts written stay a prefix of the replies if the first forms stay
 beginning-same : (forms new : List Form) (handed : List (List ℕ)) → handed ≡ take (length handed) (map form_text (complete forms)) → take (length handed) forms ≡ take (length handed) new → length handed ≤ length new → handed ≡ take (length handed) (map form_text (complete new))
 beginning-same forms new handed beginning same there =
     let within = handed_within forms handed beginning in
@@ -167,7 +167,7 @@ due_unhanded held there opened accepted handed j =
     let behind = prefix_len-drop is_answered n forms (handed_within forms handed j.beginning) in
     rw (there, j.rest, ← drop-take n (prefix_len is_answered (drop n forms)) forms, behind) (ap concat (sym (drop-map form_text n (complete forms))))
 
--- behind those whose turn has come stands one whose turn has not come
+-- the form after the completely answered ones is not completely answered
 pub none_complete : (forms : List Form) (count : ℕ) → count ≡ prefix_len is_answered forms → complete (drop count forms) ≡ []
 none_complete forms count passed =
     let behind = prefix_len-drop is_answered count forms (omega (arith, passed)) in

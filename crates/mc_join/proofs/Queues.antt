@@ -19,7 +19,7 @@ pub numbered_more : (n : ℕ) (forms : List Form) (form : Form) → AreNumbered 
 numbered_more n [] form numbered next = (omega (arith, next), tt)
 numbered_more n (first ∷ forms) form numbered next = (numbered.0, numbered_more (n + 1) forms form numbered.1 (omega (arith, next)))
 
--- another form in the place of one of the same number
+-- a form that replaces another one with its number
 pub numbered_set : (n : ℕ) (forms : List Form) (place : ℕ) (old new : Form) → AreNumbered n forms → slice_get forms place ≡ Some old → new.ticket ≡ old.ticket → AreNumbered n (slice_set forms place new)
 numbered_set n [] place old new numbered here same = tt
 numbered_set n (first ∷ forms) zero old new numbered here same =
@@ -38,7 +38,7 @@ numbered_drop n (suc count) [] numbered within = tt
 numbered_drop n (suc count) (first ∷ forms) numbered within =
     numbered_along (n + 1 + count) (n + suc count) (drop count forms) (omega arith) (numbered_drop (n + 1) count forms numbered.1 (omega (arith, within)))
 
--- Two tickets of the same number are the same ticket.
+-- Two tickets with one number are equal.
 pub same_ticket : (a b : Ticket) → a.0 ≡ b.0 → a ≡ b
 same_ticket a b e = ap (λ n. record { 0 = n }) e
 

@@ -22,8 +22,8 @@ second = record { ticket = record { 0 = 0 }; part = 1; kind = kind.Fetch; answer
 abbrev first : Shown
 first = record { ticket = record { 0 = 0 }; part = 0; kind = kind.Fetch; answer = answer.Hit 0 1 (codes "x") }
 
--- while an answer is missing there is no reply; then it is one, in whichever order the answers came; a complete reply waits
--- for the one before it; and the text has this length
+-- while an answer is missing there is no reply; then it is one, in whichever order the answers came; a
+-- complete reply waits for the one before it; and the text has this length
 two_replies : (replies (two_keys ∷ []) (second ∷ []) ≡ [])
     × (replies (two_keys ∷ []) (second ∷ first ∷ []) ≡ codes "VALUE a 0 1\r\nx\r\nEND\r\n" ∷ [])
     × (replies (two_keys ∷ []) (first ∷ second ∷ []) ≡ replies (two_keys ∷ []) (second ∷ first ∷ []))
@@ -43,7 +43,7 @@ counts items = answer.Stats (record { tally = no_counts; evicted = 0; items = it
 abbrev told : ℕ → ℕ → Shown
 told part items = record { ticket = record { 0 = 0 }; part = part; kind = kind.Stats; answer = counts items }
 
--- while a shard has not told its counts there is no reply; then it is one, in whichever order they came
+-- while the counts of a shard are missing there is no reply; then there is one, in whatever order they came
 two_shards : (replies (counts_form ∷ []) (told 1 3 ∷ []) ≡ [])
     × (replies (counts_form ∷ []) (told 1 3 ∷ told 0 4 ∷ []) ≡ shape_text shape.Stats (counts 4 ∷ counts 3 ∷ []) ∷ [])
     × (replies (counts_form ∷ []) (told 0 4 ∷ told 1 3 ∷ []) ≡ replies (counts_form ∷ []) (told 1 3 ∷ told 0 4 ∷ []))

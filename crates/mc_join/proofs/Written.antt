@@ -1,4 +1,4 @@
--- Replies written one after another, and what a counter tells of them.
+-- Replies written one after another, and the result of a counter.
 use Rattle.std.proofs.Common.{◌≡◌, ℕ, Bool, true, false, List, ◌∷◌, ◌++◌, length, map, ap, arith, ◌<◌, ◌+◌, take, IsTrue, ◌-◌, ◌^◌}
 use Rattle.std.specs.Prelude.{Result, Ok, Err}
 use Rattle.std.specs.List.{concat}
@@ -19,7 +19,7 @@ texts forms = concat (map form_text (complete forms))
 pub reply_next : {whole : List ℕ} {old now : Sight} (form : Form) (rest forms : List Form) → forms ≡ form ∷ rest → IsDue form → WroteBut whole (texts forms) old now → WroteBut whole (form_text form ++ texts rest) old now
 reply_next form rest forms forms_are due so_far = rw (forms_are, take_while-cons is_answered form rest, due) at so_far
 
--- What a counter tells of a text that was written to it.
+-- The result of a counter to which a text was written.
 pub counted : {X E : Type 0} (result : Result X E) (text : List ℕ) (count : ℕ) (full : Bool) → (IsTrue full → count ≡ 2 ^ 64 - 1) → count < 2 ^ 64 → Writes text result (sight_out (Counted 0) false) (sight_out (Counted count) full) → count ≡ capped (length text)
 counted (Ok done) text count full most fits wrote =
     let taken : Counted count ≡ Counted (0 + length text) = ap (λ (s : Sight). s.taken) wrote in

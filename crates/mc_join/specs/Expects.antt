@@ -1,11 +1,12 @@
--- Which replies of shards are expected, by the forms opened and the replies accepted.
+-- Which replies of shards are expected, from the forms opened and the replies accepted.
 use Rattle.std.specs.Prelude.{◌≡◌, List, Some, None}
 use Rattle.std.specs.List.{slice_get}
 use Rattle.mc_ring.specs.Reply.{Shown}
 use Rattle.mc_reply.specs.declared.form.Form.{Form}
 use Rattle.mc_join.specs.Replies.{answered}
 
--- The command of the reply's ticket was taken; it has such a part, whose answer has not come yet, and is of the reply's kind.
+-- The command of the reply's ticket was parsed; it has this part, which is not answered yet, and is of the
+-- reply's kind.
 pub record Expects (opened : List Form) (accepted : List Shown) (reply : Shown) : Type 0 where
   pub form : Form
   pub here : slice_get opened reply.ticket.0 ≡ Some form

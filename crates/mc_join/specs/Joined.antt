@@ -1,4 +1,4 @@
--- A joiner against the lists of what it was given and what it gave.
+-- A reorder buffer against the lists of its inputs and outputs.
 use Rattle.std.specs.Prelude.{ℕ, ◌≡◌, ◌<◌, List, length, drop, take, map}
 use Rattle.std.specs.List.{AllByRecursion, concat}
 use Rattle.mc_ring.specs.Reply.{Shown}
@@ -6,18 +6,18 @@ use Rattle.mc_reply.specs.declared.form.Form.{Form}
 use Rattle.mc_join.specs.Held.{Held, AreNumbered}
 use Rattle.mc_join.specs.Replies.{answered, replies}
 
--- These forms were opened, these replies accepted and these texts handed out, whole and in order.
+-- These forms were opened, these replies accepted and these texts written, completely and in order.
 pub record IsJoiner (held : Held) (opened : List Form) (accepted : List Shown) (handed : List (List ℕ)) : Type 0 where
   -- the tickets of the forms are 0, 1, 2 and so on
   pub numbered : AreNumbered 0 opened
-  -- each reply accepted was to a form that was opened
+  -- each reply accepted answers a form that was opened
   pub asked : AllByRecursion (λ reply. reply.ticket.0 < length opened) accepted
-  -- what was handed out is a beginning of the replies
+  -- the texts written are a prefix of the replies
   pub beginning : handed ≡ take (length handed) (replies opened accepted)
   pub count : held.handed ≡ length handed
   -- all other forms are held, with the answers that have come
   pub rest : held.forms ≡ drop (length handed) (map (answered accepted) opened)
 
--- the replies that were not handed out yet
+-- the replies that were not written yet
 abbrev pub unhanded : List Form → List Shown → List (List ℕ) → List ℕ
 unhanded opened accepted handed = concat (drop (length handed) (replies opened accepted))

@@ -1,6 +1,6 @@
--- Lengths as 64 bits hold them.
+-- Saturating lengths of 64 bits.
 use Rattle.std.specs.Prelude.{ℕ, ◌-◌, ◌^◌, min}
 
--- a number, or the greatest of 64 bits where it is above that
+-- a number, or 2^64 - 1 if it is greater
 abbrev pub capped : ℕ → ℕ
 capped n = min n (2 ^ 64 - 1)

@@ -8,39 +8,39 @@ use Rattle.mc_reply.specs.declared.ticket.Ticket.{Ticket}
 use Rattle.mc_reply.specs.Slots.{missing_in}
 use Rattle.mc_reply.specs.Text.{shape_text}
 
--- every part has its answer
+-- every part is answered
 abbrev pub is_answered : Form → Bool
 is_answered form = missing_in form.slots == 0
 
--- the answers that are there, by part
+-- the answers that have come, by part
 abbrev pub answers_of : List (Option Answer) → List Answer
 answers_of [] = []
 answers_of (None ∷ slots) = answers_of slots
 answers_of (Some answer ∷ slots) = answer ∷ answers_of slots
 
--- the text of a reply, once every part has its answer
+-- the text of a reply, once every part is answered
 abbrev pub form_text : Form → List ℕ
 form_text form = shape_text form.shape (answers_of form.slots)
 
--- the longest beginning of these forms in which every part has its answer
+-- the longest prefix of completely answered forms
 abbrev pub complete : List Form → List Form
 complete forms = take_while is_answered forms
 
--- a reply is to this part of the command of this ticket
+-- a reply answers this part of the command of this ticket
 abbrev pub is_to : Ticket → ℕ → Shown → Bool
 is_to ticket part reply = reply.ticket.0 == ticket.0 && reply.part == part
 
--- the answer that was accepted for a part, where there is one
+-- the answer that was accepted for a part, if there is one
 abbrev pub answer_to : List Shown → Ticket → ℕ → Option Answer
 answer_to [] ticket part = None
 answer_to (reply ∷ accepted) ticket part = if is_to ticket part reply then Some reply.answer else answer_to accepted ticket part
 
--- a slot that was empty when its form was opened holds what was accepted for its part
+-- a slot that was empty when its form was opened has the answer accepted for its part
 abbrev pub slot_after : Option Answer → Option Answer → Option Answer
 slot_after (Some answer) given = Some answer
 slot_after None given = given
 
--- the slots from this part on, by the answers accepted
+-- the slots from this part on, with the answers accepted
 abbrev pub slots_after : List Shown → Ticket → ℕ → List (Option Answer) → List (Option Answer)
 slots_after accepted ticket part [] = []
 slots_after accepted ticket part (slot ∷ slots) =
@@ -50,6 +50,6 @@ slots_after accepted ticket part (slot ∷ slots) =
 abbrev pub answered : List Shown → Form → Form
 answered accepted form = record form { slots = slots_after accepted form.ticket 0 form.slots }
 
--- The replies: the texts, in order, of the longest beginning of the commands whose answers are all there.
+-- The replies: the texts of the longest prefix of completely answered commands, in order.
 abbrev pub replies : List Form → List Shown → List (List ℕ)
 replies opened accepted = map form_text (complete (map (answered accepted) opened))

@@ -1,4 +1,4 @@
-//! Holds the answers that come back early until their turn.
+//! The reorder buffer: it holds answers that arrive early until all earlier replies are written.
 ghost use Rattle.std.specs.Prelude.{◌≡◌, ◌≢◌, ◌<◌, ◌≤◌, ◌+◌, ◌^◌, ◌-◌, ◌∷◌, ◌++◌, [], ℕ, List, true, false, IsTrue, IsOk, IfOk, IfErr, IfSome, IfNone, OnOk, OnErr, Ok, length, drop};
 ghost use Rattle.mc_ring.specs.Reply.{Shown, shown};
 ghost use Rattle.mc_reply.specs.declared.form.Form.{Form};
@@ -20,21 +20,21 @@ use std::fmt::{Debug, Formatter};
 use std::marker::Model;
 use thiserror::Error;
 
-/// As many tickets are open as may be.
+/// The maximum number of tickets is open.
 #[derive(Clone, Copy, Debug, Error, PartialEq, Eq)]
 #[error("as many commands are open as the window has room for")]
 pub struct Full;
 
-/// The outlet has failed, and nothing is handed out any more.
+/// The outlet has failed; nothing more is written.
 #[derive(Clone, Copy, Debug, Error, PartialEq, Eq)]
 #[error("the outlet of a connection has failed")]
 pub struct Gone;
 
-/// A reply that isn't awaited, handed back.
+/// A reply that no open command expects; it is returned.
 #[derive(Drop, Error)]
 #[error("no open command awaits a reply to part {part} of command {ticket}", part = .reply.part, ticket = .reply.ticket.0)]
 pub struct Stranger {
-    /// The reply, as it came.
+    /// The unexpected reply.
     pub reply: Reply,
 }
 
@@ -44,18 +44,19 @@ impl Debug for Stranger {
     }
 }
 
-/// The replies of one connection, in the order of its commands, whenever their answers come.
+/// Puts the replies of one connection into the order of its commands, in whatever order the answers
+/// arrive.
 pub struct Joiner {
     /// The forms of the open tickets, in order.
     forms: HeapCircularBuffer<Form>,
-    /// How many commands were handed out. It may pass the greatest ticket by one.
+    /// Number of commands whose replies were written. It may exceed the greatest ticket by one.
     handed: u128,
     /// The outlet has failed.
     gone: bool,
 }
 
 impl Drop for Joiner {
-    /// By hand, so that to let one go is one call for whoever holds it (docs/DECISIONS.md).
+    /// Written by hand, so that its owners drop it by a single call (docs/DECISIONS.md, F20).
     fn drop(self) {
         let Joiner {
             forms: _forms,
@@ -86,7 +87,7 @@ impl Model for Joiner {
 }
 
 impl Joiner {
-    /// A joiner of which `window` tickets may be open at a time. All memory is taken here.
+    /// An empty buffer for up to `window` open tickets. All memory is allocated here.
     pub fn new(alloc: Global, window: usize) -> Result<Joiner, AllocError>
         requires { 0 < window }
         ensures held { IfOk result (λ joiner. joiner ≡ nothing_held window) }
@@ -99,7 +100,8 @@ impl Joiner {
         })
     }
 
-    /// Opens the next ticket. Takes no memory. Where as many tickets are open as may be, the form is let go.
+    /// Opens the next ticket. If the maximum number of tickets is open, the form is dropped.
+    /// Allocates nothing.
     pub fn open(&mut self, form: Form) -> Result<(), Full>
         requires { form.ticket.0 ≡ opened_count self.old }
         ensures ok { OnOk result
@@ -113,7 +115,7 @@ impl Joiner {
             IsJoiner self.old opened accepted handed →
             IsJoiner self.new (opened ++ form ∷ []) accepted handed) }
     {
-        // The number is read so that it is known to fit 64 bits.
+        // Read so that the number is known to fit 64 bits.
         let _number = form.ticket.0;
         if !add(&mut self.forms, form) {
             return Err(Full);
@@ -121,7 +123,7 @@ impl Joiner {
         Ok(())
     }
 
-    /// The place of an open ticket.
+    /// The index of an open ticket's form.
     fn place_of(&self, ticket: Ticket) -> Option<usize>
         ensures numbered { AreNumbered self.now.handed self.now.forms }
         ensures some { IfSome result
@@ -136,7 +138,7 @@ impl Joiner {
         Some((ticket - self.handed) as usize)
     }
 
-    /// The place of the form that awaits a reply.
+    /// The index of the form that expects the reply.
     fn awaiting(&self, reply: &Reply) -> Option<usize>
         ensures some { IfSome result (λ place. AwaitsAt self.now (shown reply.now) place) }
         ensures none { IfNone result (¬ IsAwaited self.now (shown reply.now)) }
@@ -150,7 +152,7 @@ impl Joiner {
         }
     }
 
-    /// Takes in a reply, whichever of the open tickets and parts it is to. Takes no memory.
+    /// Stores a reply in its slot, whichever open ticket and part it answers. Allocates nothing.
     pub fn accept(&mut self, reply: Reply) -> Result<(), Stranger>
         ensures awaited { OnOk result (IsAwaited self.old (shown reply)) }
         ensures takes_in { OnOk result (TakesIn self.old self.new (shown reply)) }
@@ -162,7 +164,7 @@ impl Joiner {
             ((opened : List Form) (accepted : List Shown) (handed : List (List ℕ)) →
             IsJoiner self.old opened accepted handed →
             IsJoiner self.new opened (accepted ++ shown reply ∷ []) handed) }
-        // By the lists of forms opened and replies accepted alone.
+        // In terms of the forms opened and the replies accepted.
         ensures expected { OnOk result
             ((opened : List Form) (accepted : List Shown) (handed : List (List ℕ)) →
             IsJoiner self.old opened accepted handed → Expects opened accepted (shown reply)) }
@@ -179,7 +181,7 @@ impl Joiner {
         Ok(())
     }
 
-    /// How many bytes `hand` would write; a number that stays at its greatest value.
+    /// Number of bytes that `hand` would write; it saturates.
     pub fn ready(&self) -> u64
         ensures count { result ≡ capped (length (due_text self.now)) }
         ensures turn { (opened : List Form) (accepted : List Shown) (handed : List (List ℕ)) →
@@ -192,7 +194,7 @@ impl Joiner {
         texts_len(&self.forms)
     }
 
-    /// How many tickets are open.
+    /// Number of open tickets.
     pub fn waiting(&self) -> usize
         ensures count { result ≡ length self.now.forms }
         ensures joined { (opened : List Form) (accepted : List Shown) (handed : List (List ℕ)) →
@@ -201,7 +203,7 @@ impl Joiner {
         self.forms.len()
     }
 
-    /// Whether as many tickets are open as may be.
+    /// Whether the maximum number of tickets is open.
     pub fn is_full(&self) -> bool
         ensures full { IsTrue result → length self.now.forms ≡ self.now.window }
         ensures room { result ≡ false → length self.now.forms < self.now.window }
@@ -209,7 +211,7 @@ impl Joiner {
         self.waiting() >= self.forms.capacity()
     }
 
-    /// The ticket that is opened next, where tickets have such a number.
+    /// The ticket that is opened next; `None` after 2^64 tickets.
     pub fn next_ticket(&self) -> Option<Ticket>
         ensures some { IfSome result (λ ticket. ticket.0 ≡ opened_count self.now) }
         ensures none { IfNone result (opened_count self.now ≡ 2 ^ 64) }
@@ -221,8 +223,8 @@ impl Joiner {
         Some(Ticket(opened as u64))
     }
 
-    /// How many of the open tickets, from the first on, have all their answers: as many commands as `hand` would pass, a
-    /// silent one among them, as long as the outlet has not failed.
+    /// Number of leading open tickets that are completely answered, silent ones included. `hand`
+    /// completes as many commands, unless the outlet has failed.
     pub fn passes(&self) -> usize
         ensures count { result ≡ length (complete self.now.forms) }
         ensures joined { (opened : List Form) (accepted : List Shown) (handed : List (List ℕ)) →
@@ -232,13 +234,14 @@ impl Joiner {
         count_complete(&self.forms)
     }
 
-    /// Writes the replies whose turn has come, in the order of their tickets, and gives how many commands it passed.
-    /// After a fault nothing is written any more. Takes no memory.
+    /// Writes the replies of the leading answered commands, in the order of their tickets, and
+    /// returns the number of commands. After an error nothing is written any more. Allocates
+    /// nothing.
     pub fn hand<O: Outlet>(&mut self, out: &mut O) -> Result<u64, Gone>
-        // Once an outlet has failed.
+        // After an error of the outlet.
         ensures silent { IsTrue self.old.gone →
             (result ≡ Ok 0) × (self.new ≡ self.old) × (O.sight out.new ≡ O.sight out.old) }
-        // Until then.
+        // Without an earlier error.
         ensures count { self.old.gone ≡ false →
             IfOk result (λ count. count ≡ length (complete self.old.forms)) }
         ensures left { IfOk result (λ count.
@@ -249,7 +252,7 @@ impl Joiner {
         ensures none_left { self.old.gone ≡ false → OnOk result (complete self.new.forms ≡ []) }
         ensures writes { Writes (due_text self.old) result (O.sight out.old) (O.sight out.new) }
         ensures gone { OnErr result (self.new ≡ record self.old { gone = true }) }
-        // By the lists of forms opened, replies accepted and texts handed.
+        // In terms of the forms opened, the replies accepted and the texts written.
         ensures turn { (opened : List Form) (accepted : List Shown) (handed : List (List ℕ)) →
             self.old.gone ≡ false → IsJoiner self.old opened accepted handed →
             due_text self.old ≡ unhanded opened accepted handed }
@@ -262,7 +265,7 @@ impl Joiner {
             ((opened : List Form) (accepted : List Shown) (handed : List (List ℕ)) →
             IsJoiner self.old opened accepted handed →
             IsJoiner self.new opened accepted handed) }
-        // The outlet fails only at a reply whose turn has come.
+        // The outlet fails only at a reply that was due.
         ensures owed { OnErr result
             ((opened : List Form) (accepted : List Shown) (handed : List (List ℕ)) →
             IsJoiner self.old opened accepted handed →
@@ -284,7 +287,7 @@ impl Joiner {
         Ok(count as u64)
     }
 
-    /// Makes it as new. Takes no memory.
+    /// Resets the buffer for another connection. Allocates nothing.
     pub fn reset(&mut self)
         ensures held { self.new ≡ nothing_held self.old.window }
         ensures joined { IsJoiner self.new [] [] [] }

@@ -1,10 +1,10 @@
-//! How long replies are: they are written to an outlet that counts.
+//! Lengths of replies: they are written to an outlet that counts bytes.
 ghost use Rattle.std.specs.Prelude.{◌≡◌, ◌-◌, ◌^◌, ◌<◌, IsTrue, false};
 ghost use Rattle.mc_wire.specs.Outlet.{Counted, sight_out};
 
 use mc_wire::{OutFault, Outlet};
 
-/// An outlet that counts the bytes that it takes, and keeps none. It has no room for more than `u64::MAX`.
+/// An outlet that counts bytes and stores none. It fails beyond `u64::MAX`.
 #[derive(Drop)]
 pub(crate) struct ByteCounter {
     pub(crate) count: u64,
@@ -14,7 +14,7 @@ pub(crate) struct ByteCounter {
 }
 
 impl ByteCounter {
-    /// A counter that has taken nothing.
+    /// A counter at 0.
     pub(crate) fn new() -> ByteCounter
         ensures sight { ⟦<ByteCounter as Outlet>⟧.sight result ≡ sight_out (Counted 0) false }
     {

@@ -1,4 +1,5 @@
-//! Replies in their turn: the forms of open commands, and the answers held until their turn comes.
+//! Reordering of replies: the forms of open commands, and the answers held until all earlier
+//! replies are written.
 #![tactic(auto)]
 
 mod joiner;

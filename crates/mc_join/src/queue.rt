@@ -1,4 +1,4 @@
-//! The forms of the open tickets, in order.
+//! The queue of the open tickets' forms.
 ghost use Rattle.std.specs.Prelude.{◌≡◌, ◌<◌, ◌≤◌, [], ◌∷◌, ◌++◌, IsTrue, false, Some, None, drop, length, map, ◌↔◌};
 ghost use Rattle.std.specs.List.{concat, prefix_len};
 ghost use Rattle.mc_ring.specs.Reply.{shown};
@@ -15,7 +15,7 @@ use mc_reply::{Form, put_reply};
 use mc_ring::Reply;
 use mc_wire::{OutFault, Outlet};
 
-/// Puts a form behind the others, where there is a place for it; else it is let go.
+/// Appends a form. If the queue is full, the form is dropped.
 pub(crate) fn add(forms: &mut HeapCircularBuffer<Form>, form: Form) -> bool
     ensures added { IsTrue result → forms.new.items ≡ forms.old.items ++ form ∷ [] }
     ensures room { length forms.old.items < forms.old.capacity → IsTrue result }
@@ -29,7 +29,8 @@ pub(crate) fn add(forms: &mut HeapCircularBuffer<Form>, form: Form) -> bool
     }
     match forms.try_push_back(form) {
         Ok(()) => true,
-        // There is a place for it, so this is never reached; were the form dropped here, it would be moved field by field.
+        // Never reached, since there is space. Dropping the form in this arm would move it field by
+        // field.
         Err(form) => {
             let_go(form);
             false
@@ -37,17 +38,18 @@ pub(crate) fn add(forms: &mut HeapCircularBuffer<Form>, form: Form) -> bool
     }
 }
 
-/// Lets a form go. It is kept out of line, so that a form that is added is moved whole and not field by field.
+/// Drops a form. Out of line, so that the form appended on the hot path is moved as a whole
+/// (docs/DECISIONS.md, F20).
 #[cold]
 #[inline(never)]
 fn let_go(_form: Form) {}
 
-/// How many forms from the front on have all their answers.
+/// Number of leading forms that are completely answered.
 pub(crate) fn count_complete(forms: &HeapCircularBuffer<Form>) -> usize
     ensures count { result ≡ prefix_len is_answered forms.now.items }
     ensures within { result ≤ length forms.now.items }
 {
-    // The length is read so that the count is known to fit.
+    // Read so that the count is known to fit.
     let _len = forms.len();
     let mut count = 0;
     for form in forms.iter() {
@@ -59,14 +61,14 @@ pub(crate) fn count_complete(forms: &HeapCircularBuffer<Form>) -> usize
     count
 }
 
-/// Whether every part of a form has its answer.
+/// Whether each part of a form is answered.
 fn is_complete(form: &Form) -> bool
     ensures { result ≡ is_answered form.now }
 {
     form.slots.is_filled()
 }
 
-/// Writes the replies of the first forms, those that have all their answers. Where the outlet fails, it took a beginning of them.
+/// Writes the replies of the leading answered forms. On an error, a prefix was written.
 pub(crate) fn put_first<O: Outlet>(
     out: &mut O,
     forms: &HeapCircularBuffer<Form>,
@@ -83,7 +85,7 @@ pub(crate) fn put_first<O: Outlet>(
     Ok(())
 }
 
-/// Writes the reply of a form whose parts are all answered.
+/// Writes the reply of a completely answered form.
 fn put_due<O: Outlet>(out: &mut O, form: &Form) -> Result<(), OutFault>
     requires { IsDue form.now }
     ensures { Writes (form_text form.now) result (O.sight out.old) (O.sight out.new) }
@@ -91,8 +93,8 @@ fn put_due<O: Outlet>(out: &mut O, form: &Form) -> Result<(), OutFault>
     put_reply(out, form)
 }
 
-/// Lets the first forms go. Where none is left the next ones come to lie in the same places, so that a connection whose client
-/// waits for its replies uses few of them.
+/// Drops the first `count` forms. If none is left, the queue restarts at its first place, so that a
+/// connection that waits for each reply touches few cache lines.
 pub(crate) fn drop_first(forms: &mut HeapCircularBuffer<Form>, count: usize)
     requires { count ≤ length forms.old.items }
     ensures items { forms.new.items ≡ drop count forms.old.items }
@@ -106,17 +108,18 @@ pub(crate) fn drop_first(forms: &mut HeapCircularBuffer<Form>, count: usize)
     forms.truncate_front(left);
 }
 
-/// How long these replies are together.
+/// Total length of these replies in bytes.
 pub(crate) fn texts_len(forms: &HeapCircularBuffer<Form>) -> u64
     ensures { result ≡ capped (length (concat (map form_text (complete forms.now.items)))) }
 {
     let mut counter = ByteCounter::new();
-    // A counter that is full tells the greatest number.
+    // A full counter reports the maximum.
     let _ = put_first(&mut counter, forms);
     counter.count
 }
 
-/// Whether a form awaits a reply: it has such a part, which has no answer yet, and it is of the reply's kind.
+/// Whether a form expects the reply: the part exists, has no answer yet, and is of the reply's
+/// kind.
 pub(crate) fn awaits(form: &Form, reply: &Reply) -> bool
     ensures { IsTrue result ↔ Awaits form.now (shown reply.now) }
 {
@@ -126,7 +129,7 @@ pub(crate) fn awaits(form: &Form, reply: &Reply) -> bool
     }
 }
 
-/// Puts an answer into the slot of a part of the form at this place.
+/// Stores an answer in the slot of a part of the form at this index.
 pub(crate) fn fill(forms: &mut HeapCircularBuffer<Form>, place: usize, part: usize, answer: Answer)
     requires { HasPart forms.old.items place part }
     ensures items { Fills forms.old.items forms.new.items place part answer }

@@ -98,7 +98,7 @@ enabled_in sizes w (Hand seat) some l seated e work = at_seat sizes w seat e.0 e
 enabled_in sizes w (End seat) some l seated e work = absurd work
 enabled_in sizes w (Break seat) some l seated e work = absurd work
 
--- An event that can be done can be done at any moment, and is not spared.
+-- An event that can be done can be done at any time, and is not spared.
 work_alike : (sizes : Sizes) (w : World) (event other : Event) → IsWork event → IsSameStep event other → Enabled sizes w event → Enabled sizes w other × (Spared sizes w other → ⊥)
 work_alike sizes w (Open seat) other work alike e = absurd work
 work_alike sizes w (Feed seat bytes) other work alike e = absurd work
@@ -161,7 +161,7 @@ law_along sizes w run some l seated (suc n) =
       event_seated sizes (run.worlds n) (run.events n) (run.replies n) (run.worlds (n + 1)) (run.happens n) before.1,
     )
 
--- The first of some steps that is done, before which the world is the same; or none is.
+-- The first of some steps that is done, before which the world is unchanged; or none is.
 record FirstDone {sizes : Sizes} {w : World} (run : EndlessRun sizes w) (n : ℕ) : Type 0 where
   place : ℕ
   same : run.worlds place ≡ run.worlds n
@@ -177,7 +177,7 @@ first_done sizes w run n (suc count) = elim (first_done sizes w run n count) [
   ]
 ]
 
--- Something is done up to some place, or the world is the same there.
+-- Something is done up to some step, or the world is unchanged there.
 by_then : (sizes : Sizes) (w : World) (run : EndlessRun sizes w) (n m : ℕ) → n ≤ m → (run.worlds m ≡ run.worlds n → FirstDone run n) → FirstDone run n
 by_then sizes w run n m after otherwise =
     let at : n + (m - n) ≡ m = omega (arith, after) in
@@ -226,7 +226,8 @@ rests_in (suc fuel) sizes w run n within l seated quiet fair few = elim (rests_o
   | inr lower ↦ let less = lower.less in rests_in fuel sizes w run lower.place within l seated quiet fair (omega (arith, few, less))
 ]
 
--- From a lawful world whose seats are there, a weakly fair run into which nothing comes comes to rest, all replies out.
+-- From a lawful world whose seats are there, a weakly fair run into which nothing comes comes to rest, all
+-- replies out.
 pub rests : (sizes : Sizes) (w : World) (run : EndlessRun sizes w) → AreWithin sizes → Law sizes w → AreSeated sizes w → HasNoInput run → IsWeaklyFair run → ComesToRest run
 rests sizes w run within l seated quiet fair = rests_in (left sizes (run.worlds 0)) sizes w run 0 within l seated quiet fair (omega arith)
 
@@ -243,7 +244,8 @@ one_place w c k j link one a b = elim (cases_eq k j) [
 one_at : (w : World) (c k j : ℕ) (link one : Link) → IsAt w c k link → IsAt w c j one → link ≡ one
 one_at w c k j link one a b = at_once w.links k j link one a.here b.here (one_place w c k j link one a b)
 
--- On a server whose sizes are within limits, a connection at rest that has neither ended nor broken takes bytes.
+-- On a server whose sizes are within limits, a connection at rest that has neither ended nor broken takes
+-- bytes.
 pub takes_bytes : (sizes : Sizes) (w : World) → AreWithin sizes → TakesBytesAtRest sizes w
 takes_bytes sizes w within seat k link bytes at rest goes_on whole some = (
   (k, link, (at, goes_on, whole, some)),

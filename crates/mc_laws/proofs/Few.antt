@@ -48,7 +48,7 @@ shorter line = elim (cases_Bool (slice_index line (length line - 1) == 13)) [
   | inr other ↦ rw other (omega arith)
 ]
 
--- what a line says asks for few keys
+-- the command of a line has few keys
 says_few : (rules : Rules) (text line : List ℕ) → IsLine rules text line → FewLine rules.line_limit (line_says rules line)
 says_few rules text line is =
     let words = words_few (without_return line) in
@@ -120,7 +120,8 @@ front_few rules shards before input (entry ∷ commands) rest small short room f
           (omega (arith, pieces, steps), omega (arith, count))
     ]
 
--- The connections have at most 2 ^ 88 + 2 ^ 64 + 2 steps each: no more than 2 ^ 63 commands, of no more than 8,388,608 pieces.
+-- The connections have at most 2 ^ 88 + 2 ^ 64 + 2 steps each: no more than 2 ^ 63 commands, of no more than
+-- 8,388,608 pieces.
 pub all_few : (sizes : Sizes) (links : List Link) → sizes.shards ≤ 64 → sizes.line ≤ 8388608 → steps_of_all sizes.shards (map (spelled_by sizes) links) ≤ length links * 309485028268089142434332674
 all_few sizes [] small short = omega arith
 all_few sizes (link ∷ links) small short =

@@ -29,7 +29,7 @@ use Rattle.mc_laws.specs.Order.{IsPieceOf, RunsBefore}
 use Rattle.mc_laws.proofs.Ordering.{all_mine, on_there, ran_first, was_run}
 use Rattle.mc_ring.proofs.Lists.{all_append, all_at, all_take, get_below}
 
--- A piece that asks for a key goes to the key's shard.
+-- A piece for a key is sent to the key's shard.
 abbrev GoesHome : ℕ → ℕ → Piece → Type 0
 GoesHome shards s piece = IfSome (key_of piece.op) (λ key. s ≡ place_of key shards)
 
@@ -80,14 +80,15 @@ each_home sizes w l x entry here =
 all_home : (sizes : Sizes) (w : World) → Law sizes w → AllByRecursion (IsAtHome sizes) w.log
 all_home sizes w l = all_from (IsAtHome sizes) w.log (each_home sizes w l)
 
--- Nothing of the one command stands in a list before whose first entry, of the other, it must stand.
+-- No entry of the one command is in a list that begins with an entry of the other, before which it would have
+-- to be.
 none_behind : (s : ℕ) (first : Entry) (log : List Entry) (j a k b x : ℕ) (one : Entry) → RunsBefore (first ∷ log) j a k b → slice_get (on_shard s log) x ≡ Some one → IsPieceOf j a one → IsPieceOf k b first → ⊥
 none_behind s first log j a k b x one before at of_a of_b =
     let kept = on_there s log x one at in
     let less = before (suc kept.0.place) 0 one first kept.0.here refl of_a of_b in
     absurd (omega (arith, less))
 
--- what stands first, and what is kept of the rest
+-- the first entry, and what is kept of the rest
 before_push : (s : ℕ) (first : Entry) (log : List Entry) (j a k b : ℕ) → RunsBefore (first ∷ log) j a k b → RunsBefore (on_shard s log) j a k b → RunsBefore (first ∷ on_shard s log) j a k b
 before_push s first log j a k b before rest zero zero one other at_x at_y of_a of_b = before 0 0 one other at_x at_y of_a of_b
 before_push s first log j a k b before rest zero (suc y) one other at_x at_y of_a of_b = omega arith
@@ -98,7 +99,7 @@ before_push s first log j a k b before rest (suc x) (suc y) one other at_x at_y 
 behind : (first : Entry) (log : List Entry) (j a k b : ℕ) → RunsBefore (first ∷ log) j a k b → RunsBefore log j a k b
 behind first log j a k b before x y one other at_x at_y of_a of_b = let less = before (suc x) (suc y) one other at_x at_y of_a of_b in omega (arith, less)
 
--- The entries of a shard stand in the order of the log.
+-- The entries of a shard are in the order of the log.
 before_kept : (s : ℕ) (log : List Entry) (j a k b : ℕ) → RunsBefore log j a k b → RunsBefore (on_shard s log) j a k b
 before_kept s [] j a k b before = before
 before_kept s (first ∷ log) j a k b before =
@@ -108,7 +109,7 @@ before_kept s (first ∷ log) j a k b before =
       | inr other ↦ rw other.0 rest
     ]
 
--- Whatever happens from the empty world on, all asked of a key stands in one order, which explains every reply.
+-- In every reachable world, the operations on a key are in one order, which explains every reply.
 pub is_linearizable : (sizes : Sizes) (events : List Event) (w : World) (led : Schedule sizes events w) (key : List ℕ) → AreWithin sizes → IsLinearizable sizes events w led key
 is_linearizable sizes events w led key within =
     let some = within.shards.0 in

@@ -35,7 +35,7 @@ use Rattle.mc_laws.proofs.Summing.{at_point, over_lt, set_lowers, sum_none, sum_
 use Rattle.mc_laws.proofs.Working.{rests_or_goes}
 use Rattle.mc_split.proofs.Parts.{length-parts_from}
 
--- the commands that the bytes fed spell and that are not taken
+-- the commands in the input that are not parsed yet
 abbrev untaken : Sizes → Link → List Command
 untaken sizes link = drop (length link.taken) (every_input (rules_of sizes) link.fed).0
 
@@ -64,7 +64,7 @@ lane_more s piece all = elim (eqb_tells piece.0 s) [
   | inr other ↦ rw other.0 (omega arith)
 ]
 
--- Each piece stands on one shard's lane.
+-- Each piece is on the lane of one shard.
 sum_lanes : (n : ℕ) (all : List (ℕ × Piece)) → sum_to n (λ s. 3 * length (lane s all)) ≤ 3 * length all
 sum_lanes n [] = sum_none n
 sum_lanes n (piece ∷ all) =
@@ -73,7 +73,7 @@ sum_lanes n (piece ∷ all) =
     let point = sum_point n piece.0 3 in
     omega (arith, rest, more, point)
 
--- a command that is taken has no more pieces than it spells, and none where it is given up
+-- a command that was parsed has no more pieces than the one in the input, and none if it was given up
 planned_within : (shards : ℕ) (entry : Command) (moment : ℕ) (given_up : Bool) → length (pieces_of shards (planned (record { entry = entry; moment = moment; given_up = given_up }))) ≤ length (pieces_of shards entry)
 unfolding pieces_of
 planned_within shards entry moment true = omega arith
@@ -282,7 +282,7 @@ still_within : (b : Bool) → still b ≤ 1
 still_within true = omega arith
 still_within false = omega arith
 
--- all commands that the bytes of a connection spell
+-- all commands in the input of a connection
 abbrev pub spelled_by : Sizes → Link → List Command
 spelled_by sizes link = (every_input (rules_of sizes) link.fed).0
 
@@ -322,7 +322,8 @@ spelled_at sizes (first ∷ links) (suc k) link own here at = spelled_at sizes l
 pub left_within : (sizes : Sizes) (w : World) → Law sizes w → left sizes w ≤ steps_of_all sizes.shards (map (spelled_by sizes) w.links)
 left_within sizes w l = over_within sizes w.log 0 w.links (λ i link here. let at : i ≡ 0 + i = omega arith in subst (λ n. LinkLaw sizes (of_asker n w.log) link) at (l.links i link here))
 
--- From a lawful world, while nothing comes in, no more is done than there are steps for the commands that are spelled.
+-- From a lawful world, while nothing comes in, no more is done than there are steps for the commands that are
+-- spelled.
 pub is_bounded : (sizes : Sizes) (w : World) → 0 < sizes.shards → Law sizes w → IsBounded sizes w
 is_bounded sizes w some l =
     let few = left_within sizes w l in

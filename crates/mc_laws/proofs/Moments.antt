@@ -1,4 +1,5 @@
--- A get of keys on two shards is not one moment: here it sees the newer value of one key and the older one of another.
+-- A get of keys on two shards is not atomic: here it sees the newer value of one key and the older one of
+-- another.
 use Rattle.std.proofs.Common.{◌≡◌, ℕ, zero, suc, false, inr, List, [], ◌∷◌, Some, None, refl, ◌∙◌, arith, codes, pos}
 use Rattle.std.specs.FinMap.{empty, get, get-empty, insert}
 use Rattle.std.specs.Ordering.{nat_cmp}
@@ -41,7 +42,7 @@ store key = op.Store (record { key = key; mode = mode.Set; compare = None; uniqu
 abbrev old : ℕ → State
 old s = record (empty_shard two s) { time = 1000 }
 
--- the second shard once b was asked for, which it doesn't hold
+-- the second shard after a miss of b
 abbrev missed : State
 missed = noted_in (old 1) (old 1) (op.Fetch b None) Miss
 

@@ -147,7 +147,7 @@ ran_before sizes w after later j a k b some l led handed to_come x y one other a
           absurd (omega (arith, taken, spelled, long, number))
     ]
 
--- where an element that a filter keeps stands in the list
+-- where an element that a filter keeps is in the list
 pub record IsKept {X : Type 0} (xs : List X) (x : X) : Type 0 where
   pub place : ℕ
   pub here : slice_get xs place ≡ Some x
@@ -159,7 +159,7 @@ first_or : {X : Type 0} (first : X) (xs : List X) (i : ℕ) (x : X) → slice_ge
 first_or first xs zero x here = inl (same_Some first x here)
 first_or first xs (suc i) x here = inr (i, here)
 
--- What stands among the entries of a shard stands in the log, and is of that shard.
+-- An entry among those of a shard is in the log, and is of that shard.
 pub on_there : (s : ℕ) (log : List Entry) (i : ℕ) (entry : Entry) → slice_get (on_shard s log) i ≡ Some entry → IsKept log entry × (entry.shard ≡ s)
 on_there s [] i entry here = absurd (cc)
 on_there s (first ∷ log) i entry here = elim (eqb_tells first.shard s) [
@@ -242,7 +242,8 @@ between sizes w (event ∷ events) w' led zero q order = let parts = parts_at si
 between sizes w (event ∷ events) w' led (suc p) zero order = absurd (omega (arith, order))
 between sizes w (event ∷ events) w' led (suc p) (suc q) order = between sizes led.1 events w' led.3 p q (omega (arith, order))
 
--- A command whose reply was out at some point of a run runs before one that was not yet asked there, or later on.
+-- A command whose reply was out at some point of a run runs before one that was not yet asked there, or later
+-- on.
 pub ran_first : (sizes : Sizes) (w : World) (events : List Event) (w' : World) (led : Leads sizes w events w') (p q j a k b : ℕ) → 0 < sizes.shards → Law sizes w → p ≤ q → IsHandedOut (world_at sizes w events w' led p) j a → IsNotYetAsked sizes (world_at sizes w events w' led q) k b → RunsBefore w'.log j a k b
 ran_first sizes w events w' led p q j a k b some l order handed to_come =
     let before = parts_at sizes w events w' led p in

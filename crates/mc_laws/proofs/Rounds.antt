@@ -1,4 +1,5 @@
--- Settling comes to rest: where a whole round does nothing, nothing can be done; and no more is done than there are steps.
+-- Settling comes to rest: where a whole round does nothing, nothing can be done; and no more is done than
+-- there are steps.
 use Rattle.std.proofs.Common.{◌≡◌, ◌≢◌, ℕ, zero, suc, ◌+◌, ◌-◌, ◌*◌, ◌<◌, ◌≤◌, ◌^◌, ◌⊎◌, inl, inr, true, false, Result, Ok, Err, List, [], ◌∷◌, ◌++◌, length, refl, sym, ap, ◌∙◌, subst, arith, append-nil, append_assoc}
 use Rattle.std.specs.Prelude.{OnErr}
 use Rattle.std.specs.List.{AllByRecursion}
@@ -160,7 +161,7 @@ repeated_both n (suc m) events =
     let e : suc m + n ≡ suc (m + n) = omega arith in
     ap (λ k. repeated k events) e ∙ (ap (λ es. es ++ events) (repeated_both n m events) ∙ append_assoc (repeated n events) (repeated m events) events)
 
--- The events were tried once more.
+-- The events were tried another time.
 pub tried_more : (old mid new : Sim) (events : List Event) (least more done : ℕ) → Tried old events least mid → Runs mid events done new → more ≤ least + done → Tried old events more new
 tried_more old mid new events least more done tried runs enough sizes w stands =
     let was = tried sizes w stands in
@@ -171,7 +172,7 @@ tried_more old mid new events least more done tried runs enough sizes w stands =
     let one = ran.1 in
     record { times = suc was.times; later = ran.0.later; led = both.0; memory = both.1; enough = omega (arith, before, count, one, enough); stands = ran.0.stands }
 
--- They were tried once more, and none was done.
+-- They were tried another time, and none was done.
 pub tried_quiet : (old mid new : Sim) (events : List Event) (least : ℕ) → Tried old events least mid → Runs mid events 0 new → Repeats old events true new
 tried_quiet old mid new events least tried runs sizes w stands =
     let was = tried sizes w stands in
@@ -212,7 +213,7 @@ tried_works old mid new events least tried works work sizes w stands =
     let both = leads_join sizes w was.later after.later (repeated was.times events) ran.0 was.led was.memory after.led after.memory in
     (repeated was.times events ++ ran.0, all_both IsWork (repeated was.times events) ran.0 (all_repeated IsWork was.times events work) ran.1, record { later = after.later; led = both.0; memory = both.1; stands = after.stands })
 
--- What a core stands in.
+-- The world of a simulator.
 
 record Standing (sizes : Sizes) (w : World) : Type 0 where
   within : AreWithin sizes

@@ -1,4 +1,5 @@
--- Worked rows: in each the premises of a law hold, and something is done. One connection after another flushes one shard.
+-- Worked rows: in each the premises of a law hold, and something is done. One connection after another
+-- flushes one shard.
 use Rattle.std.proofs.Common.{◌≡◌, ◌≢◌, ℕ, zero, suc, ◌+◌, ◌*◌, ◌<◌, ◌≤◌, inl, inr, List, [], ◌∷◌, length, Some, None, refl, sym, ap, ◌∙◌, arith, lit<, subst}
 use Rattle.std.specs.List.{slice_get}
 use Rattle.std.proofs.lemmas.Bool.Decides.{eqb_tells}
@@ -46,7 +47,7 @@ second_at log link seat = record { here = refl; seat_is = seat; last = λ j othe
 abbrev before : State
 before = empty_state 0 1 1024 0 1024
 
--- the shard at the moment of the flush
+-- the shard at the time of the flush
 abbrev at_flush : State
 at_flush = record before { time = 1000 }
 

@@ -76,7 +76,7 @@ set_lowers f number (y ∷ xs) (suc k) x new here less =
     let rest = set_lowers f (number + 1) xs k x new here (subst (λ n. f n new < f n x) at less) in
     omega (arith, rest)
 
--- the same elements give no more
+-- smaller values at the same elements give no greater sum
 pub over_le : {X : Type 0} (f g : ℕ → X → ℕ) (number : ℕ) (xs : List X) → ((i : ℕ) (x : X) → slice_get xs i ≡ Some x → g (number + i) x ≤ f (number + i) x) → sum_over g number xs ≤ sum_over f number xs
 over_le f g number [] each = omega arith
 over_le f g number (y ∷ xs) each =

@@ -1,5 +1,5 @@
--- Each connection goes on, whatever the others do, where each kind of work that can be done again and again is done again and
--- again.
+-- Each connection makes progress, whatever the others do, if each kind of work that can be done again and
+-- again is done again and again.
 use Rattle.std.proofs.Common.{◌≡◌, ◌≢◌, ℕ, zero, suc, ◌+◌, ◌-◌, ◌<◌, ◌≤◌, ◌⊎◌, inl, inr, true, false, List, [], ◌∷◌, ◌++◌, length, take, drop, Some, refl, sym, ap, ◌∙◌, subst, arith, append_assoc, append-nil, length-append}
 use Rattle.std.specs.Prelude.{MatchBool}
 use Rattle.std.specs.List.{slice_get}
@@ -350,7 +350,7 @@ unsent_still sizes w run c n k link here unsent m after =
           inr (x.link', subst (λ seat. IsAt (run.worlds m) seat k x.link') x.more.seat at, less, omega (arith, grows, same))
     ]
 
--- The oldest piece that isn't sent stays the same, and no more are sent to its shard, where none is sent.
+-- The oldest unsent piece is unchanged, and no more are sent to its shard, if none is sent.
 next_stays : (sizes : Sizes) (x z : Link) (next : ℕ × Piece) → x.sent ≤ length (pieces sizes.shards x.taken) → IsMore x z → z.sent ≡ x.sent → slice_get (pieces sizes.shards x.taken) x.sent ≡ Some next → (slice_get (pieces sizes.shards z.taken) z.sent ≡ Some next) × (sent_to sizes next.0 z ≡ sent_to sizes next.0 x)
 next_stays sizes x z next within more as_before at =
     let extra = pieces_grow sizes x z more in (
@@ -542,7 +542,7 @@ take_later sizes w run c n k number link commands here spelled less handed =
           ])
     ]
 
--- The first commands are the same later.
+-- The first commands stay.
 first_taken : (link new : Link) (count : ℕ) → IsMore link new → count ≤ length link.taken → take count new.taken ≡ take count link.taken
 first_taken link new count more within = ap (λ ts. take count ts) more.taken.1 ∙ take-append-le count link.taken more.taken.0 within
 

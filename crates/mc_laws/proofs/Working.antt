@@ -182,7 +182,7 @@ longest sizes link (suc n) some within most = elim (come_or_waits sizes link (su
   ])
 ]
 
--- The first of some commands are a beginning too.
+-- A prefix of some commands is a prefix too.
 none_front : (first more : List Command) → first ++ more ≡ [] → first ≡ []
 none_front [] more none = refl
 none_front (command ∷ first) more none = absurd (cc)
@@ -194,7 +194,7 @@ front_begins rules (command ∷ first) more before input rest front = elim (case
   | inr goes ↦ let later = front_begins rules first more (before + 1) front.1 rest (rw goes at front.4) in (later.0, (front.0, front.1, front.2, front.3, rw goes later.1))
 ]
 
--- All commands that the bytes fed spell are taken, or there is a next.
+-- All commands in the input are parsed, or there is a next one.
 by_more : (sizes : Sizes) (link : Link) (all more : List Command) → SpellAll sizes link.fed all → entries link ++ more ≡ all → IsAllTaken sizes link ⊎ ((command : Command) × IsNextCommand sizes link command)
 by_more sizes link all [] commands is = inl (subst (λ es. SpellAll sizes link.fed es) (sym is ∙ append-nil (entries link)) commands)
 by_more sizes link all (command ∷ more) commands is =
@@ -202,7 +202,7 @@ by_more sizes link all (command ∷ more) commands is =
     let front = front_begins (rules_of sizes) (entries link ++ command ∷ []) more 0 link.fed commands.0 (subst (λ es. SpellsFront (rules_of sizes) 0 link.fed es commands.0) (sym split) commands.1) in
     inr (command, (front.0, front.1))
 
--- Where the commands taken begin those that the bytes fed spell, they are all of these or there is a next one.
+-- If the commands parsed are a prefix of those in the input, they are all of them, or there is a next one.
 pub next_or_all : (sizes : Sizes) (link : Link) → SpellFirst sizes link.fed (entries link) → IsAllTaken sizes link ⊎ ((command : Command) × IsNextCommand sizes link command)
 next_or_all sizes link some =
     let all = every_input (rules_of sizes) link.fed in

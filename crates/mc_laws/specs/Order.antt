@@ -1,4 +1,4 @@
--- Order in time: a command whose reply was handed out before another was asked happens before it.
+-- Order in time: a command whose reply was written before another one was sent happens before it.
 use Rattle.std.specs.Prelude.{ℕ, zero, suc, ◌≡◌, ◌<◌, ◌≤◌, List, [], ◌∷◌, length, Some}
 use Rattle.std.specs.List.{slice_get}
 use Rattle.mc_command.specs.declared.command.Command.{Command}
@@ -11,13 +11,13 @@ use Rattle.mc_model.specs.World.{IsLink, Link, World, empty_world}
 use Rattle.mc_model.specs.Events.{Event}
 use Rattle.mc_model.specs.Schedule.{Leads, Schedule}
 
--- The reply to the connection's command of this number was handed out.
+-- The reply to the connection's command of this number was written.
 pub record IsHandedOut (w : World) (k number : ℕ) : Type 0 where
   pub link : Link
   pub here : IsLink w k link
   pub handed : number < link.handed
 
--- The bytes that the connection was fed spell no command of this number yet, or it was not opened yet.
+-- The connection's input does not have a command of this number yet, or the connection was not opened yet.
 abbrev pub IsNotYetAsked : Sizes → World → ℕ → ℕ → Type 0
 IsNotYetAsked sizes w k number = (link : Link) (commands : List Command) → IsLink w k link → SpellFirst sizes link.fed commands → length commands ≤ number
 
@@ -26,7 +26,7 @@ pub record IsPieceOf (k number : ℕ) (entry : Entry) : Type 0 where
   pub asker : entry.asker ≡ k
   pub ticket : entry.piece.ticket.0 ≡ number
 
--- In the log each piece of the one command stands before each of the other.
+-- In the log, each piece of the one command is before each piece of the other.
 abbrev pub RunsBefore : List Entry → ℕ → ℕ → ℕ → ℕ → Type 0
 RunsBefore log j a k b =
     (x y : ℕ) (one other : Entry) → slice_get log x ≡ Some one → slice_get log y ≡ Some other → IsPieceOf j a one → IsPieceOf k b other → x < y
@@ -51,7 +51,8 @@ world_at sizes w [] w' led n = w
 world_at sizes w (event ∷ events) w' led zero = w
 world_at sizes w (event ∷ events) w' led (suc n) = world_at sizes led.1 events w' led.3 n
 
--- After the first p events the reply to the one command is out; after the first q, and no fewer, the other is not yet asked.
+-- After the first p events the reply to the one command is written; after the first q, and no fewer, the
+-- other is not yet sent.
 pub record HappensBefore (sizes : Sizes) (events : List Event) (w : World) (led : Schedule sizes events w) (j a k b : ℕ) : Type 0 where
   pub p : ℕ
   pub q : ℕ

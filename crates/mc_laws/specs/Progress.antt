@@ -1,4 +1,4 @@
--- Progress: what the parts can still do by themselves, and how much of it there is at most.
+-- Progress: what the parts can still do by themselves, and an upper bound of it.
 use Rattle.std.specs.Prelude.{ℕ, ◌≡◌, ◌+◌, ◌*◌, ◌≤◌, false, List, [], ◌∷◌, length, Some}
 use Rattle.std.specs.List.{AllByRecursion, slice_get}
 use Rattle.mc_command.specs.declared.command.Command.{Command}
@@ -22,7 +22,7 @@ IsWork (End seat) = ⊥
 IsWork (Break seat) = ⊥
 IsWork event = Unit {0}
 
--- Nothing comes in by it: no connection begins, and no bytes come.
+-- It is no input: no connection opens, and no bytes come.
 abbrev pub IsNoInput : Event → Type 0
 IsNoInput (Open seat) = ⊥
 IsNoInput (Feed seat bytes) = ⊥
@@ -32,7 +32,7 @@ IsNoInput event = Unit {0}
 abbrev pub AllAtRest : Sizes → World → Type 0
 AllAtRest sizes w = OfEach w (λ k link. AtRest sizes link)
 
--- Each connection that isn't broken was handed the replies to all commands that its bytes spell.
+-- Each connection that hasn't failed was sent the replies to all commands in its input.
 abbrev pub AllReplied : Sizes → World → Type 0
 AllReplied sizes w = OfEach w (λ k link. link.broken ≡ false → AreAllReplies sizes w k link)
 
@@ -44,19 +44,19 @@ pub record HasWork (sizes : Sizes) (w : World) : Type 0 where
   pub happens : Happens sizes w event Done next
   pub sure : Spared sizes w event → ⊥
 
--- two steps for each command, which is taken and whose reply is handed out, and four for each of its pieces, which is sent,
--- run, given and received
+-- two steps for each command, which is parsed and answered, and four for each of its pieces, which is sent,
+-- run, returned and received
 abbrev pub steps_of : ℕ → List Command → ℕ
 steps_of shards [] = 0
 steps_of shards (command ∷ commands) = 2 + 4 * length (pieces_of shards command) + steps_of shards commands
 
--- the steps for the commands of each connection, and two for the connection, which may end and may break
+-- the steps for the commands of each connection, and two for the connection, which may end and may fail
 abbrev pub steps_of_all : ℕ → List (List Command) → ℕ
 steps_of_all shards [] = 0
 steps_of_all shards (commands ∷ others) = 2 + steps_of shards commands + steps_of_all shards others
 
--- While nothing comes in no more events are done, however many are tried, than there are steps for the commands that the bytes
--- of all connections spell.
+-- Without input, however many events are tried, no more are done than there are steps for the commands in the
+-- input of all connections.
 pub record IsBounded (sizes : Sizes) (w : World) : Type 0 where
   pub commands : List (List Command)
   pub of_each : length commands ≡ length w.links
@@ -64,7 +64,7 @@ pub record IsBounded (sizes : Sizes) (w : World) : Type 0 where
   pub most : (events : List Event) (later : World) (led : Leads sizes w events later) → AllByRecursion IsNoInput events →
       done_in sizes w events later led ≤ steps_of_all sizes.shards commands
 
--- Some work leads to a world where all are at rest, and then all replies are out.
+-- Some work leads to a world where all connections are at rest, and then all replies are written.
 pub record CanComeToRest (sizes : Sizes) (w : World) : Type 0 where
   pub events : List Event
   pub work : AllByRecursion IsWork events

@@ -1,4 +1,4 @@
--- Settling: the server's own events are tried in a fixed order, again and again, until none of them is enabled.
+-- Settling: the server's own events are tried in a fixed order, repeatedly, until none of them is enabled.
 use Rattle.std.specs.Prelude.{ℕ, zero, suc, List, [], ◌∷◌, ◌++◌}
 use Rattle.std.specs.List.{AllByRecursion}
 use Rattle.mc_sizes.specs.declared.sizes.Sizes.{Sizes}
@@ -10,38 +10,38 @@ use Rattle.mc_sim.specs.Runs.{StandsAfter}
 use Rattle.mc_sim.specs.Stands.{Stands}
 use Rattle.mc_laws.specs.Progress.{AllAtRest, AllReplied, IsWork}
 
--- what a seat and a shard do for one another
+-- the events between a seat and a shard
 abbrev pub lane_round : ℕ → ℕ → List Event
 lane_round seat shard = Pop shard seat ∷ Give shard ∷ Receive seat shard ∷ []
 
--- and a seat and each of a given number of shards
+-- the events between a seat and each of a number of shards
 abbrev pub lanes_round : ℕ → ℕ → List Event
 lanes_round seat zero = []
 lanes_round seat (suc shard) = lanes_round seat shard ++ lane_round seat shard
 
--- what there is to do for a seat
+-- the events of a seat
 abbrev pub seat_round : ℕ → ℕ → ℕ → List Event
 seat_round shards moment seat = (Take seat moment ∷ Send seat ∷ []) ++ lanes_round seat shards ++ Hand seat ∷ []
 
--- all that a given number of seats and of shards can do by themselves, each event once
+-- all events that these seats and shards can do by themselves, each once
 abbrev pub round : ℕ → ℕ → ℕ → List Event
 round zero shards moment = []
 round (suc seat) shards moment = round seat shards moment ++ seat_round shards moment seat
 
--- the events, a given number of times over
+-- the events, repeated this number of times
 abbrev pub repeated : ℕ → List Event → List Event
 repeated zero events = []
 repeated (suc times) events = repeated times events ++ events
 
--- From whatever world the core stood in, it tried the round a number of times. Now all connections are at rest, and each that
--- isn't broken was handed the replies to all its commands.
+-- In any world, the simulator tried the round a number of times. Now all connections are at rest, and each
+-- that hasn't failed was sent the replies to all its commands.
 abbrev pub Settles : Sim → ℕ → Sim → Type 0
 Settles old moment new =
     (sizes : Sizes) (w : World) → Stands sizes old w →
     (times : ℕ) × (ran : StandsAfter sizes w (repeated times (round sizes.seats sizes.shards moment)) new)
     × AllAtRest sizes ran.later × AllReplied sizes ran.later
 
--- From whatever world the core stood in, it did some work, and each step found its memory.
+-- In any world, the simulator did some work, and no step was refused memory.
 abbrev pub Works : Sim → Sim → Type 0
 Works old new =
     (sizes : Sizes) (w : World) → Stands sizes old w → (events : List Event) × AllByRecursion IsWork events × StandsAfter sizes w events new

@@ -1,5 +1,5 @@
-//! The laws of every schedule that speak of more than one moment: that the server never gets stuck and comes to rest, that no
-//! command waits for ever, and that commands take effect in the order in which clients see them.
+//! Laws over all schedules that relate several times: no deadlock, quiescence, progress of every
+//! command, and linearizability of each key.
 #![tactic(auto)]
 
 mod order;

@@ -1,4 +1,4 @@
-//! The laws of order in time. Each is a function with an empty body, whose contract is the law.
+//! Laws of order in time. Each is a function with an empty body, whose contract is the law.
 ghost use Rattle.std.specs.Prelude.{ℕ, List};
 ghost use Rattle.mc_sizes.specs.Sizes.{AreWithin};
 ghost use Rattle.mc_sizes.specs.declared.sizes.Sizes.{Sizes};
@@ -8,8 +8,9 @@ ghost use Rattle.mc_model.specs.Schedule.{Leads, Schedule};
 ghost use Rattle.mc_laws.specs.Linear.{IsLinearizable};
 ghost use Rattle.mc_laws.specs.Order.{HappensBefore, IsHandedOut, IsNotYetAsked, RunsBefore, WasRun};
 
-/// Each piece of a command whose reply was handed out was run; and where it was handed out before the bytes of another command
-/// came, on whatever connections, it was run before each piece of that.
+/// If the reply to a command was written, each of its pieces was run. If it was written before the
+/// bytes of another command came, on any connection, its pieces were run before those of the other
+/// one.
 pub fn what_was_handed_out_ran_before()
     ensures ran { (sizes : Sizes) (events : List Event) (w : World) (k number : ℕ) →
         AreWithin sizes → Schedule sizes events w → IsHandedOut w k number →
@@ -22,9 +23,10 @@ pub fn what_was_handed_out_ran_before()
         HappensBefore sizes events w led j a k b → RunsBefore w.log j a k b }
 {}
 
-/// For each key, what its shard ran is one order of all that was asked of the key: each answer is the protocol's step after all
-/// before it, each connection's own commands stand in sending order, and a command whose reply was handed out before the bytes of
-/// another came stands before that. The replies are made of these answers.
+/// For each key, the operations that its shard ran are one sequential order of all that was
+/// requested of the key. Each answer is the protocol's step after all earlier operations. The
+/// commands of each connection are in sending order, and a command whose reply was written before
+/// the bytes of another one came is before that. Replies are made of these answers.
 pub fn keys_are_linearizable()
     ensures { (sizes : Sizes) (events : List Event) (w : World) (led : Schedule sizes events w)
         (key : List ℕ) → AreWithin sizes → IsLinearizable sizes events w led key }

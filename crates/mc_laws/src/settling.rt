@@ -1,4 +1,4 @@
-//! A simulated core is settled: it does all that it can do by itself.
+//! Settling a simulated server: it does all its own work.
 ghost use Rattle.std.specs.Prelude.{◌≡◌, ◌++◌, map, IfOk, OnErr};
 ghost use Rattle.std.specs.List.{AllByRecursion};
 ghost use Rattle.mc_sim.specs.Asked.{event_of};
@@ -11,9 +11,9 @@ use mc_model::Event;
 use mc_sim::Sim;
 use std::alloc::{AllocError, Global};
 
-/// Does the core's own events, each command taken at this moment, until none is enabled: for each seat in turn it takes a command
-/// and sends a piece, each shard runs one and gives its reply, which is received, and replies are handed out; and all of it again.
-/// Then all connections are at rest. Where memory runs out it stops there.
+/// Runs the server's own events until none is enabled, with this time for each command. Each round
+/// takes a command and sends a piece for each slot, runs one on each shard, and passes its reply
+/// back. Then all connections are at rest. Stops if memory is refused.
 pub fn settle(sim: &mut Sim, alloc: Global, moment: u64) -> Result<(), NoMemory>
     ensures settled { IfOk result (λ _. Settles sim.old moment sim.new) }
     ensures stopped { OnErr result (Works sim.old sim.new) }
@@ -21,7 +21,7 @@ pub fn settle(sim: &mut Sim, alloc: Global, moment: u64) -> Result<(), NoMemory>
     let Ok(events) = round_of(alloc, sim.seats(), sim.shards(), moment) else {
         return Err(NoMemory);
     };
-    // No connection has as much to do as is done in one of these.
+    // No connection has more work than one of these repetitions does.
     for _ in 0..sim.connections().len() {
         if repeat(sim, alloc, &events)? {
             return Ok(());
@@ -30,7 +30,7 @@ pub fn settle(sim: &mut Sim, alloc: Global, moment: u64) -> Result<(), NoMemory>
     Ok(())
 }
 
-/// Tries the events again and again, until none of them is done, and tells whether it came to that.
+/// Repeats the events until none of them is done. Returns whether that was reached.
 fn repeat(sim: &mut Sim, alloc: Global, events: &[Event]) -> Result<bool, NoMemory>
     requires { AllByRecursion IsWork (map event_of events.now) }
     ensures repeated { IfOk result
@@ -45,7 +45,7 @@ fn repeat(sim: &mut Sim, alloc: Global, events: &[Event]) -> Result<bool, NoMemo
     Ok(false)
 }
 
-/// All that `seats` seats and `shards` shards can do by themselves, each event once.
+/// Every event that `seats` slots and `shards` shards can do by themselves, once.
 fn round_of(
     alloc: Global,
     seats: usize,
@@ -61,7 +61,7 @@ fn round_of(
     Ok(events)
 }
 
-/// Adds what there is to do for a seat.
+/// Appends the events of a slot.
 fn add_seat(
     events: &mut Vec<Event>,
     seat: usize,
@@ -81,7 +81,7 @@ fn add_seat(
     Ok(())
 }
 
-/// Adds what a seat and a shard do for one another.
+/// Appends the events between a slot and a shard.
 fn add_lane(events: &mut Vec<Event>, seat: usize, shard: usize) -> Result<(), AllocError>
     ensures { IfOk result (λ _.
         map event_of events.new.items ≡ map event_of events.old.items ++ lane_round seat shard) }

@@ -46,7 +46,7 @@ none_unless true true false number unless = refl
 none_unless true false below number unless = refl
 none_unless false all below number unless = refl
 
--- what the digits spell, by the fact that std's reading of them tells
+-- the value of the digits, from the fact about std's parsing of them
 number_if : (digits : List ℕ) → IsNumeral 16 digits × (digits_value 16 digits < 2 ^ 64) → number_of_digits digits ≡ Some (digits_value 16 digits)
 number_if digits h =
     let some : nat_lt 0 (length digits) ≡ true = grind (arith, nat_tests) in
@@ -58,7 +58,7 @@ no_number_if digits none =
     none_unless (nat_lt 0 (length digits)) (list_all (λ digit. nat_lt (digit_value digit) 16) digits) (nat_lt (digits_value 16 digits) (2 ^ 64)) (digits_value 16 digits)
     (λ some all below. none ((grind (arith, nat_tests), digits_if digits all), grind (arith, nat_tests)))
 
--- A text read as a 64-bit number to the base 16 gives the hexadecimal number it spells, or fails if it spells none.
+-- Parsing a text as a 64-bit number in base 16 returns its hexadecimal number, or fails if it has none.
 pub reads_hexadecimal : {E : Type 0} (text : List ℕ) (r : Result ℕ E) → ParsesUnsigned 64 16 text r → result_ok r ≡ hexadecimal text
 unfolding hexadecimal
 reads_hexadecimal text (Ok x) h = ap Some h.1 ∙ sym (number_if (without_leading_plus text) h.0)

@@ -5,8 +5,9 @@ use Rattle.std.specs.Fmt.{digits}
 use Rattle.mc_metrics.specs.Amounts.{bytes_text, digits_of, duration_text, group_text, grouped, percent_of, tenths_text}
 use Rattle.mc_metrics.specs.Backlog.{behind_colon, hexadecimal, waiting_at, waiting_in, word_at}
 
--- lines as the system writes them: the heading, a socket that listens at port 11211 of 127.0.0.1 with 3 who wait, one that listens
--- at port 22 of any address with 26, and a connection at port 11211 of which 7 bytes are to be read
+-- lines as the system writes them: the heading, a socket that listens at port 11211 of 127.0.0.1 with 3 who
+-- wait, one that listens at port 22 of any address with 26, and a connection at port 11211 of which 7 bytes
+-- are to be read
 abbrev heading : List ℕ
 heading = codes "  sl  local_address rem_address   st tx_queue rx_queue tr tm->when retrnsmt   uid  timeout inode                                                     "
 
@@ -19,7 +20,7 @@ other = codes "   1: 00000000:0016 00000000:0000 0A 00000000:0000001A 00:0000000
 abbrev connected : List ℕ
 connected = codes "   2: 0100007F:2BCB 0100007F:D431 01 00000005:00000007 00:00000000 00000000  1000        0 20744 1 0000000000000000 20 4 30 10 -1                    "
 
--- the same of IPv6, at port 11211 of any address with 2 who wait
+-- a socket of IPv6, at port 11211 of any address, with a backlog of 2
 abbrev listening_six : List ℕ
 listening_six = codes "   0: 00000000000000000000000000000000:2BCB 00000000000000000000000000000000:0000 0A 00000000:00000002 00:00000000 00000000     0        0 20750 1 0000000000000000 100 0 0 10 0"
 

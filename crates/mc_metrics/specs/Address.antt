@@ -1,8 +1,9 @@
--- Where the metrics are told, by the word that says it.
+-- The address of the metrics, from the word that gives it.
 use Rattle.std.specs.Prelude.{ℕ, List, [], ◌++◌, codes, nat_eq, if◌then◌else◌}
 use Rattle.std.specs.List.{list_any, starts_with}
 
--- what stands before the word: the machine's own address where it names no host, which a word without a colon and one that begins with it don't
+-- the text to put before the word: 127.0.0.1 if it has no host, as a word without a colon or with a leading
+-- one
 abbrev pub host_before : List ℕ → List ℕ
 host_before word =
     if starts_with nat_eq word (codes ":") then codes "127.0.0.1"

@@ -1,4 +1,4 @@
--- What is answered to a request.
+-- Answers to HTTP requests.
 use Rattle.std.specs.Prelude.{ℕ, ◌≡◌, ◌||◌, ◌++◌, Bool, true, List, [], ◌∷◌, bytes_eq, codes, if◌then◌else◌}
 use Rattle.mc_watch.specs.Counts.{AreTotals, EachIsShown, shards_of}
 use Rattle.mc_watch.specs.declared.counts.Counts.{Counts}
@@ -16,7 +16,7 @@ use Rattle.http.specs.Request.{head_of}
 use Rattle.http_uri.specs.Uri.{uri_path}
 use Rattle.http_server.specs.declared.response.Response.{Response}
 
--- what a path leads to
+-- the resource at a path
 abbrev pub target_of : List ℕ → Target
 target_of path =
     if bytes_eq path (codes "/metrics") then Metrics
@@ -33,19 +33,21 @@ status_at Health = 200
 status_at Page = 200
 status_at Nothing = 404
 
--- the status that answers the method and the path
+-- the HTTP status for a method and a path
 abbrev pub status_of : List ℕ → List ℕ → ℕ
 status_of method path = if is_read method then status_at (target_of path) else 405
 
 module _ {C : Type 0} (told : C → ℕ → Type 0) where
-  -- the metrics of a server with these facts and counters and this uptime in seconds: what all counters told; tables that were
-  -- read count who waits, and what its process uses the system said
+  -- the metrics of a server with this configuration, these counters and this uptime in seconds. Values are
+  -- those read from the counters; the backlog is by the tables that were read, and the process's resources
+  -- are as the system reports them.
   abbrev pub AreMetrics : Facts → Counts C → ℕ → List ℕ → Type 0
   AreMetrics facts counts uptime text =
       (totals : Totals) × (waiting : ℕ) × (process : Process) × AreTotals told counts totals × AreWaiting facts.port waiting
       × (text ≡ metrics_text (record { facts = facts; totals = totals; waiting = waiting; uptime = uptime; process = process }))
 
-  -- the text at the target: the metrics, and behind them what each shard's own counters told. No clause says what the page shows.
+  -- the text of the resource: the metrics, followed by those of each shard from its own counters. No clause
+  -- describes the page.
   abbrev pub IsTextAt : Target → Facts → Counts C → ℕ → List ℕ → Type 0
   IsTextAt Metrics facts counts uptime text =
       (metrics : List ℕ) × (shards : List ShardTotals) × AreMetrics facts counts uptime metrics
@@ -54,7 +56,8 @@ module _ {C : Type 0} (told : C → ℕ → Type 0) where
   IsTextAt Page facts counts uptime text = Unit {0}
   IsTextAt Nothing facts counts uptime text = text ≡ codes "not found: see /, /metrics and /healthz" ++ (10 ∷ [])
 
-  -- the response to a request, of a server with these facts and counters that has run for uptime seconds
+  -- the response to a request, of a server with this configuration and these counters that has run for uptime
+  -- seconds
   pub record IsAnswer (facts : Facts) (counts : Counts C) (uptime : ℕ) (request : Request (List ℕ)) (response : Response) : Type 0 where
     pub status : response.status ≡ status_of (head_of request).method (uri_path (head_of request).uri)
     pub text : is_read (head_of request).method ≡ true

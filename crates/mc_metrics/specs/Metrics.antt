@@ -1,4 +1,4 @@
--- The text of the metrics, as Prometheus reads them.
+-- The text of the metrics in Prometheus' format.
 use Rattle.std.specs.Prelude.{ℕ, List, [], ◌∷◌, ◌++◌, ◌-◌, ◌/◌, ◌%◌, codes}
 use Rattle.std.specs.Fmt.{decimal}
 use Rattle.std.specs.List.{concat}
@@ -14,7 +14,7 @@ use Rattle.mc_metrics.specs.declared.text.Metric.{Metric}
 use Rattle.mc_metrics.specs.declared.text.Number.{Number}
 use Rattle.mc_metrics.specs.declared.text.Number.TheVariants.{Up, Uptime, LimitBytes, Shards, Seats, Open, Waiting, Accepted, Broken, Failed, Commands, Read, Written, Items, Bytes, Evicted, OutOfMemory, Resident, Started, OpenFiles, MostFiles}
 
--- a metric of this kind, with its name, what it tells and its value: three lines, whose ends are the byte 10
+-- a metric of this type, with its name, its HELP text and its value: three lines, each ended by byte 10
 unfoldable pub metric_text : (kind name help : List ℕ) (value : ℕ) → List ℕ
 metric_text kind name help value =
     codes "# HELP " ++ (name ++ (codes " " ++ (help ++ ((10 ∷ codes "# TYPE ") ++ (name ++ (codes " " ++ (kind ++ ((10 ∷ []) ++ (name ++ (codes " " ++ (decimal value ++ (10 ∷ []))))))))))))
@@ -25,7 +25,7 @@ gauge_text name help value = metric_text (codes "gauge") name help value
 abbrev pub counter_text : (name help : List ℕ) (value : ℕ) → List ℕ
 counter_text name help value = metric_text (codes "counter") name help value
 
--- the metrics of one number; the connections that are open are those that were accepted and have not ended
+-- the metrics with one sample; open connections are those accepted and not ended
 abbrev pub numbers_text : Reading → List ℕ
 numbers_text reading =
     concat (gauge_text (codes "memcached_up") (codes "1 as long as the server runs.") 1
@@ -51,19 +51,19 @@ numbers_text reading =
     ∷ gauge_text (codes "process_max_fds") (codes "Maximum number of open file descriptors of the process.") reading.process.most_files
     ∷ [])
 
--- seconds of processors with two places behind the point, by hundredths
+-- CPU time in seconds with two decimals, from hundredths
 unfoldable pub cpu_text : ℕ → List ℕ
 cpu_text hundredths =
     codes "# HELP process_cpu_seconds_total CPU time used by the process, in seconds."
     ++ ((10 ∷ codes "# TYPE process_cpu_seconds_total counter") ++ ((10 ∷ codes "process_cpu_seconds_total ")
     ++ (decimal (hundredths / 100) ++ (codes "." ++ (decimal (hundredths / 10 % 10) ++ (decimal (hundredths % 10) ++ (10 ∷ [])))))))
 
--- how many connections have ended for the reason of this name: 34 is the quotation mark
+-- the number of connections that ended for this reason; 34 is the quotation mark
 unfoldable pub end_text : (name : List ℕ) (count : ℕ) → List ℕ
 end_text name count =
     (codes "mcd_connections_ended_total{reason=" ++ (34 ∷ [])) ++ (name ++ ((34 ∷ codes "} ") ++ (decimal count ++ (10 ∷ []))))
 
--- what comes before the reasons
+-- the HELP and TYPE lines of the reasons
 abbrev pub before_ends : List ℕ
 before_ends =
     codes "# HELP mcd_connections_ended_total Connections closed because of an error or a limit, by reason."
@@ -84,7 +84,7 @@ ends_each ends =
 abbrev pub ends_text : EndTotals → List ℕ
 ends_text ends = before_ends ++ ends_each ends
 
--- how often a kind of command came to this: 34 is the quotation mark
+-- the number of commands of a kind with this outcome; 34 is the quotation mark
 unfoldable pub status_text : (name status : List ℕ) (count : ℕ) → List ℕ
 status_text name status count =
     (codes "memcached_commands_total{command=" ++ (34 ∷ [])) ++ (name ++ ((34 ∷ codes ",status=") ++ ((34 ∷ status) ++ ((34 ∷ codes "} ") ++ (decimal count ++ (10 ∷ []))))))
@@ -93,7 +93,7 @@ abbrev pub command_text : (name : List ℕ) → CommandTotals → List ℕ
 command_text name totals =
     status_text name (codes "hit") totals.hits ++ (status_text name (codes "miss") totals.misses ++ status_text name (codes "badval") totals.bad_values)
 
--- what comes before the kinds of commands
+-- the HELP and TYPE lines of the kinds of commands
 abbrev pub before_commands : List ℕ
 before_commands =
     codes "# HELP memcached_commands_total Commands executed by the shards, by command and outcome." ++ ((10 ∷ codes "# TYPE memcached_commands_total counter") ++ (10 ∷ []))
@@ -114,7 +114,7 @@ commands_each totals =
 abbrev pub commands_text : ShardTotals → List ℕ
 commands_text totals = before_commands ++ commands_each totals
 
--- the version is a label of a metric that is always 1: 34 is the quotation mark
+-- the version is a label of a metric that is always 1; 34 is the quotation mark
 abbrev pub before_version : List ℕ
 before_version =
     codes "# HELP memcached_version Version of the server." ++ ((10 ∷ codes "# TYPE memcached_version gauge") ++ ((10 ∷ codes "memcached_version{version=") ++ (34 ∷ [])))
@@ -130,7 +130,7 @@ metrics_text reading =
     version_text reading.facts.version.now
     ++ (numbers_text reading ++ (cpu_text reading.process.cpu ++ (ends_text reading.totals.ends ++ commands_text reading.totals.shards)))
 
--- the number of this name
+-- the value of this name
 abbrev pub number_of : Number → Reading → ℕ
 number_of Up reading = 1
 number_of Uptime reading = reading.uptime
@@ -172,11 +172,11 @@ reason_count reason.Idle ends = ends.idle
 reason_count reason.Failed ends = ends.failed
 reason_count reason.RefusedMemory ends = ends.refused_memory
 
--- what is reported of a reason
+-- the text of a reason
 abbrev pub ended_text : EndTotals → EndReason → List ℕ
 ended_text ends reason = end_text (reason_name reason) (reason_count reason ends)
 
--- what is told of a metric of one number
+-- the text of a metric with one sample
 abbrev pub told_text : Reading → Metric → List ℕ
 told_text reading metric = metric_text metric.kind.now metric.name.now metric.help.now (number_of metric.number reading)
 
@@ -200,6 +200,6 @@ totals_of Incr shards = shards.incr
 totals_of Decr shards = shards.decr
 totals_of Flush shards = shards.flush
 
--- what is told of a kind of command
+-- the text of the samples of a kind of command
 abbrev pub asked_text : ShardTotals → CommandKind → List ℕ
 asked_text shards command = command_text (command_name command) (totals_of command shards)

@@ -1,11 +1,11 @@
--- The text of the metrics of each shard, as Prometheus reads them.
+-- The text of the metrics of each shard, in Prometheus' format.
 use Rattle.std.specs.Prelude.{ℕ, List, [], ◌∷◌, ◌++◌, ◌+◌, codes, flat_map}
 use Rattle.std.specs.Fmt.{decimal}
 use Rattle.mc_watch.specs.declared.shard_counts.ShardTotals.{ShardTotals}
 use Rattle.mc_metrics.specs.declared.by_shard.ShardMetric.{ShardMetric}
 use Rattle.mc_metrics.specs.declared.by_shard.ShardMetric.TheVariants.{Items, Bytes, Evicted, OutOfMemory}
 
--- the two lines that say what a metric tells and of which kind it is
+-- the HELP and TYPE lines of a metric
 abbrev pub head_text : (kind name help : List ℕ) → List ℕ
 head_text kind name help =
     codes "# HELP " ++ (name ++ (codes " " ++ (help ++ ((10 ∷ codes "# TYPE ") ++ (name ++ ((32 ∷ kind) ++ (10 ∷ [])))))))
@@ -16,7 +16,7 @@ name_of Bytes = codes "mcd_shard_bytes"
 name_of Evicted = codes "mcd_shard_evicted_total"
 name_of OutOfMemory = codes "mcd_shard_out_of_memory_total"
 
--- what stands before the lines of a metric
+-- the text before the samples of a metric
 abbrev pub head_of : ShardMetric → List ℕ
 head_of Items = head_text (codes "gauge") (name_of Items) (codes "Number of items in the shard.")
 head_of Bytes = head_text (codes "gauge") (name_of Bytes) (codes "Cost of the items in the shard, in bytes.")
@@ -29,20 +29,20 @@ value_of Bytes shard = shard.bytes
 value_of Evicted shard = shard.evicted
 value_of OutOfMemory shard = shard.out_of_memory
 
--- the line of the shard of this number: 34 is the quotation mark
+-- the sample of the shard of this number; 34 is the quotation mark
 unfoldable pub shard_line : ShardMetric → (number value : ℕ) → List ℕ
 shard_line metric number value =
     name_of metric ++ ((codes "{shard=" ++ (34 ∷ [])) ++ (decimal number ++ ((34 ∷ codes "} ") ++ (decimal value ++ (10 ∷ [])))))
 
--- a line for each of the shards, of which the first has this number
+-- a sample for each of the shards, the first of which has this number
 abbrev pub shard_lines : ShardMetric → ℕ → List ShardTotals → List ℕ
 shard_lines metric number [] = []
 shard_lines metric number (shard ∷ shards) = shard_line metric number (value_of metric shard) ++ shard_lines metric (number + 1) shards
 
--- what is told of a metric of these shards
+-- the text of a metric of these shards
 abbrev pub text_of : List ShardTotals → ShardMetric → List ℕ
 text_of shards metric = head_of metric ++ shard_lines metric 0 shards
 
--- what each shard holds and what it let go
+-- the contents and evictions of each shard
 abbrev pub shards_text : List ShardTotals → List ℕ
 shards_text shards = flat_map (text_of shards) (Items ∷ (Bytes ∷ (Evicted ∷ (OutOfMemory ∷ []))))

@@ -1,11 +1,11 @@
-//! Where the metrics are told.
+//! The address at which metrics are served.
 ghost use Rattle.std.specs.Prelude.{◌≡◌, IfOk, string_bytes};
 ghost use Rattle.mc_metrics.specs.Address.{address_of, host_before};
 
 use std::alloc::{AllocError, Global};
 
-/// The address and the port that a word says: a port alone, with a colon before it or without, is one of this machine's own
-/// address, so that nobody else reads the metrics unless it is asked for.
+/// Parses the value of `--metrics` into host and port. A port alone, with or without a leading
+/// colon, is on 127.0.0.1, so that metrics aren't public by default.
 pub fn address_of(alloc: Global, word: &str) -> Result<String, AllocError>
     ensures { IfOk result (λ address. string_bytes address ≡ address_of word.now) }
 {
@@ -13,7 +13,7 @@ pub fn address_of(alloc: Global, word: &str) -> Result<String, AllocError>
     format!(in alloc; "{host}{word}")
 }
 
-/// What stands before the word.
+/// The host to put before the word, if it has none.
 fn host_before(word: &[u8]) -> &'static str
     ensures { result.now ≡ host_before word.now }
 {

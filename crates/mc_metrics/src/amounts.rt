@@ -1,10 +1,10 @@
-//! Amounts as people read them: with separators and units.
+//! Numbers for people, with separators and units.
 ghost use Rattle.std.specs.Prelude.{◌≡◌, ◌++◌, OnOk, flat_map, string_bytes};
 ghost use Rattle.mc_metrics.specs.Amounts.{amount_text, bytes_text, digits_of, duration_text, group_text, grouped, percent_of, tenths_text};
 
 use std::alloc::AllocError;
 
-/// What an amount counts.
+/// The unit of an amount.
 #[derive(Clone, Copy)]
 pub(crate) enum Unit {
     Number,
@@ -14,7 +14,7 @@ pub(crate) enum Unit {
     Percent,
 }
 
-/// What each group of three digits counts, but for the last one.
+/// Powers of a thousand of the digit groups, but for the last group.
 const GROUPS: [u64; 6] = [
     1_000_000_000_000_000_000,
     1_000_000_000_000_000,
@@ -56,7 +56,7 @@ pub(crate) fn push_amount(text: &mut String, unit: Unit, amount: u64) -> Result<
     }
 }
 
-/// Appends the number, with a comma before each three digits: `1,234,567`.
+/// Appends the number with thousands separators: `1,234,567`.
 pub(crate) fn push_grouped(text: &mut String, number: u64) -> Result<(), AllocError>
     ensures { OnOk result (string_bytes text.new ≡ string_bytes text.old ++ grouped number) }
 {
@@ -64,7 +64,7 @@ pub(crate) fn push_grouped(text: &mut String, number: u64) -> Result<(), AllocEr
     push_digits(text, number)
 }
 
-/// Appends the groups of digits that count these powers of a thousand.
+/// Appends the digit groups of these powers of a thousand.
 fn push_groups(text: &mut String, powers: &[u64], number: u64) -> Result<(), AllocError>
     ensures { OnOk result (string_bytes text.new ≡
         string_bytes text.old ++ flat_map (group_text number) powers.now) }
@@ -75,7 +75,8 @@ fn push_groups(text: &mut String, powers: &[u64], number: u64) -> Result<(), All
     Ok(())
 }
 
-/// Appends the group of digits that counts this power of a thousand, and a comma; nothing where the number is less.
+/// Appends the digit group of this power of a thousand and a comma; nothing if the number is
+/// smaller.
 #[tactic(auto, unfolding(crate::specs::Amounts::group_text))]
 fn push_group(text: &mut String, power: u64, number: u64) -> Result<(), AllocError>
     ensures { OnOk result
@@ -88,7 +89,7 @@ fn push_group(text: &mut String, power: u64, number: u64) -> Result<(), AllocErr
     text.push_str(",")
 }
 
-/// Appends the last three digits, or all where there are fewer.
+/// Appends the last three digits, or fewer if the number is smaller.
 #[tactic(auto, unfolding(crate::specs::Amounts::digits_of))]
 fn push_digits(text: &mut String, number: u64) -> Result<(), AllocError>
     ensures { OnOk result (string_bytes text.new ≡ string_bytes text.old ++ digits_of number) }
@@ -102,7 +103,7 @@ fn push_digits(text: &mut String, number: u64) -> Result<(), AllocError>
     write!(text, "{hundreds}{tens}{ones}")
 }
 
-/// Appends a number of bytes: `1,000 bytes`, `37.7 MiB`.
+/// Appends a size in bytes: `1,000 bytes`, `37.7 MiB`.
 pub(crate) fn push_bytes(text: &mut String, bytes: u64) -> Result<(), AllocError>
     ensures { OnOk result (string_bytes text.new ≡ string_bytes text.old ++ bytes_text bytes) }
 {
@@ -118,7 +119,7 @@ pub(crate) fn push_bytes(text: &mut String, bytes: u64) -> Result<(), AllocError
     }
 }
 
-/// Appends a number with one digit behind the point, and its unit.
+/// Appends a number with one decimal and its unit.
 #[tactic(auto, unfolding(crate::specs::Amounts::tenths_text))]
 fn push_tenths(text: &mut String, whole: u64, tenths: u64, unit: &str) -> Result<(), AllocError>
     ensures { OnOk result
@@ -128,7 +129,7 @@ fn push_tenths(text: &mut String, whole: u64, tenths: u64, unit: &str) -> Result
     write!(text, ".{tenths}{unit}")
 }
 
-/// Appends a time, by its two greatest units: `2 d 3 h`, `5 min 7 s`.
+/// Appends a duration in its two largest units: `2 d 3 h`, `5 min 7 s`.
 pub(crate) fn push_duration(text: &mut String, seconds: u64) -> Result<(), AllocError>
     ensures { OnOk result
         (string_bytes text.new ≡ string_bytes text.old ++ duration_text seconds) }
@@ -146,7 +147,7 @@ pub(crate) fn push_duration(text: &mut String, seconds: u64) -> Result<(), Alloc
     }
 }
 
-/// The share of the hits in percent, rounded down; none where there was neither hit nor miss.
+/// Hit ratio in percent, rounded down; `None` without hits and misses.
 #[tactic(auto, using(crate::proofs::AmountLemmas::a_share))]
 pub(crate) fn percent_of(hits: u64, misses: u64) -> Option<u64>
     ensures { result ≡ percent_of hits misses }

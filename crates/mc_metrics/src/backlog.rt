@@ -1,4 +1,4 @@
-//! How many connections wait to be accepted, as Linux tells it.
+//! The number of connections in the listen backlog, from Linux' socket tables.
 ghost use Rattle.std.specs.Prelude.{◌≡◌};
 ghost use Rattle.mc_metrics.specs.Backlog.{AreWaiting, behind_colon, hexadecimal, waiting_at, waiting_in, word_at};
 
@@ -8,28 +8,28 @@ use std::io;
 use std::io::{Read, Seek, SeekFrom};
 use std::rt::Files;
 
-/// The state of a socket that listens.
+/// The state code of a listening socket.
 const LISTENING: &str = "0A";
 
-/// The places of a line's words: the address and the port, the state, and what is to be written and to be read. Of a socket that
-/// listens the last one is the length of its queue of connections that wait to be accepted.
+/// Word positions on a line: local address, state, and the queue sizes. For a listening socket, the
+/// receive queue is the length of its backlog (proc(5), /proc/net/tcp).
 const ADDRESS: usize = 1;
 
 const STATE: usize = 3;
 
 const QUEUES: usize = 4;
 
-/// The system's tables of TCP sockets. They stay open, and are read from their start whenever they are asked.
+/// The system's tables of TCP sockets. They stay open, and are read from their start each time.
 pub(crate) struct Tables {
     alloc: Global,
-    /// That of IPv4, if it can be opened.
+    /// The table of IPv4, if it can be opened.
     four: Option<File>,
-    /// That of IPv6, if it can be opened.
+    /// The table of IPv6, if it can be opened.
     six: Option<File>,
 }
 
 impl Drop for Tables {
-    /// By hand, so that to let one go is one call for whoever holds it (docs/DECISIONS.md).
+    /// Written by hand, so that its owners drop it by a single call (docs/DECISIONS.md, F20).
     fn drop(self) {
         let Tables {
             alloc: _alloc,
@@ -40,7 +40,7 @@ impl Drop for Tables {
 }
 
 impl Tables {
-    /// Opens the tables. One that is missing, as on another system than Linux, shows no socket.
+    /// Opens the tables. A missing table, as on systems other than Linux, counts as empty.
     pub(crate) fn open<R: Files<File = File>>(rt: &R, alloc: Global) -> Tables {
         Tables {
             alloc,
@@ -49,7 +49,8 @@ impl Tables {
         }
     }
 
-    /// How many connections wait now at the sockets that listen at the port. A table that can't be read shows none.
+    /// Number of connections in the backlog of the sockets that listen at the port. An unreadable
+    /// table counts as empty.
     pub(crate) fn waiting(&self, port: u16) -> u64
         ensures { AreWaiting port result }
     {
@@ -59,7 +60,7 @@ impl Tables {
     }
 }
 
-/// The text of a table as it is now, an empty one where it can't be read.
+/// The current text of a table; empty if it can't be read.
 fn table_text(alloc: Global, table: &Option<File>) -> String {
     match read_table(alloc, table) {
         Ok(text) => text,
@@ -78,7 +79,7 @@ fn read_table(alloc: Global, table: &Option<File>) -> io::Result<String> {
     Ok(text)
 }
 
-/// How many connections wait, by this table, at the sockets that listen at the port.
+/// Number of waiting connections in this table, over the sockets that listen at the port.
 fn waiting_at(table: &str, port: u16) -> u64
     ensures { result ≡ waiting_at port table.now }
 {
@@ -87,7 +88,7 @@ fn waiting_at(table: &str, port: u16) -> u64
     })
 }
 
-/// How many wait at the socket of a line, if it listens at the port.
+/// Number of waiting connections of the socket on this line, if it listens at the port.
 #[tactic(auto, unfolding(crate::specs::Backlog::waiting_in))]
 fn waiting_in(line: &str, port: u16) -> u64
     ensures { result ≡ waiting_in port line.now }
@@ -103,7 +104,7 @@ fn waiting_in(line: &str, port: u16) -> u64
     }
 }
 
-/// The word of a line that has `place` words before it, an empty one where there is none.
+/// Word number `place` of a line, counted from 0; empty if there is none.
 fn word_at(line: &str, place: usize) -> &str
     ensures { result.now ≡ word_at place line.now }
 {
@@ -111,14 +112,14 @@ fn word_at(line: &str, place: usize) -> &str
     words.nth(place).unwrap_or("")
 }
 
-/// The number behind the first colon of a word, if there is one.
+/// The hexadecimal number behind the first colon of a word, if there is one.
 fn behind_colon(word: &str) -> Option<u64>
     ensures { result ≡ behind_colon word.now }
 {
     hexadecimal(word.split(':').nth(1).unwrap_or(""))
 }
 
-/// The number of 64 bits that a text spells in hexadecimal.
+/// Parses a hexadecimal number of 64 bits.
 fn hexadecimal(text: &str) -> Option<u64>
     ensures { result ≡ hexadecimal text.now }
 {

@@ -1,11 +1,11 @@
-//! The metrics of each shard by itself.
+//! Metrics by shard.
 ghost use Rattle.std.specs.Prelude.{◌≡◌, ◌++◌, OnOk, flat_map, string_bytes};
 ghost use Rattle.mc_metrics.specs.Shards.{head_of, name_of, shard_line, shard_lines, text_of, shards_text, value_of};
 
 use mc_watch::ShardTotals;
 use std::alloc::AllocError;
 
-/// What is told of each shard.
+/// A metric that is reported for each shard.
 #[derive(Clone, Copy)]
 enum ShardMetric {
     Items,
@@ -14,7 +14,7 @@ enum ShardMetric {
     OutOfMemory,
 }
 
-/// All of it, in the order in which it is told.
+/// The metrics in their order of output.
 const SHARD_METRICS: [ShardMetric; 4] = [
     ShardMetric::Items,
     ShardMetric::Bytes,
@@ -22,7 +22,7 @@ const SHARD_METRICS: [ShardMetric; 4] = [
     ShardMetric::OutOfMemory,
 ];
 
-/// What each shard holds and what it let go, with its number as a label.
+/// Appends the contents and evictions of each shard, with its number as a label.
 pub(crate) fn push_shards(text: &mut String, shards: &[ShardTotals]) -> Result<(), AllocError>
     ensures { OnOk result
         (string_bytes text.new ≡ string_bytes text.old ++ shards_text shards.now) }
@@ -30,7 +30,7 @@ pub(crate) fn push_shards(text: &mut String, shards: &[ShardTotals]) -> Result<(
     push_metrics(text, &SHARD_METRICS, shards)
 }
 
-/// The metrics, one after another.
+/// Appends these metrics.
 fn push_metrics(
     text: &mut String,
     metrics: &[ShardMetric],
@@ -45,7 +45,7 @@ fn push_metrics(
     Ok(())
 }
 
-/// What the metric tells, and its lines.
+/// Appends the HELP and TYPE lines of a metric, and its samples.
 fn push_metric(
     text: &mut String,
     metric: ShardMetric,
@@ -58,7 +58,7 @@ fn push_metric(
     push_lines(text, metric, shards)
 }
 
-/// A line of the metric for each shard.
+/// Appends a sample of the metric for each shard.
 fn push_lines(
     text: &mut String,
     metric: ShardMetric,
@@ -73,7 +73,7 @@ fn push_lines(
     Ok(())
 }
 
-/// The line of the metric for the shard of this number.
+/// Appends the sample of one shard.
 #[tactic(auto, unfolding(crate::specs::Shards::shard_line))]
 fn push_line(
     text: &mut String,

@@ -1,14 +1,14 @@
-//! What was counted in the last minutes.
+//! Samples of the last ten minutes.
 ghost use Rattle.std.specs.Prelude.{◌≡◌, [], IfOk};
 
 use mc_watch::Totals;
 use std::alloc::{AllocError, Global};
 use std::marker::Model;
 
-/// The number of samples that are kept.
+/// Number of samples kept.
 pub(crate) const KEPT: usize = 121;
 
-/// What all threads had counted at the last moments, the oldest first.
+/// The last samples of all totals, oldest first.
 #[derive(Drop)]
 pub struct History {
     samples: Vec<Totals>,
@@ -31,7 +31,7 @@ impl Model for History {
 impl History {
     ghost use Rattle.mc_metrics.specs.Samples.{with_sample};
 
-    /// No sample yet.
+    /// An empty history. All memory is allocated here.
     pub fn new(alloc: Global) -> Result<History, AllocError>
         ensures { IfOk result (λ history. history ≡ []) }
     {
@@ -40,18 +40,18 @@ impl History {
         })
     }
 
-    /// One sample more; the oldest goes where there are enough.
+    /// Adds a sample. Drops the oldest one if the history is full.
     pub fn add(&mut self, sample: Totals)
         ensures { self.new ≡ with_sample self.old sample }
     {
         if self.samples.len() >= KEPT {
             self.samples.remove(0);
         }
-        // There is room for all that are kept.
+        // Can't fail: the capacity was reserved.
         let _ = self.samples.push(sample);
     }
 
-    /// The samples, the oldest first.
+    /// The samples, oldest first.
     pub fn samples(&self) -> &[Totals]
         ensures { result.now ≡ self.now }
     {

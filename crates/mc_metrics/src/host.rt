@@ -1,4 +1,4 @@
-//! The name of the machine.
+//! The machine's host name.
 ghost use Rattle.std.specs.Prelude.{◌≡◌};
 ghost use Rattle.std.specs.List.{list_all};
 ghost use Rattle.mc_metrics.specs.Host.{host_of, is_host_byte};
@@ -9,7 +9,7 @@ use std::io;
 use std::io::Read;
 use std::rt::Files;
 
-/// The machine's name, an empty one where it isn't known or isn't a host name.
+/// The host name; empty if it isn't known or isn't valid.
 pub(crate) fn host_name<R: Files<File = File>>(rt: &R, alloc: Global) -> String {
     match read_name(rt, alloc) {
         Ok(name) => name,
@@ -17,7 +17,7 @@ pub(crate) fn host_name<R: Files<File = File>>(rt: &R, alloc: Global) -> String 
     }
 }
 
-/// Reads the name from the file in which the system says it.
+/// Reads the host name from /proc.
 fn read_name<R: Files<File = File>>(rt: &R, alloc: Global) -> io::Result<String> {
     let mut file = File::open(rt, "/proc/sys/kernel/hostname")?;
     let mut text = String::new(alloc);
@@ -25,8 +25,8 @@ fn read_name<R: Files<File = File>>(rt: &R, alloc: Global) -> io::Result<String>
     Ok(String::from_str(alloc, host_in(text.as_str()))?)
 }
 
-/// The name in the text, without the space behind it; an empty one where it has a byte that no host name has, so that it may
-/// be written into a page as it is.
+/// The name in the text without trailing space. Empty if it has a byte that host names don't have,
+/// so that it needs no escaping in HTML.
 fn host_in(text: &str) -> &str
     ensures { result.now ≡ host_of text.now }
 {
@@ -38,14 +38,14 @@ fn host_in(text: &str) -> &str
     }
 }
 
-/// Whether a host name may have all of these bytes.
+/// Whether all bytes are allowed in a host name.
 fn are_of_host(name: &[u8]) -> bool
     ensures { result ≡ list_all is_host_byte name.now }
 {
     name.iter().all(|byte| is_host_byte(*byte))
 }
 
-/// Whether a host name may have this byte.
+/// Whether the byte is allowed in a host name.
 fn is_host_byte(byte: u8) -> bool
     ensures { result ≡ is_host_byte byte }
 {

@@ -1,5 +1,6 @@
-//! Tells over HTTP what a server has counted: as metrics that Prometheus reads, and as one plain page. A thread of its own does
-//! it, which waits for no thread of the server and has none wait for it. What a server is watched for is started here.
+//! Serves a server's counters over HTTP, as Prometheus metrics and as a status page. It runs on a
+//! thread of its own, which never blocks the serving threads. This crate also starts the other
+//! threads of telemetry.
 #![tactic(auto)]
 
 mod address;

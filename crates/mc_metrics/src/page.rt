@@ -1,4 +1,4 @@
-//! The page that shows the last minutes: one document without scripts, which the browser loads again by itself.
+//! The status page: one HTML document without scripts, which reloads itself.
 ghost use Rattle.std.specs.Prelude.{◌≡◌, ◌≤◌, ◌-◌, ◌/◌};
 ghost use Rattle.mc_metrics.specs.Amounts.{percent_of};
 
@@ -9,17 +9,17 @@ use crate::reading::{Facts, Reading};
 use mc_watch::{CommandTotals, ShardTotals, Totals};
 use std::alloc::{AllocError, Global};
 
-/// Seconds from one sample to the next.
+/// Sampling interval in seconds.
 pub(crate) const SAMPLE_SECONDS: u64 = 5;
 
-/// The width of a step of a curve, and the width and height of the whole of it, in units of the drawing.
+/// Geometry of a chart in SVG units: distance of two points, width and height.
 const STEP: usize = 5;
 
 const WIDTH: usize = STEP * (KEPT - 1);
 
 const HEIGHT: u64 = 100;
 
-/// What comes before the title.
+/// HTML before the title.
 const HEAD: &str = "<!doctype html>
 <html lang=\"en\">
 <head>
@@ -29,7 +29,7 @@ const HEAD: &str = "<!doctype html>
 <meta http-equiv=\"refresh\" content=\"5\">
 <title>";
 
-/// What comes between the title and the heading.
+/// HTML between the title and the heading.
 const STYLE: &str = "</title>
 <style>
 :root { color-scheme: light dark; --text: #222; --back: #fff; --faint: #666; --frame: #bbb; --curve: #0a58a6; --limit: #b3261e }
@@ -62,11 +62,11 @@ dd { margin: 0 }
 <body>
 <h1>";
 
-/// The times below a curve, and the end of its figure.
+/// The time axis below a chart, and the end of its figure.
 const FOOT: &str =
     "<div class=\"times\"><span>10 min ago</span><span>5 min ago</span><span>now</span></div></div></figure>\n";
 
-/// A curve of the last minutes: what it shows of each sample.
+/// A chart of the last minutes.
 #[derive(Clone, Copy)]
 enum Curve {
     Requests,
@@ -79,7 +79,7 @@ enum Curve {
     Written,
 }
 
-/// All curves, in the order in which they are shown.
+/// The charts in their order of output.
 const CURVES: [Curve; 8] = [
     Curve::Requests,
     Curve::Hits,
@@ -105,7 +105,7 @@ impl Curve {
         }
     }
 
-    /// What its points count.
+    /// The unit of its values.
     fn unit(self) -> Unit {
         match self {
             Curve::Requests | Curve::Evictions => Unit::NumberPerSecond,
@@ -116,7 +116,7 @@ impl Curve {
         }
     }
 
-    /// What none of its points can exceed, if it has a limit.
+    /// The upper bound of its values, if there is one.
     fn limit(self, facts: &Facts) -> Option<u64> {
         match self {
             Curve::Bytes => Some(facts.limit_bytes),
@@ -125,7 +125,7 @@ impl Curve {
         }
     }
 
-    /// The least number at the top of its axis: its limit, or all of a hundred percent.
+    /// The smallest maximum of its axis: its limit, or 100 percent.
     fn least_top(self, facts: &Facts) -> u64 {
         match self {
             Curve::Hits => 100,
@@ -133,7 +133,7 @@ impl Curve {
         }
     }
 
-    /// Its point at a sample, by that sample and the one before it; none where there is nothing to show.
+    /// Its value at a sample, from that sample and the previous one; `None` if undefined.
     fn point(self, before: &Totals, now: &Totals) -> Option<u64> {
         match self {
             Curve::Requests => Some(a_second(requests(&before.shards), requests(&now.shards))),
@@ -147,7 +147,7 @@ impl Curve {
         }
     }
 
-    /// Its points, one for each sample but the oldest.
+    /// Its values, one for each sample but the oldest.
     fn points(self, alloc: Global, samples: &[Totals]) -> Result<Vec<Option<u64>>, AllocError> {
         let mut points = Vec::with_capacity(alloc, samples.len())?;
         for place in 1..samples.len() {
@@ -157,7 +157,7 @@ impl Curve {
     }
 }
 
-/// The greatest of the points, none where there is none.
+/// The largest value, if there is any.
 fn peak_of(points: &[Option<u64>]) -> Option<u64> {
     let mut peak = None;
     for point in points {
@@ -166,7 +166,7 @@ fn peak_of(points: &[Option<u64>]) -> Option<u64> {
     peak
 }
 
-/// The greater one of two points, or the one that is there.
+/// The larger of two optional values.
 fn greater_of(one: Option<u64>, other: Option<u64>) -> Option<u64> {
     match (one, other) {
         (Some(one), Some(other)) => Some(one.max(other)),
@@ -174,7 +174,7 @@ fn greater_of(one: Option<u64>, other: Option<u64>) -> Option<u64> {
     }
 }
 
-/// How high a point stands, where `top` is the number at the top of the axis.
+/// The height of a value, if `top` is the maximum of the axis.
 fn height_of(point: u64, top: u64) -> u64
     ensures { result ≤ HEIGHT }
 {
@@ -184,7 +184,7 @@ fn height_of(point: u64, top: u64) -> u64
     (point.saturating_mul(HEIGHT) / top).min(HEIGHT)
 }
 
-/// The page: what is known now of the server on the machine of this name, and the curves of the samples.
+/// The whole page: the current state of the server on this host, and the charts of the samples.
 pub fn page_of(
     alloc: Global,
     host: &str,
@@ -201,7 +201,7 @@ pub fn page_of(
     Ok(text)
 }
 
-/// Appends what comes before the figures.
+/// Appends everything before the figures.
 fn push_head(text: &mut String, host: &str, facts: &Facts) -> Result<(), AllocError> {
     let Facts { version, port, .. } = facts;
     write!(text, "{HEAD}{host}:{port} mcd{STYLE}")?;
@@ -211,7 +211,7 @@ fn push_head(text: &mut String, host: &str, facts: &Facts) -> Result<(), AllocEr
     )
 }
 
-/// Appends the figure of what is known now.
+/// Appends the figure with the current state.
 fn push_server(text: &mut String, reading: &Reading) -> Result<(), AllocError> {
     text.push_str("<figure><figcaption><b>Server</b></figcaption><dl>\n<dt>Uptime</dt><dd>")?;
     push_duration(text, reading.uptime)?;
@@ -225,7 +225,7 @@ fn push_server(text: &mut String, reading: &Reading) -> Result<(), AllocError> {
     text.push_str("</dd>\n</dl></figure>\n")
 }
 
-/// Appends what the process uses.
+/// Appends the resources used by the process.
 fn push_process(text: &mut String, process: &Process) -> Result<(), AllocError> {
     text.push_str("</dd>\n<dt>Process memory</dt><dd>")?;
     push_bytes(text, process.resident)?;
@@ -240,7 +240,7 @@ fn push_process(text: &mut String, process: &Process) -> Result<(), AllocError> 
     push_grouped(text, process.most_files)
 }
 
-/// Appends a curve as a figure. The newest point is at the right.
+/// Appends a chart as a figure. The newest value is at the right.
 fn push_curve(
     alloc: Global,
     text: &mut String,
@@ -261,7 +261,7 @@ fn push_curve(
     write!(text, "\"/></svg>{FOOT}")
 }
 
-/// Appends the caption of a curve: its newest point, its limit, and its greatest point.
+/// Appends a chart's caption: its newest value, its limit and its peak.
 fn push_caption(
     text: &mut String,
     curve: Curve,
@@ -281,7 +281,7 @@ fn push_caption(
     text.push_str("</small></figcaption>")
 }
 
-/// Appends an amount that is known, behind these words.
+/// Appends an optional amount with these words before it.
 fn push_known(
     text: &mut String,
     words: &str,
@@ -295,7 +295,7 @@ fn push_known(
     push_amount(text, unit, amount)
 }
 
-/// Appends the numbers at the axis of a curve, and the lines of its axes.
+/// Appends the axes and their labels.
 fn push_axes(text: &mut String, curve: Curve, top: u64) -> Result<(), AllocError> {
     let title = curve.title();
     text.push_str("<div class=\"plot\"><span class=\"top\">")?;
@@ -319,7 +319,7 @@ fn push_limit(text: &mut String, limit: Option<u64>, top: u64) -> Result<(), All
     write!(text, "<path class=\"limit\" d=\"M0,{y}H{WIDTH}\"/>")
 }
 
-/// Appends the points of a curve; it has a gap where there is no point.
+/// Appends the curve, with a gap where a value is undefined.
 fn push_points(text: &mut String, points: &[Option<u64>], top: u64) -> Result<(), AllocError> {
     let skipped = KEPT.saturating_sub(points.len());
     let mut follows = false;
@@ -333,7 +333,7 @@ fn push_points(text: &mut String, points: &[Option<u64>], top: u64) -> Result<()
     Ok(())
 }
 
-/// Appends a point: a line to it where it follows another one, or a dot.
+/// Appends a point: a line segment from the previous point, or else a dot.
 fn push_point(text: &mut String, x: usize, y: u64, follows: bool) -> Result<(), AllocError> {
     if follows {
         write!(text, "L{x},{y}")
@@ -342,7 +342,7 @@ fn push_point(text: &mut String, x: usize, y: u64, follows: bool) -> Result<(), 
     }
 }
 
-/// How much was asked of the shards, whatever came of it.
+/// Number of commands of all kinds, whatever their outcome.
 fn requests(shards: &ShardTotals) -> u64 {
     let all = shards.all();
     all.hits
@@ -352,7 +352,7 @@ fn requests(shards: &ShardTotals) -> u64 {
         .saturating_add(all.refused)
 }
 
-/// The share of the gets between two samples that hit, in percent; none where there was no get.
+/// Hit ratio of the gets between two samples in percent; `None` without gets.
 fn hit_percent(before: &CommandTotals, now: &CommandTotals) -> Option<u64>
     ensures { result ≡
         percent_of (now.now.hits - before.now.hits) (now.now.misses - before.now.misses) }
@@ -362,7 +362,7 @@ fn hit_percent(before: &CommandTotals, now: &CommandTotals) -> Option<u64>
     percent_of(hits, misses)
 }
 
-/// How much a count grew a second, between two samples.
+/// Increase per second between two samples.
 fn a_second(before: u64, now: u64) -> u64
     ensures { result ≡ (now - before) / SAMPLE_SECONDS }
 {

@@ -1,4 +1,4 @@
-//! What is answered to a request.
+//! Answers to HTTP requests.
 ghost use Rattle.std.specs.Prelude.{◌≡◌, ◌≤◌, ◌<◌, ◌/◌, [], IfOk, string_bytes};
 ghost use Rattle.mc_watch.specs.Counts.{AreTotals, SameCounts};
 ghost use Rattle.mc_metrics.specs.Answers.{AreMetrics, IsAnswer, IsTextAt, is_read, status_at, target_of};
@@ -21,16 +21,16 @@ use std::alloc::{AllocError, Global};
 use std::fs::File;
 use std::rt::Files;
 
-/// What a path leads to.
+/// The resource at a path.
 #[derive(Clone, Copy)]
 enum Target {
-    /// All metrics.
+    /// The Prometheus metrics.
     Metrics,
-    /// That the server runs.
+    /// The health check.
     Health,
-    /// The page for people.
+    /// The status page.
     Page,
-    /// Nothing.
+    /// No resource: 404.
     Nothing,
 }
 
@@ -46,7 +46,7 @@ impl Target {
         }
     }
 
-    /// The status that answers a request for it.
+    /// The HTTP status of its response.
     fn status(self) -> StatusCode
         ensures { result ≡ status_at self }
     {
@@ -56,7 +56,7 @@ impl Target {
         }
     }
 
-    /// What kind of text stands there.
+    /// The content type of its response.
     fn kind(self) -> HeaderValue {
         match self {
             Target::Metrics => {
@@ -70,24 +70,24 @@ impl Target {
     }
 }
 
-/// Answers requests by what the threads of a server have counted.
+/// Renders the counters of a server's threads.
 pub struct Pages<C = Counter> {
     alloc: Global,
     facts: Facts,
     counts: Counts<C>,
-    /// Where it is read how many connections wait.
+    /// Source of the backlog's length.
     tables: Tables,
-    /// How long the server has run, in seconds.
+    /// Uptime of the server in seconds.
     uptime: u64,
-    /// Where it is read what its process uses.
+    /// Source of the process's resource usage.
     process: ProcessFiles,
-    /// The name of its machine.
+    /// The machine's host name.
     host: String,
     history: History,
 }
 
 impl<C: Drop> Drop for Pages<C> {
-    /// By hand, so that to let one go is one call for whoever holds it (docs/DECISIONS.md).
+    /// Written by hand, so that its owners drop it by a single call (docs/DECISIONS.md, F20).
     fn drop(self) {
         let Pages {
             alloc: _alloc,
@@ -103,7 +103,7 @@ impl<C: Drop> Drop for Pages<C> {
 }
 
 impl<C: Count> Pages<C> {
-    /// Of a server that has just begun, whose threads count there.
+    /// For a server that has just started, whose threads use these counters.
     pub fn new<R: Files<File = File>>(
         rt: &R,
         alloc: Global,
@@ -128,7 +128,7 @@ impl<C: Count> Pages<C> {
         })
     }
 
-    /// The server has run for `uptime` seconds. Where enough have passed for another sample, it is kept.
+    /// Updates the uptime. Adds a sample if the sampling interval is over.
     pub(crate) fn pass(&mut self, uptime: u64)
         ensures uptime { self.new.uptime ≡ uptime }
         ensures sampled { self.old.uptime / SAMPLE_SECONDS < uptime / SAMPLE_SECONDS →
@@ -145,7 +145,7 @@ impl<C: Count> Pages<C> {
         }
     }
 
-    /// Keeps what is counted now, for the curves of the page.
+    /// Adds a sample of the current totals for the charts.
     pub(crate) fn sample(&mut self)
         ensures sampled { Samples C.has_told self.old.counts self.old.history self.new.history }
         ensures uptime { self.new.uptime ≡ self.old.uptime }
@@ -155,7 +155,7 @@ impl<C: Count> Pages<C> {
         self.history.add(self.counts.totals());
     }
 
-    /// What is known now.
+    /// The current state of the server.
     fn reading(&self) -> Reading
         ensures facts { result.facts ≡ self.now.facts }
         ensures totals { AreTotals C.has_told self.now.counts result.totals }
@@ -171,7 +171,7 @@ impl<C: Count> Pages<C> {
         }
     }
 
-    /// The metrics of all shards together.
+    /// The metrics summed over all shards.
     fn metrics(&self) -> Result<String, AllocError>
         ensures { IfOk result (λ text.
             AreMetrics C.has_told self.now.facts self.now.counts self.now.uptime
@@ -180,7 +180,7 @@ impl<C: Count> Pages<C> {
         metrics_of(self.alloc, &self.reading())
     }
 
-    /// All metrics: of all shards together, and then of each shard by itself.
+    /// All metrics: summed over all shards, then by shard.
     fn all_metrics(&self) -> Result<String, AllocError>
         ensures { IfOk result (λ text.
             IsTextAt C.has_told Target.Metrics self.now.facts self.now.counts self.now.uptime
@@ -192,13 +192,13 @@ impl<C: Count> Pages<C> {
         Ok(text)
     }
 
-    /// The page for people, as it is now.
+    /// The status page in its current state.
     fn page(&self) -> Result<String, AllocError> {
         let host = self.host.as_str();
         page_of(self.alloc, host, &self.reading(), self.history.samples())
     }
 
-    /// The text at the target.
+    /// The body of the response for this resource.
     fn answer(&self, target: Target) -> Result<Bytes, AllocError>
         ensures { IfOk result (λ body.
             IsTextAt C.has_told target self.now.facts self.now.counts self.now.uptime body) }
@@ -232,7 +232,7 @@ impl<C: Count> Service for Pages<C> {
     }
 }
 
-/// Whether a request by this method only reads.
+/// Whether the method only reads (GET or HEAD).
 fn is_read(method: &str) -> bool
     ensures { result ≡ is_read method.now }
 {

@@ -1,4 +1,4 @@
-//! What the system says of the process.
+//! Resource usage of the process.
 ghost use Rattle.std.specs.Prelude.{◌≡◌, ◌==◌, count_by};
 
 use libc::types::rlimit;
@@ -9,47 +9,47 @@ use std::io::{Read, Seek, SeekFrom};
 use std::os::fd::AsRawFd;
 use std::rt::Files;
 
-/// Bytes of a page of memory, which /proc/self/stat counts in, on x86-64.
+/// Size of a memory page in bytes, on x86-64: the unit of /proc/self/stat.
 const PAGE: u64 = 4_096;
 
-/// The words of /proc/self/stat behind the program's name, by the number of words before them (proc(5)): what the process and the
-/// system have used of processors for it, in hundredths of a second, and its resident pages.
+/// Word positions in /proc/self/stat, counted after the program's name (proc(5)): user time, system
+/// time (both in hundredths of a second), and resident pages.
 const USER: usize = 11;
 
 const SYSTEM: usize = 12;
 
 const PAGES: usize = 21;
 
-/// Bytes of names that one read of a directory takes at most, which is more than a hundred files.
+/// Buffer size for reading a directory, in bytes: more than a hundred names.
 const ROOM: usize = 4_096;
 
-/// The most such reads: enough for some eight million files.
+/// Maximum number of such reads: enough for some eight million files.
 const MOST_READS: usize = 1 << 16;
 
-/// What the process uses, as the system counts it: 0 where it can't be read.
+/// Resource usage of the process; 0 for what can't be read.
 #[derive(Clone, Copy, Debug, Default, PartialEq, Eq)]
 pub struct Process {
-    /// Time of processors, in hundredths of a second.
+    /// CPU time in hundredths of a second.
     pub cpu: u64,
-    /// Resident memory, in bytes.
+    /// Resident set size in bytes.
     pub resident: u64,
-    /// Open file descriptors.
+    /// Number of open file descriptors.
     pub open_files: u64,
-    /// The most file descriptors that may be open: the soft limit, 2^64 - 1 where there is none.
+    /// Soft limit of open file descriptors; 2^64 - 1 if unlimited.
     pub most_files: u64,
 }
 
-/// Where the system says it. Both stay open, and are read from their start whenever they are asked.
+/// The files of /proc to read. They stay open, and are read from their start each time.
 pub(crate) struct ProcessFiles {
     alloc: Global,
-    /// The file of its times and its memory, if it can be opened.
+    /// /proc/self/stat, if it can be opened.
     stat: Option<File>,
-    /// The directory of its open files, if it can be opened.
+    /// /proc/self/fd, if it can be opened.
     directory: Option<File>,
 }
 
 impl Drop for ProcessFiles {
-    /// By hand, so that to let one go is one call for whoever holds it (docs/DECISIONS.md).
+    /// Written by hand, so that its owners drop it by a single call (docs/DECISIONS.md, F20).
     fn drop(self) {
         let ProcessFiles {
             alloc: _alloc,
@@ -60,7 +60,7 @@ impl Drop for ProcessFiles {
 }
 
 impl ProcessFiles {
-    /// Opens both. Where there are none, as on another system than Linux, the process uses nothing.
+    /// Opens both. If one is missing, as on systems other than Linux, its numbers are 0.
     pub(crate) fn open<R: Files<File = File>>(rt: &R, alloc: Global) -> ProcessFiles {
         ProcessFiles {
             alloc,
@@ -69,7 +69,7 @@ impl ProcessFiles {
         }
     }
 
-    /// What the process uses now.
+    /// The current resource usage.
     pub(crate) fn now(&self) -> Process {
         let text = match self.text() {
             Ok(text) => text,
@@ -84,7 +84,7 @@ impl ProcessFiles {
         }
     }
 
-    /// The text of the file of its times and its memory, as it is now.
+    /// The current text of /proc/self/stat.
     fn text(&self) -> io::Result<String> {
         let mut text = String::new(self.alloc);
         if let Some(stat) = &self.stat {
@@ -95,7 +95,7 @@ impl ProcessFiles {
         Ok(text)
     }
 
-    /// How many files the process has open.
+    /// Number of open file descriptors.
     fn open_files(&self) -> u64 {
         match &self.directory {
             Some(directory) => count_files(directory).unwrap_or(0),
@@ -104,7 +104,8 @@ impl ProcessFiles {
     }
 }
 
-/// The words of /proc/self/stat behind the program's name, in which there may be spaces and parentheses too.
+/// The words of /proc/self/stat after the program's name, which may itself contain spaces and
+/// parentheses.
 fn behind_name(stat: &str) -> &str {
     match stat.rsplit_once(") ") {
         Some((_, words)) => words,
@@ -112,13 +113,13 @@ fn behind_name(stat: &str) -> &str {
     }
 }
 
-/// The number that has `place` words before it, 0 where there is none.
+/// Word number `place` as a number, counted from 0; 0 if there is none.
 fn number_at(words: &str, place: usize) -> u64 {
     let word = words.split(' ').nth(place).unwrap_or("");
     word.parse::<u64>().unwrap_or(0)
 }
 
-/// How many files the directory names, read from its start.
+/// Number of entries of the directory, read from its start.
 fn count_files(directory: &File) -> io::Result<u64> {
     let mut directory = directory;
     directory.seek(SeekFrom::Start(0))?;
@@ -131,18 +132,18 @@ fn count_files(directory: &File) -> io::Result<u64> {
         }
         names = names.saturating_add(names_in(&buffer[..length]) as u64);
     }
-    // The directory and the one above it, `.` and `..`, are named too.
+    // `.` and `..` are entries too.
     Ok(names.saturating_sub(2))
 }
 
-/// How many names there are, each of which ends with the byte 0.
+/// Number of names in the buffer; each ends with a zero byte.
 fn names_in(names: &[u8]) -> usize
     ensures { result ≡ count_by (λ byte. byte == 0) names.now }
 {
     names.iter().filter(|byte| **byte == 0).count()
 }
 
-/// How many files the process may have open, as the system limits it now.
+/// The current limit of open file descriptors.
 fn most_files() -> u64 {
     let mut limit = rlimit {
         rlim_cur: 0,

@@ -1,35 +1,35 @@
-//! What is told of a server at a moment.
+//! The state of a server at one time, as input of metrics and page.
 use crate::process::Process;
 use mc_watch::Totals;
 
-/// What a server was started with.
+/// Configuration of the server.
 #[derive(Clone, Copy)]
 pub struct Facts {
-    /// The version of the program.
+    /// Version of the program.
     pub version: &'static str,
-    /// The port at which it listens for clients.
+    /// Port for clients.
     pub port: u16,
-    /// How many shards there are; each has a thread.
+    /// Number of shards, each with a thread.
     pub shards: u64,
-    /// How many connections are served at a time.
+    /// Number of connection slots.
     pub seats: u64,
-    /// What the items of all shards may cost together, in bytes.
+    /// Memory budget of all shards together, in bytes.
     pub limit_bytes: u64,
-    /// When it started, in seconds since 1970.
+    /// Start time, in seconds since 1970.
     pub started: u64,
 }
 
-/// What is known of a server at a moment.
+/// The state of a server at one time.
 #[derive(Clone, Copy)]
 pub struct Reading {
-    /// What it was started with.
+    /// Its configuration.
     pub facts: Facts,
-    /// What its threads have counted.
+    /// Totals of its threads.
     pub totals: Totals,
-    /// How many connections wait to be accepted.
+    /// Number of connections in the listen backlog.
     pub waiting: u64,
-    /// How long it has run, in seconds.
+    /// Uptime in seconds.
     pub uptime: u64,
-    /// What its process uses.
+    /// Resource usage of its process.
     pub process: Process,
 }

@@ -1,4 +1,4 @@
-//! The thread that tells the metrics.
+//! The thread that serves metrics.
 use crate::pages::Pages;
 use crate::visitor::Visitor;
 use mc_watch::Dismissal;
@@ -12,16 +12,16 @@ use std::sync::Wait;
 use std::time::{Duration, Instant};
 use std::{io, net, time};
 
-/// The most visitors at a time: one more takes the place of the one who came first.
+/// Maximum number of HTTP clients. A further one replaces the oldest.
 const MOST_VISITORS: usize = 32;
 
-/// The most visitors that come in at a turn.
+/// Maximum number of accepts in one turn.
 const COMERS: usize = 64;
 
-/// Milliseconds between two looks of the thread, where nobody asks anything.
+/// Polling interval in milliseconds while no request comes.
 const LOOK_MILLIS: u64 = 200;
 
-/// Where visitors come in, and what tells that one has come or has something to say.
+/// The listener, and the poll that reports new clients and requests.
 struct Entry {
     poll: Poll,
     events: Events,
@@ -29,7 +29,7 @@ struct Entry {
 }
 
 impl Drop for Entry {
-    /// By hand, so that to let one go is one call for whoever holds it (docs/DECISIONS.md).
+    /// Written by hand, so that its owners drop it by a single call (docs/DECISIONS.md, F20).
     fn drop(self) {
         let Entry {
             poll: _poll,
@@ -40,7 +40,7 @@ impl Drop for Entry {
 }
 
 impl Entry {
-    /// They come in by this listener.
+    /// Polls this listener.
     fn new<R: Net>(rt: &R, alloc: Global, listener: net::TcpListener) -> io::Result<Entry> {
         listener.set_nonblocking(true)?;
         let mut entry = Entry {
@@ -53,13 +53,13 @@ impl Entry {
         Ok(entry)
     }
 
-    /// Waits a little until somebody asks something. Where it fails the next look comes at once.
+    /// Waits a little for an event. If the poll fails, the next look comes at once.
     fn look(&mut self) {
         let timeout = Duration::from_millis(LOOK_MILLIS);
         let _ = self.poll.poll(&mut self.events, Some(timeout));
     }
 
-    /// The next connection, if one has come and can be waited for.
+    /// Accepts the next connection, if one is pending and can be registered with the poll.
     fn accept(&mut self) -> Option<TcpStream> {
         let (mut stream, _) = self.listener.accept().ok()?;
         let interests = Interest::READABLE | Interest::WRITABLE;
@@ -69,17 +69,17 @@ impl Entry {
     }
 }
 
-/// A server that tells what another one counts.
+/// An HTTP server for the counters of a cache server.
 pub struct MetricsServer {
     alloc: Global,
     entry: Entry,
-    /// In the order in which they came.
+    /// In order of arrival.
     visitors: Vec<Visitor>,
     pages: Pages,
 }
 
 impl Drop for MetricsServer {
-    /// By hand, so that to let one go is one call for whoever holds it (docs/DECISIONS.md).
+    /// Written by hand, so that its owners drop it by a single call (docs/DECISIONS.md, F20).
     fn drop(self) {
         let MetricsServer {
             alloc: _alloc,
@@ -91,7 +91,7 @@ impl Drop for MetricsServer {
 }
 
 impl MetricsServer {
-    /// It listens there, and answers by the pages.
+    /// Serves these pages at the listener.
     pub fn new<R: Net>(
         rt: &R,
         alloc: Global,
@@ -107,7 +107,7 @@ impl MetricsServer {
         })
     }
 
-    /// Serves until it is told to end, or the clock can't be read.
+    /// Serves until a stop is requested, or the clock can't be read.
     pub fn serve<R: Wait + RandomSource + time::Clock>(self, rt: &R, dismissal: &Dismissal) {
         let mut server = self;
         if let Ok(begin) = Instant::now(rt) {
@@ -115,7 +115,7 @@ impl MetricsServer {
         }
     }
 
-    /// The same, where it began then.
+    /// Serves with this start time of the clock.
     fn serve_since<R: Wait + RandomSource + time::Clock>(
         &mut self,
         rt: &R,
@@ -138,33 +138,33 @@ impl MetricsServer {
         unreachable!()
     }
 
-    /// Lets in those who have come.
+    /// Accepts pending clients.
     fn let_in<R: RandomSource>(&mut self, rt: &R) {
         for _ in 0..COMERS {
             let Some(visitor) = self.next_visitor(rt) else {
                 return;
             };
             self.make_room();
-            // There is room for all who stay.
+            // Can't fail: the capacity was reserved.
             let _ = self.visitors.push(visitor);
         }
     }
 
-    /// The next who has come, if there is one and it can be served.
+    /// Accepts the next client, if one is pending and can be served.
     fn next_visitor<R: RandomSource>(&mut self, rt: &R) -> Option<Visitor> {
         let stream = self.entry.accept()?;
         let keys = RandomState::new(rt).ok()?;
         Some(Visitor::new(self.alloc, keys, stream))
     }
 
-    /// Sends away the one who came first, where as many stay as may.
+    /// Drops the oldest client if the maximum is reached.
     fn make_room(&mut self) {
         if self.visitors.len() >= MOST_VISITORS {
             self.visitors.remove(0);
         }
     }
 
-    /// Serves each visitor, and sends away those who are done.
+    /// Serves each client, and drops those that are done.
     fn serve_visitors(&mut self) {
         let mut place = 0;
         for _ in 0..MOST_VISITORS {

@@ -1,4 +1,4 @@
-//! The metrics as Prometheus reads them (its text format, version 0.0.4).
+//! Metrics in Prometheus' text format, version 0.0.4.
 ghost use Rattle.std.specs.Prelude.{◌≡◌, ◌++◌, IfOk, OnOk, flat_map, string_bytes};
 ghost use Rattle.mc_metrics.specs.Metrics.{asked_text, command_name, command_text, commands_text, cpu_text, end_text, ended_text, ends_text, metric_text, metrics_text, number_of, reason_count, reason_name, status_text, told_text, totals_of, version_text};
 
@@ -6,7 +6,7 @@ use crate::reading::Reading;
 use mc_watch::{CommandTotals, EndTotals, ShardTotals};
 use std::alloc::{AllocError, Global};
 
-/// A metric of one number: its name, of what kind it is, what it tells, and its number.
+/// A metric with one sample: name, type, HELP text and value.
 struct Metric {
     name: &'static str,
     kind: &'static str,
@@ -14,10 +14,10 @@ struct Metric {
     number: Number,
 }
 
-/// A number of a reading.
+/// A value of a reading.
 #[derive(Clone, Copy)]
 enum Number {
-    /// 1, since the server runs.
+    /// Always 1: the server runs.
     Up,
     Uptime,
     LimitBytes,
@@ -41,7 +41,7 @@ enum Number {
     MostFiles,
 }
 
-/// A kind of command that shards are asked.
+/// A kind of command.
 #[derive(Clone, Copy)]
 enum CommandKind {
     Get,
@@ -54,7 +54,7 @@ enum CommandKind {
     Flush,
 }
 
-/// A reason for which connections have ended.
+/// A reason why connections ended.
 #[derive(Clone, Copy)]
 enum EndReason {
     Binary,
@@ -66,12 +66,13 @@ enum EndReason {
     RefusedMemory,
 }
 
-/// A gauge grows and falls, a counter only grows.
+/// The types of metrics: a gauge rises and falls, a counter only rises.
 const GAUGE: &str = "gauge";
 
 const COUNTER: &str = "counter";
 
-/// All metrics of one number, in the order in which they are told. Those with names that memcached's exporter has mean the same.
+/// All metrics with one sample, in their order of output. Metrics that memcached's exporter has too
+/// have its names and its meaning.
 const METRICS: [Metric; 21] = [
     Metric {
         name: "memcached_up",
@@ -201,7 +202,7 @@ const METRICS: [Metric; 21] = [
     },
 ];
 
-/// All reasons, in the order in which they are reported.
+/// The reasons in their order of output.
 const ENDS: [EndReason; 7] = [
     EndReason::Binary,
     EndReason::Http,
@@ -212,11 +213,11 @@ const ENDS: [EndReason; 7] = [
     EndReason::RefusedMemory,
 ];
 
-/// What comes before the lines of the reasons.
+/// HELP and TYPE lines of the reasons.
 const BEFORE_ENDS: &str =
     "# HELP mcd_connections_ended_total Connections closed because of an error or a limit, by reason.\n# TYPE mcd_connections_ended_total counter\n";
 
-/// All kinds of commands, in the order in which they are told.
+/// The kinds of commands in their order of output.
 const COMMANDS: [CommandKind; 8] = [
     CommandKind::Get,
     CommandKind::Set,
@@ -228,7 +229,7 @@ const COMMANDS: [CommandKind; 8] = [
     CommandKind::Flush,
 ];
 
-/// What comes before the lines of the kinds of commands.
+/// HELP and TYPE lines of the kinds of commands.
 const BEFORE_COMMANDS: &str =
     "# HELP memcached_commands_total Commands executed by the shards, by command and outcome.\n# TYPE memcached_commands_total counter\n";
 
@@ -244,7 +245,7 @@ pub fn metrics_of(alloc: Global, reading: &Reading) -> Result<String, AllocError
     Ok(text)
 }
 
-/// The metric that tells the version.
+/// The metric with the program's version.
 fn version_of(alloc: Global, version: &str) -> Result<String, AllocError>
     ensures { IfOk result (λ text. string_bytes text ≡ version_text version.now) }
 {
@@ -253,7 +254,7 @@ fn version_of(alloc: Global, version: &str) -> Result<String, AllocError>
     )
 }
 
-/// The metrics of one number, one after another.
+/// Appends these metrics.
 fn push_metrics(text: &mut String, metrics: &[Metric], reading: &Reading) -> Result<(), AllocError>
     ensures { OnOk result (string_bytes text.new ≡
         string_bytes text.old ++ flat_map (told_text reading.now) metrics.now) }
@@ -264,7 +265,7 @@ fn push_metrics(text: &mut String, metrics: &[Metric], reading: &Reading) -> Res
     Ok(())
 }
 
-/// The metric at this value.
+/// Appends a metric with this value.
 #[tactic(auto, unfolding(crate::specs::Metrics::metric_text))]
 fn push_metric(text: &mut String, metric: &Metric, value: u64) -> Result<(), AllocError>
     ensures { OnOk result (string_bytes text.new ≡ string_bytes text.old
@@ -282,7 +283,7 @@ fn push_metric(text: &mut String, metric: &Metric, value: u64) -> Result<(), All
     )
 }
 
-/// How long the process has used processors, by this many hundredths of a second.
+/// Appends the CPU time, given in hundredths of a second.
 #[tactic(auto, unfolding(crate::specs::Metrics::cpu_text))]
 fn push_cpu(text: &mut String, hundredths: u64) -> Result<(), AllocError>
     ensures { OnOk result (string_bytes text.new ≡ string_bytes text.old ++ cpu_text hundredths) }
@@ -296,7 +297,7 @@ fn push_cpu(text: &mut String, hundredths: u64) -> Result<(), AllocError>
     )
 }
 
-/// How many connections have ended, by the reasons.
+/// Appends the number of ended connections by reason.
 fn push_ends(text: &mut String, ends: &EndTotals) -> Result<(), AllocError>
     ensures { OnOk result (string_bytes text.new ≡ string_bytes text.old ++ ends_text ends.now) }
 {
@@ -304,7 +305,7 @@ fn push_ends(text: &mut String, ends: &EndTotals) -> Result<(), AllocError>
     push_each_end(text, &ENDS, ends)
 }
 
-/// The reasons, one after another.
+/// Appends these reasons.
 fn push_each_end(
     text: &mut String,
     reasons: &[EndReason],
@@ -319,7 +320,7 @@ fn push_each_end(
     Ok(())
 }
 
-/// How many connections have ended for the reason of this name.
+/// Appends the number of connections that ended for one reason.
 #[tactic(auto, unfolding(crate::specs::Metrics::end_text))]
 fn push_end(text: &mut String, name: &str, count: u64) -> Result<(), AllocError>
     ensures { OnOk result
@@ -331,7 +332,7 @@ fn push_end(text: &mut String, name: &str, count: u64) -> Result<(), AllocError>
     )
 }
 
-/// What the shards were asked, and what came of it.
+/// Appends the number of commands by kind and outcome.
 fn push_commands(text: &mut String, shards: &ShardTotals) -> Result<(), AllocError>
     ensures { OnOk result
         (string_bytes text.new ≡ string_bytes text.old ++ commands_text shards.now) }
@@ -340,7 +341,7 @@ fn push_commands(text: &mut String, shards: &ShardTotals) -> Result<(), AllocErr
     push_each_command(text, &COMMANDS, shards)
 }
 
-/// The kinds of commands, one after another.
+/// Appends these kinds of commands.
 fn push_each_command(
     text: &mut String,
     commands: &[CommandKind],
@@ -355,7 +356,7 @@ fn push_each_command(
     Ok(())
 }
 
-/// How often commands of this name came to what.
+/// Appends the outcomes of one kind of command.
 fn push_command(text: &mut String, name: &str, totals: &CommandTotals) -> Result<(), AllocError>
     ensures { OnOk result
         (string_bytes text.new ≡ string_bytes text.old ++ command_text name.now totals.now) }
@@ -365,7 +366,7 @@ fn push_command(text: &mut String, name: &str, totals: &CommandTotals) -> Result
     push_status(text, name, "badval", totals.bad_values)
 }
 
-/// How often commands of this name came to this.
+/// Appends the number of one outcome.
 #[tactic(auto, unfolding(crate::specs::Metrics::status_text))]
 fn push_status(text: &mut String, name: &str, status: &str, count: u64) -> Result<(), AllocError>
     ensures { OnOk result

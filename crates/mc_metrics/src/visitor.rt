@@ -1,4 +1,4 @@
-//! One who asks over HTTP.
+//! An HTTP client.
 use crate::pages::Pages;
 use http_server::{Config, Connection};
 use mio::net::TcpStream;
@@ -6,20 +6,20 @@ use std::alloc::Global;
 use std::hash::RandomState;
 use std::io::ErrorKind;
 
-/// The most reads and writes of a visitor that are done in a turn: none keeps the others waiting.
+/// Maximum number of reads and writes of one client per turn, so that none starves the others.
 const TURNS: usize = 16;
 
-/// A request has no body that is of use.
+/// Maximum size in bytes of a request body, which is ignored.
 const MOST_BODY: usize = 1_024;
 
-/// A connection over HTTP.
+/// A connection of an HTTP client.
 pub(crate) struct Visitor {
     stream: TcpStream,
     connection: Connection,
 }
 
 impl Drop for Visitor {
-    /// By hand, so that to let one go is one call for whoever holds it (docs/DECISIONS.md).
+    /// Written by hand, so that its owners drop it by a single call (docs/DECISIONS.md, F20).
     fn drop(self) {
         let Visitor {
             stream: _stream,
@@ -29,7 +29,7 @@ impl Drop for Visitor {
 }
 
 impl Visitor {
-    /// One who has just come. The keys are secret: the visitor chooses the names of headers.
+    /// A new client. The hash keys must be secret, since the client chooses the header names.
     pub(crate) fn new(alloc: Global, keys: RandomState, stream: TcpStream) -> Visitor {
         let mut config = Config::default();
         config.max_body_len = MOST_BODY;
@@ -39,7 +39,8 @@ impl Visitor {
         }
     }
 
-    /// Reads and answers what has come, without waiting. Whether the visitor stays.
+    /// Reads and answers pending requests without blocking. Returns whether the connection stays
+    /// open.
     pub(crate) fn serve(&mut self, pages: &mut Pages) -> bool {
         for _ in 0..TURNS {
             self.connection.advance(pages);

@@ -1,4 +1,4 @@
-//! What is watched of a server, as who runs it wishes, and the threads that tell it.
+//! Telemetry options, and the threads that they start.
 ghost use Rattle.std.specs.Prelude.{◌≡◌, ◌*◌, ◌-◌, ◌^◌, IfOk, IfSome, length, min, option_map};
 ghost use Rattle.mc_watch.specs.Counts.{shard_count, threads_of};
 ghost use Rattle.mc_metrics.specs.Wishes.{AreFollowed, reporter_count};
@@ -22,29 +22,29 @@ use std::sync::{Arc, Wait};
 use std::thread::{JoinHandle, Threads};
 use std::{io, thread, time};
 
-/// What who runs a server wants to be watched.
+/// Telemetry options.
 #[derive(Clone, Copy)]
 pub struct Wishes<'a> {
-    /// The seconds after which a connection that moves no byte is given up, if one is.
+    /// The idle timeout in seconds, if there is one.
     pub idle_timeout: Option<u64>,
-    /// Whether each connection is told on standard error.
+    /// Whether connections are logged to standard error.
     pub verbose: bool,
-    /// Whether standard error is the system's journal.
+    /// Whether standard error is the system journal.
     pub is_journal: bool,
-    /// Where the metrics are told, if they are.
+    /// The address for metrics, if they are served.
     pub metrics: Option<&'a str>,
-    /// The most seconds that connections take to end, once a signal asks the server to.
+    /// The longest time in seconds that connections have for a clean shutdown after a signal.
     pub drain: u64,
 }
 
-/// Why nothing is watched.
+/// Why telemetry could not be started.
 #[derive(Drop)]
 pub enum NotWatching {
-    /// Memory ran out.
+    /// Memory was refused.
     Memory,
-    /// A thread could not be started.
+    /// A thread could not be created.
     Thread,
-    /// The metrics can't be told where they are to be.
+    /// The address of the metrics can't be used.
     Metrics(io::Error),
 }
 
@@ -58,33 +58,33 @@ impl From<AllocError> for NotWatching {
     }
 }
 
-/// A thread that tells what is watched, and how it is told to end.
+/// A telemetry thread with its stop request.
 #[derive(Drop)]
 struct Teller {
     telling: JoinHandle<()>,
     dismissal: Arc<Dismissal, Global>,
 }
 
-/// The threads that report what is watched, and how far the server is with its end, where a signal may ask for it.
+/// The running telemetry threads, and the shutdown stage if a signal can start the shutdown.
 #[derive(Drop)]
 pub struct Watching {
     tellers: Vec<Teller>,
     shutdown: Option<Shutdown>,
 }
 
-/// How a server ended that serves no more.
+/// How a server ended.
 #[derive(Clone, Copy)]
 pub enum Ended {
-    /// No signal asked for it.
+    /// Without a signal.
     Unasked,
-    /// A signal asked for it, and all connections ended in time.
+    /// After a signal, all connections ended in time.
     InOrder,
-    /// A signal asked for it, and connections were cut off.
+    /// After a signal, connections were cut off.
     Cut,
 }
 
-/// Starts to watch what is wished of a server of this version at this port, of these sizes: what the server has to tell, and
-/// the threads that tell it on.
+/// Starts the telemetry of a server with this version, port and sizes: returns the handle for the
+/// serving threads, and the telemetry threads.
 pub fn start_watching<
     R: Threads
         + Wait
@@ -154,7 +154,7 @@ impl Watching {
         })
     }
 
-    /// When the server is to end, where whoever started it has blocked the signals that ask for it.
+    /// The shutdown stage, if the ending signals are blocked and can be polled.
     fn drain<R: Files<File = File> + Alloc<A = Global>>(
         &mut self,
         rt: &R,
@@ -174,7 +174,8 @@ impl Watching {
         }))
     }
 
-    /// A reporter for each seat and one for what accepts, and a thread that tells what they report, where that is wished.
+    /// Makes a reporter for each slot and for the accepting thread, and starts the logging thread,
+    /// if connections are logged.
     fn reporters<R: Threads + Wait + Eprint + Alloc<A = Global> + Copy + Send + Drop + 'static>(
         &mut self,
         rt: &R,
@@ -192,7 +193,8 @@ impl Watching {
         Ok(all)
     }
 
-    /// What the threads of this many shards count, and a thread that tells it at the address of the word, where there is one.
+    /// Makes the counters of this many shards, and starts the metrics thread at this address, if
+    /// there is one.
     fn counts<
         R: Threads
             + Wait
@@ -228,14 +230,14 @@ impl Watching {
         Ok(Some(counts))
     }
 
-    /// Starts a thread that writes the reports to standard error.
+    /// Starts the thread that logs events to standard error.
     fn tell_reports<R: Threads + Wait + Eprint + Alloc<A = Global> + Copy + Send + Drop + 'static>(
         &mut self,
         rt: &R,
         reports: Reports,
         prefix: &'static str,
     ) -> Result<(), NotWatching> {
-        // The room comes first: a thread whose handle found none would never be joined.
+        // Reserved first: a thread whose handle can't be stored would never be joined.
         self.tellers.reserve(1)?;
         let dismissal = Dismissal::new(rt.alloc())?;
         let theirs = Arc::try_clone(&dismissal)?;
@@ -246,7 +248,7 @@ impl Watching {
         }
     }
 
-    /// Starts a thread that tells the metrics at the address of the word.
+    /// Starts the thread that serves metrics at this address.
     fn tell_metrics<
         R: Threads
             + Wait
@@ -274,7 +276,7 @@ impl Watching {
         }
     }
 
-    /// Keeps a thread, for which there is room.
+    /// Stores a thread; the capacity was reserved.
     fn keep(
         &mut self,
         telling: JoinHandle<()>,
@@ -286,7 +288,7 @@ impl Watching {
         }
     }
 
-    /// Ends the threads, once they have told all; how the server ended.
+    /// Stops the threads once all events are written. Returns how the server ended.
     pub fn end<R: Threads>(self, rt: &R) -> Ended {
         let Watching { tellers, shutdown } = self;
         for teller in tellers {
@@ -301,13 +303,13 @@ impl Watching {
     }
 }
 
-/// What is written before each line: the name of the program, or in the system's journal, which knows it, that it is an
-/// information (sd-daemon(3)).
+/// The prefix of each log line: the program's name, or under the journal, which adds the name
+/// itself, the level `info` (sd-daemon(3)).
 fn prefix_of(is_journal: bool) -> &'static str {
     if is_journal { "<6>" } else { "mcd: " }
 }
 
-/// How long a connection may be idle, where that is limited.
+/// The idle timeout with a new clock, if there is a timeout.
 fn idle_limit_of(alloc: Global, limit: Option<u64>) -> Result<Option<IdleLimit>, AllocError>
     ensures { IfOk result
         (λ idle_limit. option_map (λ one. one.limit) idle_limit ≡ limit) }
@@ -319,7 +321,7 @@ fn idle_limit_of(alloc: Global, limit: Option<u64>) -> Result<Option<IdleLimit>,
     Ok(Some(IdleLimit { seconds, limit }))
 }
 
-/// What is told of the server beside what it counts.
+/// The configuration of the server for metrics and page.
 fn facts_of(version: &'static str, port: u16, started: u64, sizes: Sizes) -> Facts
     ensures version { result.version.now ≡ version.now }
     ensures port { result.port ≡ port }
@@ -339,7 +341,7 @@ fn facts_of(version: &'static str, port: u16, started: u64, sizes: Sizes) -> Fac
     }
 }
 
-/// The second since 1970, 0 where the clock can't be read.
+/// The current time in seconds since 1970; 0 if the clock can't be read.
 fn started<R: time::Clock>(rt: &R) -> u64 {
     match rt.since_1970() {
         Ok(now) => now.as_secs(),
@@ -347,7 +349,7 @@ fn started<R: time::Clock>(rt: &R) -> u64 {
     }
 }
 
-/// Listens at the address of the word, which is told on standard error, to tell the metrics there.
+/// Listens at this address, logs it to standard error, and makes the metrics server.
 fn metrics_server<R: Net<Listener = TcpListener, Stream = TcpStream> + Eprint + Alloc<A = Global>>(
     rt: &R,
     word: &str,

@@ -59,7 +59,7 @@ first_run old last entry log some run =
 pub self_equal : (n : ℕ) → (n == n) ≡ true
 self_equal n = eq-eqb n n refl
 
--- the pieces of one command: they were answered as they would be alone, and what is logged later goes on from there
+-- the pieces of one command: they were answered as they would be alone, and later entries continue from there
 pieces_alone : (shards : ℕ) (ticket : Ticket) (moment part : ℕ) (states : States) (pieces : List ShardOp) (answers : List Answer) (later : List Ran) →
     length answers ≡ length pieces → AllByRecursion (λ asked. asked.shard < shards) pieces → AllByRecursion (λ answer. answer ≢ NoMemory) answers →
     Continues shards states (ran_by (parts_from part ticket moment pieces) answers ++ later) →
@@ -107,12 +107,12 @@ pub run_of : (old : State) (log : List Entry) (last : State) → Run old log las
 run_of old [] last run = run
 run_of old (entry ∷ log) last run = (run.0, run.1, run_of run.0 log last run.2)
 
--- The pieces of a log are the same where who asked is left out.
+-- The pieces of a log don't depend on the connections.
 pub pieces_of_ran : (log : List Entry) → map (λ (r : Ran). r.piece) (map ran_of log) ≡ pieces_in log
 pieces_of_ran [] = refl
 pieces_of_ran (entry ∷ log) = ap (λ ps. entry.piece ∷ ps) (pieces_of_ran log)
 
--- The replies of a log are the same where who asked is left out.
+-- The replies of a log don't depend on the connections.
 pub replies_of_ran : (log : List Entry) → map reply_of (map ran_of log) ≡ replies_in log
 replies_of_ran [] = refl
 replies_of_ran (entry ∷ log) = ap (λ rs. reply_to entry ∷ rs) (replies_of_ran log)
@@ -162,8 +162,8 @@ had_history shards accepted number (one ∷ taken) all kept = (
   had_history shards accepted (number + 1) taken all kept.1,
 )
 
--- Where the law holds and no other connection was served, an unbroken connection at rest that never lacked memory was
--- handed the replies that its commands get alone.
+-- Where the law holds and no other connection was served, an unbroken connection at rest that never lacked
+-- memory was handed the replies that its commands get alone.
 pub gets_alone : (sizes : Sizes) (w : World) (k : ℕ) (link : Link) → 0 < sizes.shards → LinkLaw sizes (of_asker k w.log) link → IsLawful sizes w.log → link.broken ≡ false → AtRest sizes link → IsAlone w k link → handed_bytes sizes w k link ≡ alone sizes link.taken
 gets_alone sizes w k link some l lawful unbroken rest by =
     let own = of_asker k w.log in

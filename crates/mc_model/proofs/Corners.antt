@@ -25,7 +25,7 @@ use Rattle.mc_model.proofs.Rows.{alone, at_alone, begins, broken, come, ended, e
 idle : (sizes : Sizes) (w : World) (event : Event) → ((k : ℕ) (link : Link) → Allows sizes w event k link → ⊥) → Happens sizes w event Idle w
 idle sizes w event never = (inl (λ enabled. never enabled.0 enabled.1 enabled.2), refl)
 
--- The same, where there is one connection.
+-- A closed connection is idle, if there is one connection.
 idle_alone : (sizes : Sizes) (log : List Entry) (here : Link) (event : Event) → ((k : ℕ) (link : Link) → Allows sizes (alone log here) event k link → slice_get (here ∷ []) k ≡ Some link)
     → (Allows sizes (alone log here) event 0 here → ⊥) → Happens sizes (alone log here) event Idle (alone log here)
 idle_alone sizes log here event at never = idle sizes (alone log here) event allowed where
@@ -63,7 +63,7 @@ record AreIdle : Type 0 where
   window_full : Happens one_each (alone [] full) (Take 0 1000) Idle (alone [] full)
   -- Every piece was sent.
   all_sent : Happens one_each (alone [] sent) (Send 0) Idle (alone [] sent)
-  -- The ring to the shard has one place, and a piece stands there.
+  -- The ring to the shard has one place, which a piece takes.
   ring_full : Happens two (alone [] half_sent) (Send 0) Idle (alone [] half_sent)
   -- Nothing was sent.
   ring_empty : Happens one_each (alone [] taken) (Pop 0 0) Idle (alone [] taken)
@@ -199,7 +199,7 @@ record FedInPart : Type 0 where
   -- Some bytes of a command that isn't taken are there: two more may come in, or none.
   some : Happens one_each (alone [] fed) (Feed 0 more) Done (alone [] (record fed { fed = line ++ codes "mn" }))
   none : Happens one_each (alone [] fed) (Feed 0 more) Idle (alone [] fed)
-  -- Where every byte stands in a command taken, all of them come in.
+  -- If every byte belongs to a command that was parsed, all new bytes are taken.
   all : MayFeed one_each taken more 4
   not_some : ¬ MayFeed one_each taken more 2
   not_none : ¬ MayFeed one_each taken more 0

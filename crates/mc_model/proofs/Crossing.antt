@@ -1,5 +1,6 @@
--- A worked row of two connections on two shards, in which answers come in another order than their pieces went. The first
--- connection has its reply once both of its answers have come; the second breaks, comes to rest and is followed by another.
+-- A worked row of two connections on two shards, in which answers come in another order than their pieces
+-- were sent. The first connection has its reply once both of its answers have come; the second fails, comes
+-- to rest and is replaced.
 use Rattle.std.proofs.Common.{◌≡◌, ℕ, zero, suc, ◌+◌, ◌<◌, ◌≤◌, true, inl, inr, List, [], ◌∷◌, ◌++◌, length, refl, sym, ap, ◌∙◌, subst, arith, codes, pos, lit<, lit≤}
 use Rattle.std.proofs.lemmas.Bool.Decides.{eqb_tells}
 use Rattle.mc_command.specs.declared.rules.Profile.TheVariants.{Own}
@@ -178,7 +179,7 @@ empty_hand log a b shard first second zero link here = let same : a ≡ link = c
 empty_hand log a b shard first second (suc zero) link here = let same : b ≡ link = cc in subst (λ (l : Link). ran (world log a b) 1 shard ≤ l.given shard) same second
 empty_hand log a b shard first second (suc (suc k)) link here = absurd cc
 
--- the shard of that number at the moment, which has run nothing
+-- the shard of that number at that time, which has run nothing
 abbrev shard_at : ℕ → ℕ → State
 shard_at index moment = record (empty_state index 2 1024 0 1024) { time = moment }
 
@@ -186,11 +187,11 @@ shard_at index moment = record (empty_state index 2 1024 0 1024) { time = moment
 abbrev once : State → State
 once state = noted_in state state (op.Flush (pos 0)) answer.Done
 
--- the shard of that number, which flushed at the moment
+-- the shard of that number, which was flushed at that time
 abbrev flushed_at : ℕ → ℕ → State
 flushed_at index moment = once (shard_at index moment)
 
--- Each piece is run as the next that is due; a moment before the shard's time does not turn it back.
+-- Each piece is run as the next that is due; a time before the shard's does not set it back.
 runs_1 : RunsNext two_each (world [] (a_sent 2) b_broken) 1 0 (a_sent 2) (entry 1 0 1000)
 unfolding IsStep Answers step_of pieces_of expiry_of kind_of key_of
 runs_1 = record { shard_is = refl; asker_is = refl; next = refl; before = empty_state 1 2 1024 0 1024; after = flushed_at 1 1000; left = refl; step = (shard_at 1 1000, inr refl, refl) }

@@ -37,7 +37,8 @@ come_in_log sizes own link l s =
     let long = length-map (on_shard s own) reply_to in
     omega (arith, come, received, given, long)
 
--- By the law, the commands handed out have their replies, with the answers that the shards gave, in their order.
+-- By the law, the commands handed out have their replies, with the answers that the shards gave, in their
+-- order.
 pub told : (sizes : Sizes) (own : List Entry) (link : Link) → LinkLaw sizes own link → Tells sizes.shards link.taken (replies_in own) (answers own) link.handed
 told sizes own link l = tells sizes.shards link.handed link.taken (replies_in own) (answers own) l.handed l.may l.fits (come_in_log sizes own link l)
 
@@ -75,7 +76,7 @@ served sizes w k link l s =
     let asked = due sizes.shards s link.taken in
     (drop n asked, ap (λ ps. ps ++ drop n asked) (l.served s) ∙ take-append-drop n asked)
 
--- a last command is the last that the bytes spell
+-- a command that closes the stream is the last one in the input
 last_place : (rules : Rules) (before : ℕ) (input : List ℕ) (all : List Command) (rest : List ℕ) (place : ℕ) (command : Command) → SpellsFront rules before input all rest → slice_get all place ≡ Some command → IsTrue (is_last (before + place) command) → length all ≡ place + 1
 last_place rules before input [] rest place command front here last = absurd (cc)
 last_place rules before input (first ∷ all) rest zero command front here last =
@@ -122,7 +123,8 @@ is_last_taken sizes w k link l place one here last =
       handed = omega (arith, handed, long);
     }
 
--- Where the law holds of a world, the headline does: whole replies in order, each piece run once, nothing after quit.
+-- Where the law holds of a world, the headline does: whole replies in order, each piece run once, nothing
+-- after quit.
 pub headline : (sizes : Sizes) (w : World) → Law sizes w → Headline sizes w
 headline sizes w l = record {
   the_bytes_handed = λ k link here. are_replies sizes w k link (l.links k link here);

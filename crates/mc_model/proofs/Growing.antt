@@ -77,7 +77,8 @@ replies_stay (form ∷ opened) others accepted more (suc count) within =
     ] refl some
     ∙ ap (λ fs. take (suc count) (map form_text fs)) (sym old_is))
 
--- The forms of commands with more behind them are the forms of the first, then those of the others, numbered on.
+-- The forms of commands with more behind them are the forms of the first, then those of the others, numbered
+-- on.
 pub forms-append : (shards number : ℕ) (taken more : List Taken) → forms_from shards number (taken ++ more) ≡ forms_from shards number taken ++ forms_from shards (number + length taken) more
 forms-append shards number [] more = let at : number ≡ number + 0 = omega arith in ap (λ n. forms_from shards n more) at
 forms-append shards number (one ∷ taken) more =
@@ -128,7 +129,7 @@ then_longer v w u k link a b =
       handed = omega (arith, more, more');
     }
 
--- What is put in the place of an element of a list stands there.
+-- An element that replaces another one in a list is at its index.
 pub set_here : {X : Type 0} (xs : List X) (k : ℕ) (v x : X) → slice_get xs k ≡ Some x → slice_get (set xs k v) k ≡ Some v
 set_here [] k v x here = absurd (cc)
 set_here (y ∷ xs) zero v x here = refl
@@ -207,8 +208,8 @@ bytes_stay sizes w k link w' a within =
           ∙ ap (λ ts. concat ts ++ concat (drop link.handed given)) (take-take link.handed later.handed new a.handed ∙ same)),
     )
 
--- Where the law holds and there is a shard, each connection stays whatever events follow, and all that it was fed,
--- took, was answered and was handed only grows at its end.
+-- Where the law holds and there is a shard, each connection stays whatever events follow, and all that it was
+-- fed, took, was answered and was handed only grows at its end.
 pub all_grow : (sizes : Sizes) (w : World) (events : List Event) (w' : World) → 0 < sizes.shards → Law sizes w → Leads sizes w events w' → (k : ℕ) (link : Link) → IsLink w k link → Grows sizes w k link w'
 all_grow sizes w events w' some l leads k link here =
     let a = all_longer sizes w events w' some l leads k link here in

@@ -83,7 +83,8 @@ end_kept sizes own link ended broken l = record {
 pub ran_within : (sizes : Sizes) (own : List Entry) (link : Link) → LinkLaw sizes own link → (s : ℕ) → length (on_shard s own) ≤ length (due sizes.shards s link.taken)
 ran_within sizes own link l s = let within = l.fits.within s in omega (arith, within, length-map (on_shard s own) reply_to)
 
--- A connection keeps the law when its next command is taken, where the window has room, given up only where it may be.
+-- A connection keeps the law when its next command is taken, where the window has room, given up only where
+-- it may be.
 pub take_kept : (sizes : Sizes) (own : List Entry) (link : Link) (one : Taken) → LinkLaw sizes own link → IsNextCommand sizes link one.entry → MayBeTaken one → HasWindow sizes link → LinkLaw sizes own (record link { taken = link.taken ++ one ∷ [] })
 take_kept sizes own link one l next may window =
     let new : Link = record link { taken = link.taken ++ one ∷ [] } in

@@ -12,7 +12,7 @@ pub Run-push : (old : State) (log : List Entry) (mid new : State) (entry : Entry
 Run-push old [] mid new entry run step = (new, rw (← run) step, refl)
 Run-push old (e ∷ log) mid new entry run step = (run.0, run.1, Run-push run.0 log mid new entry run.2 step)
 
--- An entry of the shard that is added to a log stands last in what the shard did.
+-- An entry of the shard that is appended to a log is the last one of those of the shard.
 pub on_shard-yes : (shard : ℕ) (log : List Entry) (entry : Entry) → entry.shard ≡ shard → on_shard shard (log ++ entry ∷ []) ≡ on_shard shard log ++ entry ∷ []
 on_shard-yes shard log entry same =
     filter-append (λ (e : Entry). e.shard == shard) log (entry ∷ []) ∙ ap (λ b. on_shard shard log ++ cond b (entry ∷ []) []) (eq-eqb entry.shard shard same)
@@ -23,7 +23,7 @@ on_shard-no shard log entry other =
     filter-append (λ (e : Entry). e.shard == shard) log (entry ∷ [])
     ∙ (ap (λ b. on_shard shard log ++ cond b (entry ∷ []) []) (ne_eqb entry.shard shard other) ∙ append-nil (on_shard shard log))
 
--- An entry for the connection that is added to a log stands last in what was done for it.
+-- An entry for the connection that is appended to a log is the last one of those for the connection.
 pub of_asker-yes : (k : ℕ) (log : List Entry) (entry : Entry) → entry.asker ≡ k → of_asker k (log ++ entry ∷ []) ≡ of_asker k log ++ entry ∷ []
 of_asker-yes k log entry same =
     filter-append (λ (e : Entry). e.asker == k) log (entry ∷ []) ∙ ap (λ b. of_asker k log ++ cond b (entry ∷ []) []) (eq-eqb entry.asker k same)

@@ -1,5 +1,5 @@
--- A worked row: one connection flushes one shard, ends and is renewed, and the next one breaks. Each of the ten kinds of
--- event is done.
+-- A worked row: one connection flushes one shard, ends and is renewed, and the next one breaks. Each of the
+-- ten kinds of event is done.
 use Rattle.std.proofs.Common.{◌≡◌, ℕ, zero, suc, ◌<◌, ◌≤◌, true, false, inl, inr, List, [], ◌∷◌, length, Some, refl, arith, codes, pos, lit<, subst}
 use Rattle.std.specs.List.{slice_get}
 use Rattle.std.proofs.lemmas.Bool.Decides.{eqb_tells}
@@ -46,7 +46,7 @@ one_each = record { profile = Own; seats = 1; shards = 1; bytes = 1024; ring = 1
 abbrev pub line : List ℕ
 line = codes "flush_all\r\n"
 
--- the command that they spell
+-- the command in them
 abbrev pub flush : Command
 flush = command.FlushAll (pos 0) false
 
@@ -106,22 +106,22 @@ both link = record { log = entry ∷ []; links = ended ∷ link ∷ [] }
 abbrev pub broken : Link
 broken = record (new_link 0) { broken = true }
 
--- One connection stands at the first place alone.
+-- There is one connection, at the first index.
 pub only : (x y : Link) (j : ℕ) → 0 < j → slice_get (x ∷ []) j ≡ Some y → ⊥
 only x y zero less here = absurd (omega (arith, less))
 only x y (suc j) less here = absurd (cc)
 
--- Two connections stand at the first two places alone.
+-- There are two connections, at the first two indices.
 pub only_two : (x z y : Link) (j : ℕ) → 1 < j → slice_get (x ∷ z ∷ []) j ≡ Some y → ⊥
 only_two x z y zero less here = absurd (omega (arith, less))
 only_two x z y (suc j) less here = only z y j (omega (arith, less)) here
 
--- The line spells the command that removes all items.
+-- The line is the text of the command that removes all items.
 pub spells_flush : Spells (rules_of one_each) line flush
 unfolding line_of words_of name_of number_of
 spells_flush = lined (rules_of one_each) (codes "flush_all\r") [] flush (no_end (codes "flush_all\r") refl) (lit< tt) refl refl
 
--- The first command that the line spells is that one.
+-- The first command of the line is that one.
 pub begins : BeginCommands (rules_of one_each) line (flush ∷ [])
 begins = ([], (line, [], refl, spells_flush, refl))
 
@@ -137,7 +137,7 @@ come s = elim (eqb_tells 0 s) [
   | inr other ↦ rw other.0 (omega arith)
 ]
 
--- the shard at the moment of the flush
+-- the shard at the time of the flush
 abbrev at_flush : State
 at_flush = record (empty_state 0 1 1024 0 1024) { time = 1000 }
 

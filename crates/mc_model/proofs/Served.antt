@@ -20,8 +20,8 @@ use Rattle.mc_model.specs.Alone.{alone, alone_from, empty_shards}
 use Rattle.mc_model.specs.Served.{IsServedAlone}
 use Rattle.mc_model.proofs.Alone.{Continues, RunOf, alone_goes, had_history, on_its_shard, pieces_of_ran, ran_of, replies_of_ran, run_of}
 
--- An unbroken connection at rest that the shards served alone, with memory enough, was handed the replies that its
--- commands get alone.
+-- An unbroken connection at rest that the shards served alone, with memory enough, was handed the replies
+-- that its commands get alone.
 pub served_alone : (sizes : Sizes) (conn : Conn) (told : Told) (log : List Entry) → 0 < sizes.shards → IsConn conn told → told.broken ≡ false → IsAtRest told → IsServedAlone sizes told log → handed_text told ≡ alone sizes told.taken
 served_alone sizes conn told log some h unbroken rest by =
     let sound = is_sound conn told h in

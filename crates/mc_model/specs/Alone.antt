@@ -1,5 +1,5 @@
--- What a connection gets whose commands are run alone: each command's pieces at once, in order, by the protocol's step, and
--- no memory refused.
+-- The replies to a connection whose commands are run alone: each command's pieces at once, in order, by the
+-- protocol's step, without refused memory.
 use Rattle.std.specs.Prelude.{ℕ, ◌≡◌, ◌≢◌, ◌==◌, false, List, [], ◌∷◌, ◌++◌, if◌then◌else◌}
 use Rattle.std.specs.List.{AllByRecursion}
 use Rattle.mc_sizes.specs.declared.sizes.Sizes.{Sizes}
@@ -25,7 +25,8 @@ empty_shards sizes = λ index. empty_shard sizes index
 abbrev pub with_state : States → ℕ → State → States
 with_state states shard state = λ index. if shard == index then state else states index
 
--- what a shard answers at the moment where no memory is refused, and its state then, in which it is counted
+-- the answer of a shard at this time without refused memory, and its state then, in which the operation is
+-- counted
 abbrev pub outcome_at : State → Op → ℕ → Outcome
 outcome_at state op moment =
     let settled = settle state (key_of op) moment in
@@ -37,7 +38,7 @@ pub record Ended : Type 0 where
   pub answers : List Answer
   pub states : States
 
--- the answers to these pieces, run one after another at the moment
+-- the answers to these pieces, run one after another at this time
 abbrev pub ended : States → ℕ → List ShardOp → Ended
 ended states moment [] = record { answers = []; states = states }
 ended states moment (asked ∷ pieces) =
@@ -56,13 +57,13 @@ alone_from shards states (taken ∷ later) =
 abbrev pub alone : Sizes → List Taken → List ℕ
 alone sizes commands = alone_from sizes.shards (empty_shards sizes) commands
 
--- The shards ran nothing for other connections, no command was given up, and no shard was out of memory.
+-- The shards ran nothing for other connections, and no memory was refused.
 pub record IsAlone (w : World) (k : ℕ) (link : Link) : Type 0 where
   pub mine : AllByRecursion (λ entry. entry.asker ≡ k) w.log
   pub kept : AllByRecursion (λ one. one.given_up ≡ false) link.taken
   pub had : AllByRecursion (λ entry. entry.answer ≢ NoMemory) w.log
 
--- The command was not given up, and no shard was out of memory for it.
+-- The command was not given up, and no shard was refused memory for it.
 pub record HadMemory (done : AnsweredCommand) : Type 0 where
   pub kept : done.given_up ≡ false
   pub answered : AllByRecursion (λ answer. answer ≢ NoMemory) done.answers

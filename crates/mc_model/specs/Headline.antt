@@ -1,4 +1,4 @@
--- What holds of every world to which events lead.
+-- The law of every reachable world.
 use Rattle.std.specs.Prelude.{ℕ, ◌≡◌, ◌+◌, ◌<◌, ◌≤◌, ◌⊎◌, false, List, ◌++◌, length, take, Some, IsTrue}
 use Rattle.std.specs.List.{AllByRecursion, concat, slice_get}
 use Rattle.mc_sizes.specs.declared.sizes.Sizes.{Sizes}
@@ -12,32 +12,34 @@ use Rattle.mc_model.specs.Log.{IsLawful, of_asker, on_shard, pieces_in, replies_
 use Rattle.mc_model.specs.World.{IsLink, Link, World, entries}
 use Rattle.mc_model.specs.Rest.{AtRest}
 
--- It holds of every connection, of those that a later one followed on their seat too.
+-- It holds for every connection, including those that were replaced on their seat.
 abbrev pub OfEach : World → (ℕ → Link → Type 0) → Type 0
 OfEach w P = (k : ℕ) (link : Link) → IsLink w k link → P k link
 
--- the texts of the longest beginning of the commands taken each of which was given up or has all its answers in the log
+-- the texts of the longest prefix of the commands, each of which was given up or has all its answers in the
+-- log
 abbrev pub replies_to : Sizes → World → ℕ → Link → List (List ℕ)
 replies_to sizes w k link = replies (forms_of sizes.shards link.taken) (replies_in (of_asker k w.log))
 
--- the bytes handed to a connection: as many texts of its replies as it was handed commands
+-- the bytes written to a connection: the texts of its first `handed` replies
 abbrev pub handed_bytes : Sizes → World → ℕ → Link → List ℕ
 handed_bytes sizes w k link = concat (take link.handed (replies_to sizes w k link))
 
--- the first of the commands taken, each with the answers that the log has for its parts
+-- the first commands, each with the answers that the log has for its parts
 abbrev pub history : Sizes → World → ℕ → Link → ℕ → List AnsweredCommand
 history sizes w k link count = history_of sizes.shards (replies_in (of_asker k w.log)) (take count link.taken)
 
--- The bytes handed are whole replies, one a command, in the order of the commands that the bytes fed spell: each command
--- handed out was given up or has all its answers in the log, and the bytes are the texts that these answers make.
+-- The bytes written are complete replies, one for each command, in the order of the commands in the input.
+-- Each command that was answered was given up or has all its answers in the log, and the bytes are the texts
+-- made of these answers.
 pub record AreReplies (sizes : Sizes) (w : World) (k : ℕ) (link : Link) : Type 0 where
   pub begins : SpellFirst sizes link.fed (entries link)
   pub whole : link.handed ≤ length (replies_to sizes w k link)
   pub answered : AllByRecursion (IsAnswered sizes.shards) (history sizes w k link link.handed)
   pub bytes : handed_bytes sizes w k link ≡ texts_of (history sizes w k link link.handed)
 
--- The bytes handed are the replies to all commands that the bytes fed spell: all of these were taken, each was given up or has
--- all its answers in the log, and the bytes are the texts that these answers make.
+-- The bytes written are the replies to all commands in the input. All of these were parsed, each was given up
+-- or has all its answers in the log, and the bytes are the texts made of these answers.
 pub record AreAllReplies (sizes : Sizes) (w : World) (k : ℕ) (link : Link) : Type 0 where
   pub commands : SpellAll sizes link.fed (entries link)
   pub answered : AllByRecursion (IsAnswered sizes.shards) (history sizes w k link (length link.taken))
@@ -51,11 +53,12 @@ pub record IsFollowed (w : World) (k : ℕ) (link : Link) : Type 0 where
   pub here : IsLink w later other
   pub seat : link.seat ≡ other.seat
 
--- What each shard ran for the connection is a beginning of what is due there, in order.
+-- The operations that each shard ran for the connection are a prefix of those due there, in order.
 abbrev pub RanAsDue : Sizes → World → ℕ → Link → Type 0
 RanAsDue sizes w k link = (shard : ℕ) → (rest : List Piece) × (pieces_in (on_shard shard (of_asker k w.log)) ++ rest ≡ due sizes.shards shard link.taken)
 
--- After a last command none is taken, and nothing of a later one is sent, answered or handed out.
+-- After a command that closes the stream none is parsed, and nothing of a later one is sent, answered or
+-- written.
 pub record IsLast (sizes : Sizes) (w : World) (k : ℕ) (link : Link) (place : ℕ) : Type 0 where
   pub taken : length link.taken ≡ place + 1
   pub sent : AllByRecursion (λ piece. piece.1.ticket.0 ≤ place) (take link.sent (pieces sizes.shards link.taken))
@@ -63,9 +66,9 @@ pub record IsLast (sizes : Sizes) (w : World) (k : ℕ) (link : Link) (place : �
   pub handed : link.handed ≤ place + 1
 
 pub record Headline (sizes : Sizes) (w : World) : Type 0 where
-  -- the bytes handed are a beginning of the replies to the commands that the connection's bytes spell, in order
+  -- the bytes written are a prefix of the replies to the commands in the connection's input, in order
   pub the_bytes_handed : OfEach w (λ k link. AreReplies sizes w k link)
-  -- all of them at rest; and a connection that another one followed on its seat is at rest
+  -- all of them at rest; and a connection that was replaced on its seat is at rest
   pub all_of_them_at_rest : OfEach w (λ k link. link.broken ≡ false → AtRest sizes link ⊎ IsFollowed w k link → AreAllReplies sizes w k link)
   -- each shard ran each connection's pieces once, in sending order, and it ran nothing else
   pub once_in_sending_order : OfEach w (λ k link. RanAsDue sizes w k link) × AllByRecursion (λ entry. (entry.shard < sizes.shards) × (entry.asker < length w.links)) w.log

@@ -1,4 +1,4 @@
--- The log: what the shards ran, for which connections, and when that is lawful.
+-- The log: the operations that shards ran, for which connections, and when that is lawful.
 use Rattle.std.specs.Prelude.{ℕ, ◌≡◌, ◌<◌, ◌==◌, List, [], ◌∷◌, filter, map}
 use Rattle.mc_sizes.specs.declared.sizes.Sizes.{Sizes}
 use Rattle.mc_item.specs.declared.answer.Answer.{Answer}
@@ -9,7 +9,8 @@ use Rattle.mc_store.specs.State.{State}
 use Rattle.mc_store.specs.Step.{IsStep}
 use Rattle.mc_model.specs.Sized.{empty_shard}
 
--- what a shard did: it ran a piece, which has its ticket, part, operation and moment, for a connection, and this is its answer
+-- an operation of a shard: it ran a piece, which has a ticket, part, operation and time, for a connection,
+-- with this answer
 pub record Entry : Type 0 where
   pub shard : ℕ
   -- the number of the connection
@@ -17,11 +18,11 @@ pub record Entry : Type 0 where
   pub piece : Piece
   pub answer : Answer
 
--- what a shard did, in order, whoever asked
+-- the operations of a shard, in order, for all connections
 abbrev pub on_shard : ℕ → List Entry → List Entry
 on_shard shard log = filter (λ entry. entry.shard == shard) log
 
--- what was done for a connection, in order, on whatever shard
+-- the operations for a connection, in order, on all shards
 abbrev pub of_asker : ℕ → List Entry → List Entry
 of_asker asker log = filter (λ entry. entry.asker == asker) log
 
@@ -35,7 +36,7 @@ reply_to entry = record { ticket = entry.piece.ticket; part = entry.piece.part; 
 abbrev pub replies_in : List Entry → List Shown
 replies_in log = map reply_to log
 
--- A shard may do these things, one after another, each by the protocol's step.
+-- A shard may run these operations one after another, each by the protocol's step.
 abbrev pub Run : State → List Entry → State → Type 0
 Run old [] new = new ≡ old
 Run old (entry ∷ log) new = (mid : State) × IsStep old entry.piece.op entry.piece.moment entry.answer mid × Run mid log new
@@ -44,6 +45,7 @@ Run old (entry ∷ log) new = (mid : State) × IsStep old entry.piece.op entry.p
 abbrev pub Leaves : Sizes → ℕ → List Entry → State → Type 0
 Leaves sizes shard log state = Run (empty_shard sizes shard) (on_shard shard log) state
 
--- What each shard did, for all connections together, is one run from the empty state, with no unique given.
+-- The operations of each shard, for all connections together, are one run from the empty state, in which no
+-- unique was assigned.
 abbrev pub IsLawful : Sizes → List Entry → Type 0
 IsLawful sizes log = (shard : ℕ) → shard < sizes.shards → (last : State) × Leaves sizes shard log last

@@ -1,4 +1,4 @@
--- One connection that the shards serve alone, by the lists of its calls and the log.
+-- A connection that has the shards to itself, by the lists of its calls and the log.
 use Rattle.std.specs.Prelude.{ℕ, ◌≡◌, ◌≢◌, false, List}
 use Rattle.std.specs.List.{AllByRecursion}
 use Rattle.mc_sizes.specs.declared.sizes.Sizes.{Sizes}
@@ -8,8 +8,8 @@ use Rattle.mc_conn.specs.Fits.{Fits}
 use Rattle.mc_conn.specs.Told.{Told}
 use Rattle.mc_model.specs.Log.{Entry, IsLawful, on_shard, pieces_in, replies_in}
 
--- Each shard ran what is due there for the commands taken, in order, and nothing else; its answers are those that the
--- connection accepted. No command was given up, and no shard was out of memory.
+-- Each shard ran exactly what is due there for the commands parsed, in order, and its answers are those that
+-- the connection accepted. No command was given up, and no shard was refused memory.
 pub record IsServedAlone (sizes : Sizes) (told : Told) (log : List Entry) : Type 0 where
   pub shards : told.shards ≡ sizes.shards
   pub lawful : IsLawful sizes log

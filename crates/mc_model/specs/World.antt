@@ -1,4 +1,4 @@
--- The world: a log, and lists and counts for each connection. No ring, no slot and no worker's hand stands in it.
+-- The world: a log, and lists and counts for each connection. It has no rings, no slots and no workers.
 use Rattle.std.specs.Prelude.{ℕ, ◌≡◌, ◌≢◌, ◌<◌, Bool, false, List, [], ◌∷◌, ◌++◌, length, map, take, set, Some}
 use Rattle.std.specs.List.{slice_get}
 use Rattle.mc_command.specs.declared.command.Command.{Command}
@@ -10,19 +10,19 @@ use Rattle.mc_model.specs.Log.{Entry, of_asker, on_shard}
 -- a connection
 pub record Link : Type 0 where
   pub seat : ℕ
-  -- all bytes that it was fed
+  -- its whole input
   pub fed : List ℕ
   pub ended : Bool
   pub broken : Bool
-  -- the commands taken, each with its moment and whether it was given up
+  -- the commands parsed, each with its time and whether it was given up
   pub taken : List Taken
   -- how many of their pieces were sent
   pub sent : ℕ
-  -- how many answers each shard has given
+  -- how many answers each shard has sent
   pub given : ℕ → ℕ
   -- how many answers of each shard were received
   pub received : ℕ → ℕ
-  -- how many commands were handed out
+  -- how many commands were answered
   pub handed : ℕ
 
 -- Connections are numbered in the order in which they were opened, from 0.
@@ -53,7 +53,7 @@ pub record IsAt (w : World) (seat k : ℕ) (link : Link) : Type 0 where
   pub seat_is : link.seat ≡ seat
   pub last : (j : ℕ) (other : Link) → k < j → IsLink w j other → other.seat ≢ seat
 
--- the commands taken
+-- the commands parsed
 abbrev pub entries : Link → List Command
 entries link = map (λ one. one.entry) link.taken
 
@@ -65,7 +65,7 @@ sent_to sizes shard link = length (lane shard (take link.sent (pieces sizes.shar
 abbrev pub ran : World → ℕ → ℕ → ℕ
 ran w k shard = length (on_shard shard (of_asker k w.log))
 
--- This shard's worker holds an answer for this connection: it has run more of the connection's pieces than it has given
--- answers to.
+-- This shard's worker holds an answer for this connection: it has run more of the connection's pieces than it
+-- has sent answers.
 abbrev pub HoldsAnswerFor : World → ℕ → ℕ → Link → Type 0
 HoldsAnswerFor w shard k link = link.given shard < ran w k shard

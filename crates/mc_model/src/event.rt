@@ -1,37 +1,37 @@
-//! The events that move a simulated core, and how a step is answered.
+//! Events of the model, and the result of a step.
 
-/// One event: of the connection that a seat has, of a shard, or of both.
+/// An event of a slot's connection, of a shard, or of both.
 #[derive(Drop)]
 pub enum Event {
-    /// A new connection begins on the seat, where it has had none or the last may be followed.
+    /// Opens a new connection on the slot, if it has had none or the last one may be replaced.
     Open { seat: usize },
-    /// Bytes come in.
+    /// Feeds bytes to the connection.
     Feed { seat: usize, bytes: Vec<u8> },
-    /// The next command is taken, at this moment in seconds since 1970.
+    /// Parses the next command at this time, in seconds since 1970.
     Take { seat: usize, moment: u64 },
-    /// The oldest piece that has not left goes to its shard's ring.
+    /// Sends the oldest unsent piece to its shard's ring.
     Send { seat: usize },
-    /// The shard takes the oldest piece that the seat sent, and runs it.
+    /// The shard takes the oldest piece that the slot sent, and runs it.
     Pop { shard: usize, seat: usize },
-    /// The shard gives the reply in its worker's hand.
+    /// The shard sends the reply that its worker holds.
     Give { shard: usize },
-    /// The seat receives the oldest reply that the shard gave it.
+    /// The slot receives the oldest reply that the shard sent.
     Receive { seat: usize, shard: usize },
-    /// The replies whose turn has come are handed out.
+    /// Writes the replies that are due.
     Hand { seat: usize },
-    /// No more bytes come in.
+    /// Ends the connection's input.
     End { seat: usize },
-    /// The connection is broken.
+    /// The connection fails.
     Break { seat: usize },
 }
 
-/// What became of an event.
+/// The result of an event.
 #[derive(Clone, Copy, Debug, PartialEq, Eq)]
 pub enum StepReply {
-    /// It happened.
+    /// It was done.
     Done,
     /// It was not enabled. Nothing changed.
     Idle,
-    /// It was enabled, and memory ran out. Nothing changed.
+    /// It was enabled, but memory was refused. Nothing changed.
     NoMemory,
 }

@@ -1,4 +1,4 @@
-//! What one connection gets by its own calls, where the shards serve it alone.
+//! The replies to a connection that has the shards to itself.
 ghost use Rattle.std.specs.Prelude.{◌≡◌, ◌<◌, List, false};
 ghost use Rattle.mc_sizes.specs.declared.sizes.Sizes.{Sizes};
 ghost use Rattle.mc_conn.specs.declared.conn.Conn.{Conn};
@@ -8,9 +8,9 @@ ghost use Rattle.mc_model.specs.Log.{Entry};
 ghost use Rattle.mc_model.specs.Alone.{alone};
 ghost use Rattle.mc_model.specs.Served.{IsServedAlone};
 
-/// Where each shard ran the pieces of one connection alone, in order, no command was given up and no shard was out of memory,
-/// the connection has handed out, once it is at rest, the replies to its commands, each run whole before the next; whenever
-/// its pieces left and its answers came.
+/// Assumes that the shards ran only the pieces of one connection, in order, and that no memory was
+/// refused. At rest, the connection was then sent the replies to its commands, each run completely
+/// before the next. The times at which pieces were sent and answers came don't matter.
 pub fn a_connection_is_served_as_alone()
     ensures { (sizes : Sizes) (conn : Conn) (told : Told) (log : List Entry) → 0 < sizes.shards →
         IsConn conn told → told.broken ≡ false → IsAtRest told → IsServedAlone sizes told log →

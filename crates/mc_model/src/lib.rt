@@ -1,5 +1,5 @@
-//! The server as one world of lists and counts: what the shards ran, its connections, the events that change it, and what
-//! holds of it after every list of events. The worker of a shard and the simulator stand on it.
+//! The model: a server as one world of lists and counts, the events that change it, and the laws
+//! that hold after every list of events. Workers and simulator are proved against it.
 #![tactic(auto)]
 
 mod event;

@@ -1,4 +1,4 @@
--- What a call says, step by step, once the end of each step is known.
+-- The result of a call, step by step, once the result of each step is known.
 use Rattle.std.proofs.Common.{◌≡◌, ℕ, List, Option, Result, ap}
 use Rattle.mc_options.specs.Wrong.{Wrong}
 use Rattle.mc_options.specs.Numbers.{and_then}

@@ -1,4 +1,4 @@
--- The calls of the program, each with the options that it has.
+-- What the program does, each with its options.
 use Rattle.std.specs.Prelude.{ℕ, ◌≡◌, ◌||◌, Bool, List, [], ◌∷◌, map, Option, Some, None, Ok, Err, Result, codes, find, is_some, option_map, if◌then◌else◌}
 use Rattle.std.specs.Option.{option_map_or, option_or}
 use Rattle.clap.specs.Words.{Row, all_of, first_of}
@@ -11,7 +11,7 @@ use Rattle.mc_options.specs.Wrong.{HasItems, NotOfReplay, NotOfStdio, NotOfTcp, 
 use Rattle.mc_options.specs.Flags.{is_flag}
 use Rattle.mc_options.specs.Numbers.{and_then, mode_by, number_given, number_if_given, number_in, sizes_by}
 
--- what the program is called to do
+-- what the program does
 pub data Call : Type 0 where
   TellsVersion : Call
   RunsSchedule : (file : List ℕ) → Call
@@ -19,7 +19,7 @@ pub data Call : Type 0 where
   ServesTcp :
       (places : List (List ℕ)) (path : Option (List ℕ)) (mode : ℕ) (port : List ℕ) (connections idle : Option ℕ) (verbose : Bool) (metrics : Option (List ℕ)) (drain : ℕ) (plan ignores : Bool) (sizes : Sizes) → Call
 
--- the call as the program has it
+-- the call in the code
 abbrev pub call_of : Options → Call
 call_of Version = TellsVersion
 call_of (Replay file) = RunsSchedule file.now
@@ -31,7 +31,7 @@ call_of (Listen places path mode port connections idle verbose metrics drain pla
 abbrev pub first_given : (List ℕ → Option (List ℕ)) → List (List ℕ) → List (List ℕ) → Option (List ℕ)
 first_given given options flags = option_or (find (λ name. is_some (given name)) options) (find (is_flag given) flags)
 
--- the call, where none of the options is given that it doesn't have
+-- the call, if no option is given that it doesn't have
 abbrev pub unless_foreign : Option (List ℕ) → (List ℕ → Wrong) → Result Call Wrong → Result Call Wrong
 unless_foreign given wrong call = option_map_or (λ name. Err (wrong name)) given call
 
@@ -49,7 +49,7 @@ abbrev pub other_than_stdio : List (List ℕ)
 other_than_stdio =
     map codes ("listen" ∷ "seats" ∷ "connections" ∷ "idle-timeout" ∷ "metrics" ∷ "drain" ∷ "port" ∷ "udp-port" ∷ "unix-socket" ∷ "unix-mask" ∷ "user" ∷ "pidfile" ∷ [])
 
--- the schedule in the file is run, where no other option is given
+-- the schedule in the file is run, if no other option is given
 abbrev pub replay_by : (List ℕ → Option (List ℕ)) → List ℕ → Result Call Wrong
 replay_by given file =
     unless_foreign (first_given given other_than_replay (map codes ("stdio" ∷ "verbose" ∷ "drop-in" ∷ "plan" ∷ "daemon" ∷ []))) NotOfReplay
@@ -62,27 +62,27 @@ stdio_by given =
     (and_then (number_if_given given (codes "at") 0 18446744073709551615) (λ at.
     and_then (sizes_by given 1) (λ sizes. Ok (ServesLine at sizes))))
 
--- where to listen, beside a path that is given: what `--listen` says each time, or where neither is given this machine's own address
+-- where to listen, beside the path that is given: all values of `--listen`, or 127.0.0.1 if neither is given
 abbrev pub places_by : Option (List ℕ) → Option (List (List ℕ)) → List (List ℕ)
 places_by path (Some words) = words
 places_by (Some path) None = []
 places_by None None = codes "127.0.0.1" ∷ []
 
--- the same of what was found
+-- the places to listen on, from the options found
 abbrev pub places_of : List Row → List (List ℕ)
 places_of rows = places_by (first_of (codes "unix-socket") rows) (all_of (codes "listen") rows)
 
--- the port of an address that names none, where no port of UDP is asked for
+-- the default port of addresses, if no UDP port is requested
 abbrev pub port_by : (List ℕ → Option (List ℕ)) → Result (List ℕ) Wrong
 port_by given =
     and_then (number_if_given given (codes "udp-port") 0 0) (λ udp.
     option_map_or (λ text. and_then (number_in (codes "port") 1 65535 text) (λ number. Ok text)) (given (codes "port")) (Ok (codes "11211")))
 
--- an option of memcached is given that does nothing here
+-- an option of memcached is given that has no effect
 abbrev pub is_one_ignored : (List ℕ → Option (List ℕ)) → Bool
 is_one_ignored given = is_some (given (codes "user")) || (is_some (given (codes "pidfile")) || is_flag given (codes "daemon"))
 
--- connections are served that come in at these places
+-- serve connections at these addresses
 abbrev pub tcp_by : (List ℕ → Option (List ℕ)) → List (List ℕ) → Result Call Wrong
 tcp_by given places =
     unless_foreign (first_given given (codes "at" ∷ []) []) NotOfTcp
@@ -96,26 +96,26 @@ tcp_by given places =
     Ok
     (ServesTcp places (given (codes "unix-socket")) mode port connections idle (is_flag given (codes "verbose")) (given (codes "metrics")) drain (is_flag given (codes "plan")) (is_one_ignored given) sizes)))))))))
 
--- the call that is given, or the first thing that is wrong with it
+-- the call, or the first error
 abbrev pub call_by : (List ℕ → Option (List ℕ)) → List (List ℕ) → Result Call Wrong
 call_by given places =
     if is_flag given (codes "version") then Ok TellsVersion
     else if is_some (given (codes "items")) then Err HasItems
     else option_map_or (replay_by given) (given (codes "replay")) (if is_flag given (codes "stdio") then stdio_by given else tcp_by given places)
 
--- what the words of the command line give under the name of an option
+-- the values of the options on the command line
 abbrev pub given_in : List (List ℕ) → List ℕ → Option (List ℕ)
 given_in words name = first_of name (rows_in words)
 
--- where they say to listen
+-- the addresses to listen on
 abbrev pub places_in : List (List ℕ) → List (List ℕ)
 places_in words = places_of (rows_in words)
 
--- What is given is this call of the program.
+-- The options are those of this call.
 abbrev pub SpellsOptions : (List ℕ → Option (List ℕ)) → List (List ℕ) → Options → Type 0
 SpellsOptions given places options = call_by given places ≡ Ok (call_of options)
 
--- The sizes of the call are those that a server may have.
+-- The sizes of the call are allowed.
 abbrev pub HasAllowedSizes : Options → Type 0
 HasAllowedSizes Version = Unit {0}
 HasAllowedSizes (Replay file) = Unit {0}

@@ -9,6 +9,6 @@ use Rattle.mc_command.specs.declared.rules.Profile.TheVariants.{DropIn, Own}
 abbrev pub is_flag : (List ℕ → Option (List ℕ)) → List ℕ → Bool
 is_flag given name = option_map_or (λ text. bytes_eq text (codes "true")) (given name) false
 
--- whose rules the server follows
+-- the protocol profile
 abbrev pub profile_by : (List ℕ → Option (List ℕ)) → Profile
 profile_by given = if is_flag given (codes "drop-in") then DropIn else Own

@@ -1,4 +1,4 @@
--- The numbers that the options give. What is given is a function from the name of an option to its text.
+-- Numeric values of options. The options are a function from names to texts.
 use Rattle.std.specs.Prelude.{ℕ, ◌+◌, ◌-◌, ◌*◌, ◌/◌, ◌%◌, ◌^◌, ◌&&◌, ◌||◌, Bool, List, take, length, Option, Some, None, Ok, Err, Result, codes, is_some, nat_eq, nat_le, nat_lt, ok_or, option_and_then, option_map, unwrap_or, if◌then◌else◌}
 use Rattle.std.specs.Option.{option_map_or, option_transpose}
 use Rattle.std.specs.List.{ends_with}
@@ -9,7 +9,7 @@ use Rattle.mc_sizes.specs.declared.sizes.Sizes.{Sizes}
 use Rattle.mc_options.specs.Wrong.{Wrong, NoMode, NoNumber, NoSize, TwoBudgets}
 use Rattle.mc_options.specs.Flags.{profile_by}
 
--- what comes of the next step, or what is wrong with the one before
+-- the result of the next step, or the error of the one before
 abbrev pub and_then : {T U : Type 0} → Result T Wrong → (T → Result U Wrong) → Result U Wrong
 and_then (Ok x) next = next x
 and_then (Err wrong) next = Err wrong
@@ -19,7 +19,7 @@ abbrev pub in_range : ℕ → ℕ → Option ℕ → Option ℕ
 in_range least most found =
     option_and_then (λ number. if nat_le least number && nat_le number most then Some number else None) found
 
--- the text ends with this letter, small or capital
+-- the text ends with this letter in either case
 abbrev pub ends_by : List ℕ → List ℕ → List ℕ → Bool
 ends_by text small capital = ends_with nat_eq text small || ends_with nat_eq text capital
 
@@ -27,11 +27,11 @@ ends_by text small capital = ends_with nat_eq text small || ends_with nat_eq tex
 abbrev pub without_last : List ℕ → List ℕ
 without_last text = take (length text - 1) text
 
--- the text without a `b` or `B` at its end, which says that bytes are counted
+-- the text without a trailing `b` or `B`
 abbrev pub counted_of : List ℕ → List ℕ
 counted_of text = if ends_by text (codes "b") (codes "B") then without_last text else text
 
--- what the letter behind a number of bytes multiplies it by
+-- the factor of the unit letter
 abbrev pub unit_of : List ℕ → ℕ
 unit_of text =
     if ends_by text (codes "k") (codes "K") then 1024
@@ -42,39 +42,39 @@ unit_of text =
 abbrev pub digits_of : List ℕ → List ℕ
 digits_of text = if nat_eq (unit_of text) 1 then text else without_last text
 
--- the product, if it has 64 bits
+-- the product, if it fits in 64 bits
 abbrev pub times : ℕ → ℕ → Option ℕ
 times unit number = if nat_lt (number * unit) (2 ^ 64) then Some (number * unit) else None
 
--- the number of bytes that a text spells whose letter stands last: a number, or one with a letter behind it
+-- the size in bytes in a text that ends with its unit letter, if it has one
 abbrev pub scaled_of : List ℕ → Option ℕ
 scaled_of text = option_and_then (times (unit_of text)) (number_of (2 ^ 64) (digits_of text))
 
--- the number of bytes that a text spells: a number, with `k`, `m`, `g`, `b`, `kb`, `mb` or `gb` behind it where it has one
+-- the size in bytes in a text: a number, optionally followed by `k`, `m`, `g`, `b`, `kb`, `mb` or `gb`
 abbrev pub bytes_of : List ℕ → Option ℕ
 bytes_of text = scaled_of (counted_of text)
 
--- the number that the text under a name spells, from the least to the most
+-- the number in the text of an option, between the least and the most
 abbrev pub number_in : List ℕ → ℕ → ℕ → List ℕ → Result ℕ Wrong
 number_in name least most text = ok_or (in_range least most (number_of (2 ^ 64) text)) (NoNumber name text least most)
 
--- the number of bytes that the text under a name spells, from the least to the most
+-- the size in bytes in the text of an option, between the least and the most
 abbrev pub size_in : List ℕ → ℕ → ℕ → List ℕ → Result ℕ Wrong
 size_in name least most text = ok_or (in_range least most (bytes_of text)) (NoSize name text least most)
 
--- the number that is given under a name, from the least to the most, if one is
+-- the number of an option, between the least and the most, if it is given
 abbrev pub number_if_given : (List ℕ → Option (List ℕ)) → List ℕ → ℕ → ℕ → Result (Option ℕ) Wrong
 number_if_given given name least most = option_transpose (option_map (number_in name least most) (given name))
 
--- the number that is given under a name, from the least to the most, or where none is given this one
+-- the number of an option, between the least and the most, or its default
 abbrev pub number_given : (List ℕ → Option (List ℕ)) → List ℕ → ℕ → ℕ → ℕ → Result ℕ Wrong
 number_given given name least default most = option_map_or (number_in name least most) (given name) (Ok default)
 
--- the number of bytes that is given under a name, from the least to the most, or where none is given this one
+-- the size in bytes of an option, between the least and the most, or its default
 abbrev pub size_given : (List ℕ → Option (List ℕ)) → List ℕ → ℕ → ℕ → ℕ → Result ℕ Wrong
 size_given given name least default most = option_map_or (size_in name least most) (given name) (Ok default)
 
--- the mode of a Unix socket, as the system takes it, by three octal digits that are read as one number in decimal
+-- the mode of a Unix socket, from three octal digits that were parsed in decimal
 abbrev pub octal : ℕ → Option ℕ
 octal digits =
     if nat_le digits 777 && (nat_lt (digits / 10 % 10) 8 && nat_lt (digits % 10) 8)
@@ -83,54 +83,56 @@ octal digits =
 abbrev pub mode_in : List ℕ → Result ℕ Wrong
 mode_in text = ok_or (option_and_then octal (number_of (2 ^ 64) text)) (NoMode text)
 
--- the mode of Unix sockets: for this user alone by default
+-- the mode of Unix sockets: 0700 by default
 abbrev pub mode_by : (List ℕ → Option (List ℕ)) → Result ℕ Wrong
 mode_by given = option_map_or mode_in (given (codes "unix-mask")) (Ok 448)
 
--- what the items of all shards may cost, unless `--bytes` says what those of each may
+-- the total budget, unless `--bytes` gives that of each shard
 abbrev pub unless_bytes : Bool → Result (Option ℕ) Wrong → Result (Option ℕ) Wrong
 unless_bytes has_bytes total = if has_bytes then Err TwoBudgets else total
 
--- what `--memory` says of a server that has this number of shards at least and at most, and what the megabytes of `-m` say
+-- the total budget by `--memory`, for at least and at most this number of shards, or by the megabytes of `-m`
 abbrev pub memory_of : (fewest most : ℕ) → List ℕ → Result (Option ℕ) Wrong
 memory_of fewest most text = and_then (size_in (codes "memory") (1024 * fewest) (68719476736 * most) text) (λ size. Ok (Some size))
 
 abbrev pub megabytes_of : ℕ → List ℕ → Result (Option ℕ) Wrong
 megabytes_of most text = and_then (number_in (codes "memory-limit") 1 (65536 * most) text) (λ number. Ok (Some (number * 1048576)))
 
--- what the items of all shards may cost together, where it is said; no two options say what items cost
+-- the total budget, if it is given; no two options may set a budget
 abbrev pub total_of : (fewest most : ℕ) → Bool → (memory megabytes : Option (List ℕ)) → Result (Option ℕ) Wrong
 total_of fewest most has_bytes None None = Ok None
 total_of fewest most has_bytes (Some text) None = unless_bytes has_bytes (memory_of fewest most text)
 total_of fewest most has_bytes None (Some text) = unless_bytes has_bytes (megabytes_of most text)
 total_of fewest most has_bytes (Some text) (Some other) = Err TwoBudgets
 
--- how many shards it takes that none has more than its greatest budget
+-- the number of shards that are needed for the total
 abbrev pub needed_for : ℕ → ℕ
 needed_for total = (total + 68719476735) / 68719476736
 
--- the greater of the two
+-- the larger of the two
 abbrev pub greater : ℕ → ℕ → ℕ
 greater a b = if nat_lt a b then b else a
 
--- the number of shards, no fewer than these, and the budget of each: an equal part of all, or what `--bytes` says
+-- the number of shards, at least these, and the budget of each: an equal part of the total, or the value of
+-- `--bytes`
 abbrev pub shares_by : (List ℕ → Option (List ℕ)) → ℕ → Option ℕ → Result (ℕ × ℕ) Wrong
 shares_by given fewest None = and_then (size_given given (codes "bytes") 1024 16777216 68719476736) (λ bytes. Ok (fewest, bytes))
 shares_by given fewest (Some total) = Ok (greater fewest (needed_for total), total / greater fewest (needed_for total))
 
--- the number of shards and the budget of each; where `--shards` isn't given there are two, or as many as the memory needs
+-- the number of shards and the budget of each; without `--shards` there are two, or as many as the memory
+-- needs
 abbrev pub budget_by : (List ℕ → Option (List ℕ)) → Result (ℕ × ℕ) Wrong
 budget_by given =
     and_then (number_if_given given (codes "shards") 1 64) (λ shards.
     and_then (total_of (unwrap_or shards 2) (unwrap_or shards 64) (is_some (given (codes "bytes"))) (given (codes "memory")) (given (codes "memory-limit"))) (λ total.
     shares_by given (unwrap_or shards 2) total))
 
--- how many bytes a line has at most where nothing else is said
+-- the default line limit
 abbrev pub default_line : Profile → ℕ
 default_line Own = 65536
 default_line DropIn = 1048576
 
--- the sizes of the server with this number of seats, whose rings have 20 places, or the first of them that is wrong
+-- the sizes of a server with this number of slots and rings of capacity 20, or the first error
 abbrev pub sizes_by : (List ℕ → Option (List ℕ)) → ℕ → Result Sizes Wrong
 sizes_by given seats =
     and_then (budget_by given) (λ budget.

@@ -1,4 +1,4 @@
--- What may be wrong with what a command line gives, and the fault that tells it.
+-- What may be wrong with the values of options, and the error that reports it.
 use Rattle.std.specs.Prelude.{ℕ, List}
 use Rattle.mc_options.specs.declared.fault.OptionFault.{OptionFault}
 use Rattle.mc_options.specs.declared.fault.OptionFault.TheVariants as fault
@@ -12,15 +12,15 @@ pub data Wrong : Type 0 where
   NotOfReplay : (name : List ℕ) → Wrong
   NotOfStdio : (name : List ℕ) → Wrong
   NotOfTcp : (name : List ℕ) → Wrong
-  -- more than one option says what the items may cost
+  -- more than one option sets the budget
   TwoBudgets : Wrong
-  -- under this name stands a word that is no number, or no number of bytes, from the least to the most
+  -- the option of this name has a word that is no number, or no size in bytes, in its range
   NoNumber : (name word : List ℕ) (least most : ℕ) → Wrong
   NoSize : (name word : List ℕ) (least most : ℕ) → Wrong
   -- the mode of Unix sockets is no octal number up to 777
   NoMode : (word : List ℕ) → Wrong
 
--- what a fault tells
+-- what an error reports
 abbrev pub wrong_of : OptionFault → Wrong
 wrong_of (fault.Call error) = NoWords
 wrong_of fault.Items = HasItems

@@ -1,2 +1,2 @@
--- Definitions that only the contracts of private functions name: no public contract rests on them.
+-- Definitions that only private contracts name; no public contract depends on them.
 pub mod Told

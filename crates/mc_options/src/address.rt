@@ -1,19 +1,20 @@
-//! What a place means that says where to listen.
+//! Addresses to listen on, as given on the command line.
 ghost use Rattle.std.specs.Prelude.{◌≡◌, IfOk, option_map, string_bytes};
 ghost use Rattle.mc_options.specs.Address.{address_of, before, behind, colons_in, is_bare, is_port, lacking, path_of};
 
 use mc_wire::number_u64;
 use std::alloc::{AllocError, Global};
 
-/// The path of a Unix socket, where the word is `unix:PATH`.
+/// The path of a Unix socket, if the word is `unix:PATH`.
 pub fn listening_path(word: &str) -> Option<&str>
     ensures { option_map (λ path. path.now) result ≡ path_of word.now }
 {
     word.strip_prefix("unix:")
 }
 
-/// Host and port, as the system takes them, of a word of `--listen` and the port of an address that names none. The word is
-/// `HOST:PORT`, `HOST`, or a port alone, which is one of this machine's own address; IPv6 may lack its brackets.
+/// Converts a word of `--listen` to `HOST:PORT`; `port` is used if the word has none. The word is
+/// `HOST:PORT`, `HOST`, or a port alone, which is on 127.0.0.1. IPv6 addresses may lack their
+/// brackets.
 pub fn listening_address(alloc: Global, word: &str, port: &str) -> Result<String, AllocError>
     ensures { IfOk result (λ address. string_bytes address ≡ address_of word.now port.now) }
 {
@@ -23,7 +24,7 @@ pub fn listening_address(alloc: Global, word: &str, port: &str) -> Result<String
     format!(in alloc; "{before}{word}{behind}{lacking}")
 }
 
-/// What stands before the word: this machine's own address where it names no host, and a bracket that it lacks.
+/// The text to insert before the word: the default host, or a missing bracket.
 fn before(word: &[u8]) -> &'static str
     ensures { result.now ≡ before word.now }
 {
@@ -38,7 +39,7 @@ fn before(word: &[u8]) -> &'static str
     }
 }
 
-/// What stands between the word and the port that it lacks; nothing where it names one.
+/// The text to insert between the word and the default port; empty if the word has a port.
 fn behind(word: &[u8]) -> &'static str
     ensures { result.now ≡ behind word.now }
 {
@@ -60,14 +61,14 @@ fn is_port(word: &[u8]) -> bool
     number_u64(word).is_ok()
 }
 
-/// Whether the word is an address of IPv6 without the brackets that part it from a port.
+/// Whether the word is an IPv6 address without brackets.
 fn is_bare(word: &[u8]) -> bool
     ensures { result ≡ is_bare word.now }
 {
     !word.starts_with(b"[") && colons_in(word) > 1
 }
 
-/// How many colons the word has.
+/// Number of colons in the word.
 fn colons_in(word: &[u8]) -> usize
     ensures count { result ≡ colons_in word.now }
 {

@@ -1,4 +1,4 @@
-//! The command line: how the program is called, and with which sizes.
+//! The command line: what the program does, and with which sizes.
 #![tactic(auto)]
 
 mod address;

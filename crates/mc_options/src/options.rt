@@ -1,4 +1,4 @@
-//! The calls of the program, with the sizes that they give.
+//! Parsing of the command line into what the program does and its sizes.
 ghost use Rattle.std.specs.Prelude.{◌≡◌, ◌≤◌, ◌+◌, ◌*◌, ◌/◌, [], Ok, Err, IfOk, IfErr, IfSome, OnOk, is_some, map, option_map, string_bytes, unwrap_or};
 ghost use Rattle.clap.specs.Words.{FailsBy, first_value, found_of, rows_of};
 ghost use Rattle.mc_sizes.specs.Sizes.{AreWithin};
@@ -23,74 +23,74 @@ use mc_wire::{
 };
 use std::alloc::{AllocError, Global};
 
-/// The most connections after which the program can be told to end.
+/// Maximum of `--connections`.
 const MOST_CONNECTIONS: u64 = 4_294_967_295;
 
-/// The longest time that a connection may be told to be idle, in seconds: a year.
+/// Maximum of `--idle-timeout` in seconds: a year.
 const MOST_IDLE: u64 = 31_536_000;
 
-/// For how many seconds connections may end after a signal asks the server to, by default and at most.
+/// Default and maximum of `--drain`, in seconds.
 const DEFAULT_DRAIN: usize = 5;
 
 const MOST_DRAIN: usize = 86_400;
 
-/// The host to listen on by default.
+/// Default host to listen on.
 const DEFAULT_HOST: &str = "127.0.0.1";
 
-/// The port to listen on by default.
+/// Default port to listen on.
 const DEFAULT_PORT: &str = "11211";
 
-/// The mode of a Unix socket by default.
+/// Default file mode of a Unix socket.
 const DEFAULT_MODE: u32 = 0o700;
 
-/// A megabyte, in which memcached counts memory.
+/// A megabyte, memcached's unit of `-m`, in bytes.
 const MEGABYTE: usize = 1_048_576;
 
-/// How the program is called.
+/// What the program does.
 #[derive(Drop, PartialEq)]
 pub enum Options<'a> {
-    /// It serves the connections that come in.
+    /// Serve clients that connect.
     Listen {
-        /// The words that say where, each of them one place or several with commas between them. `listening_path` and
-        /// `listening_address` say what a place means. There is one at least, or a path.
+        /// The words that say where to listen, each an address or several separated by commas; see
+        /// `listening_path` and `listening_address`. At least one, unless there is a path.
         places: Vec<&'a str>,
-        /// The path of a Unix socket where it listens too.
+        /// The path of an additional Unix socket.
         path: Option<&'a str>,
-        /// The mode of Unix sockets.
+        /// The file mode of Unix sockets.
         mode: u32,
-        /// The port where a place names none.
+        /// The port of addresses without one.
         port: &'a str,
-        /// The number of connections after which the program ends, if it does.
+        /// Number of connections after which the program ends, if it is limited.
         connections: Option<u64>,
-        /// The seconds after which a connection that moves no byte is given up, if one is.
+        /// The idle timeout in seconds, if there is one.
         idle_timeout: Option<u64>,
-        /// Whether each connection is told on standard error.
+        /// Whether connections are logged to standard error.
         verbose: bool,
-        /// Where the server's metrics are told, if they are: an address and a port, or a port.
+        /// The address and port, or the port, at which metrics are served, if they are.
         metrics: Option<&'a str>,
-        /// For how many seconds connections may end after a signal asks the server to.
+        /// Seconds that connections have for a clean shutdown after a signal.
         drain: u64,
-        /// Whether only the memory of such a server is printed.
+        /// Only print the memory that such a server takes.
         plan: bool,
-        /// Whether an option of memcached is given that does nothing here.
+        /// Whether an option of memcached is given that has no effect.
         ignores: bool,
         sizes: Sizes,
     },
-    /// It serves one connection over standard input and output.
+    /// Serve one connection over standard input and output.
     Stdio {
-        /// Every moment, in seconds since 1970, or none where the machine's clock tells the time.
+        /// The Unix time of every command, or `None` for the machine's clock.
         at: Option<u64>,
         sizes: Sizes,
     },
-    /// It runs the schedule in a file.
+    /// Run the schedule in a file.
     Replay {
         file: &'a str,
     },
-    /// It tells its version.
+    /// Print the version.
     Version,
 }
 
-/// Reads the words of the command line, the program's name among them.
+/// Parses the command line, whose first word is the program's name.
 pub fn read_options<'a>(alloc: Global, words: &'a [String]) -> Result<Options<'a>, OptionFault<'a>>
     ensures words { OnOk result (word_faults (map string_bytes words.entry.now) ≡ []) }
     ensures given { IfOk result
@@ -105,7 +105,7 @@ pub fn read_options<'a>(alloc: Global, words: &'a [String]) -> Result<Options<'a
     }
 }
 
-/// What was given, by options of the program, and where it says to listen.
+/// The parsed options, and the words that say where to listen.
 fn parse_places<'a>(
     alloc: Global,
     words: &'a [String],
@@ -121,7 +121,7 @@ fn parse_places<'a>(
     Ok((matches, places))
 }
 
-/// What was given, by options of the program.
+/// The parsed options.
 fn parse<'a>(alloc: Global, words: &'a [String]) -> Result<ArgMatches<'a>, clap::Error>
     ensures matches { IfOk result
         (λ matches. rows_of (found_of matches) ≡ rows_in (map string_bytes words.entry.now)) }
@@ -131,8 +131,8 @@ fn parse<'a>(alloc: Global, words: &'a [String]) -> Result<ArgMatches<'a>, clap:
     program.try_get_matches_from(words)
 }
 
-/// The words that say where to listen, in their order: those of `--listen`, or this machine's own address where neither it nor the
-/// path of a Unix socket is given.
+/// The words that say where to listen, in order: those of `--listen`, or the default host if
+/// neither it nor the path of a Unix socket is given.
 fn places_of<'m, 'a: 'm>(
     alloc: Global,
     matches: &'m ArgMatches<'a>,
@@ -151,7 +151,7 @@ fn places_of<'m, 'a: 'm>(
     }
 }
 
-/// The call that is given, and these are the places where it says to listen.
+/// What the program does, with these addresses.
 fn options_in<'a>(
     matches: &ArgMatches<'a>,
     places: Vec<&'a str>,
@@ -180,7 +180,7 @@ fn options_in<'a>(
     listen_in(matches, places)
 }
 
-/// The call that runs the schedule in a file.
+/// The options of `--replay`.
 fn replay_in<'a>(matches: &ArgMatches<'a>, file: &'a str) -> Result<Options<'a>, OptionFault<'a>>
     ensures given { IfOk result (λ options.
         replay_by (first_value (found_of matches.now)) file.now ≡ Ok (call_of options)) }
@@ -218,7 +218,7 @@ fn replay_in<'a>(matches: &ArgMatches<'a>, file: &'a str) -> Result<Options<'a>,
     Ok(Options::Replay { file })
 }
 
-/// The call that serves standard input and output.
+/// The options of `--stdio`.
 fn stdio_in<'a>(matches: &ArgMatches<'a>) -> Result<Options<'a>, OptionFault<'a>>
     ensures given { IfOk result
         (λ options. stdio_by (first_value (found_of matches.now)) ≡ Ok (call_of options)) }
@@ -249,7 +249,7 @@ fn stdio_in<'a>(matches: &ArgMatches<'a>) -> Result<Options<'a>, OptionFault<'a>
     Ok(Options::Stdio { at, sizes })
 }
 
-/// The call that serves the connections that come in at these places.
+/// The options of a server that listens at these addresses.
 fn listen_in<'a>(
     matches: &ArgMatches<'a>,
     places: Vec<&'a str>,
@@ -289,14 +289,14 @@ fn listen_in<'a>(
     })
 }
 
-/// Whether an option of memcached is given that does nothing here.
+/// Whether an option of memcached is given that has no effect.
 fn is_one_ignored(matches: &ArgMatches<'_>) -> bool
     ensures { result ≡ is_one_ignored (first_value (found_of matches.now)) }
 {
     is_given(matches, "user") || is_given(matches, "pidfile") || is_flag(matches, "daemon")
 }
 
-/// The port of an address that names none, where no port of UDP is asked for.
+/// The default port of addresses. Fails if a UDP port is requested.
 fn port_in<'a>(matches: &ArgMatches<'a>) -> Result<&'a str, OptionFault<'a>>
     ensures given { IfOk result
         (λ port. port_by (first_value (found_of matches.now)) ≡ Ok port.now) }
@@ -314,7 +314,7 @@ fn port_in<'a>(matches: &ArgMatches<'a>) -> Result<&'a str, OptionFault<'a>>
     }
 }
 
-/// The mode of Unix sockets: for this user alone by default.
+/// The file mode of Unix sockets; 0700 by default.
 fn mode_in<'a>(matches: &ArgMatches<'a>) -> Result<u32, OptionFault<'a>>
     ensures given { IfOk result
         (λ mode. mode_by (first_value (found_of matches.now)) ≡ Ok mode) }
@@ -328,7 +328,7 @@ fn mode_in<'a>(matches: &ArgMatches<'a>) -> Result<u32, OptionFault<'a>>
     }
 }
 
-/// The mode that a word spells in octal.
+/// Parses an octal file mode.
 fn mode_of<'a>(word: &'a str) -> Result<u32, OptionFault<'a>>
     ensures given { IfOk result (λ mode. mode_in word.entry.now ≡ Ok mode) }
     ensures refused { IfErr result (λ fault.
@@ -338,7 +338,7 @@ fn mode_of<'a>(word: &'a str) -> Result<u32, OptionFault<'a>>
     digits.and_then(octal).ok_or(OptionFault::Mode { word })
 }
 
-/// The mode of three octal digits, which were read as one number in decimal.
+/// Converts three digits, parsed in decimal, to the octal number that they denote.
 fn octal(digits: u64) -> Option<u32>
     ensures { result ≡ octal digits }
 {
@@ -349,7 +349,7 @@ fn octal(digits: u64) -> Option<u32>
     Some((digits / 100 * 64 + middle * 8 + low) as u32)
 }
 
-/// The sizes that are given, of a server with `seats` seats, and whose rules it follows.
+/// The sizes and the profile, for a server with `seats` slots.
 fn sizes_in<'a>(matches: &ArgMatches<'a>, seats: usize) -> Result<Sizes, OptionFault<'a>>
     requires least { LEAST ≤ seats }
     requires greatest { seats ≤ GREATEST_SEATS }
@@ -390,7 +390,7 @@ fn sizes_in<'a>(matches: &ArgMatches<'a>, seats: usize) -> Result<Sizes, OptionF
     })
 }
 
-/// Whose rules the server follows.
+/// The protocol profile.
 fn profile_in(matches: &ArgMatches<'_>) -> Profile
     ensures { result ≡ profile_by (first_value (found_of matches.now)) }
 {
@@ -401,7 +401,7 @@ fn profile_in(matches: &ArgMatches<'_>) -> Profile
     }
 }
 
-/// How many bytes a line has at most where nothing else is said.
+/// The default line limit in bytes.
 fn default_line(profile: Profile) -> usize
     ensures value { result ≡ default_line profile }
     ensures within { (2048 ≤ result) × (result ≤ 8388608) }
@@ -413,21 +413,22 @@ fn default_line(profile: Profile) -> usize
     }
 }
 
-/// How many shards a server has, and what the items of each may cost together, in bytes.
+/// Number of shards, and the memory budget of each in bytes.
 #[derive(Clone, Copy)]
 struct Budget {
     shards: usize,
     bytes: usize,
 }
 
-/// How many shards a server may have.
+/// The allowed number of shards.
 #[derive(Clone, Copy)]
 struct Range {
     fewest: usize,
     most: usize,
 }
 
-/// The number of shards and the budget of each. Where `--shards` isn't given there are two, or as many as the memory needs.
+/// The number of shards and the budget of each. Without `--shards` there are two, or as many as
+/// `--memory` needs.
 fn budget_in<'a>(matches: &ArgMatches<'a>) -> Result<Budget, OptionFault<'a>>
     ensures given { IfOk result (λ budget.
         budget_by (first_value (found_of matches.now)) ≡ Ok (budget.shards, budget.bytes)) }
@@ -447,7 +448,7 @@ fn budget_in<'a>(matches: &ArgMatches<'a>) -> Result<Budget, OptionFault<'a>>
     shares_in(matches, range, total)
 }
 
-/// How many shards a server may have of which this number is given, or none.
+/// The allowed number of shards: exactly the given one, or by default 2 to 64.
 fn range_of(shards: Option<u64>) -> Range
     requires { IfSome shards (λ number. (1 ≤ number) × (number ≤ 64)) }
     ensures fewest { result.fewest ≡ unwrap_or shards 2 }
@@ -466,8 +467,8 @@ fn range_of(shards: Option<u64>) -> Range
     }
 }
 
-/// What the items of all shards may cost together, where it is said: `--memory`, or the megabytes of `--memory-limit`. Only one
-/// option may say what items cost.
+/// The budget of all shards together, if it is given by `--memory` or, in megabytes, by
+/// `--memory-limit`. Fails if more than one option sets a budget.
 fn total_in<'a>(
     range: Range,
     has_bytes: bool,
@@ -493,7 +494,7 @@ fn total_in<'a>(
     }
 }
 
-/// What `--memory` says, where `--bytes` isn't given.
+/// The value of `--memory`. Fails if `--bytes` is given too.
 fn memory_in<'a>(
     range: Range,
     has_bytes: bool,
@@ -518,7 +519,7 @@ fn memory_in<'a>(
     Ok(Some(size))
 }
 
-/// What the megabytes of `--memory-limit` say, where `--bytes` isn't given.
+/// The value of `--memory-limit` in bytes. Fails if `--bytes` is given too.
 fn megabytes_in<'a>(
     range: Range,
     has_bytes: bool,
@@ -541,7 +542,7 @@ fn megabytes_in<'a>(
     Ok(Some(number as usize * MEGABYTE))
 }
 
-/// The shards and the budget of each, of the total where one is said, or of `--bytes`.
+/// Shards and budgets from the total budget, or from `--bytes`.
 fn shares_in<'a>(
     matches: &ArgMatches<'a>,
     range: Range,
@@ -579,7 +580,7 @@ fn shares_in<'a>(
     }
 }
 
-/// Equal shares of the total, for no fewer shards than the fewest, and as many more as it needs.
+/// Divides the total equally among as few shards as allowed and needed.
 fn shares_of(range: Range, total: usize) -> Budget
     requires range { (1 ≤ range.fewest) × (range.fewest ≤ range.most) × (range.most ≤ 64) }
     requires total { (1024 * range.fewest ≤ total) × (total ≤ 68719476736 * range.most) }
@@ -594,14 +595,14 @@ fn shares_of(range: Range, total: usize) -> Budget
     Budget { shards, bytes }
 }
 
-/// The greater of the two.
+/// The larger of the two.
 fn greater(a: usize, b: usize) -> usize
     ensures { result ≡ greater a b }
 {
     if a < b { b } else { a }
 }
 
-/// The share of each shard.
+/// The budget of each shard.
 fn share_of(total: usize, shards: usize) -> usize
     requires some { (1 ≤ shards) × (shards ≤ 64) }
     requires least { 1024 * shards ≤ total }
@@ -612,7 +613,7 @@ fn share_of(total: usize, shards: usize) -> usize
     total / shards
 }
 
-/// The first that is given of these options with a value, or of these without one.
+/// The first of these options that is given, with or without a value.
 fn first_given(
     matches: &ArgMatches<'_>,
     options: &[&'static str],
@@ -652,7 +653,7 @@ fn is_flag(matches: &ArgMatches<'_>, name: &str) -> bool
     }
 }
 
-/// The number that is given, from the least to the most, or where none is given this one.
+/// The value of a numeric option, between `least` and `most`; its default if it isn't given.
 fn number_given<'a>(
     matches: &ArgMatches<'a>,
     option: &'static str,
@@ -677,7 +678,7 @@ fn number_given<'a>(
     }
 }
 
-/// The number that is given, if one is, from the least to the most.
+/// The value of a numeric option, between `least` and `most`, if it is given.
 fn number_if_given<'a>(
     matches: &ArgMatches<'a>,
     option: &'static str,
@@ -699,7 +700,7 @@ fn number_if_given<'a>(
     }
 }
 
-/// The number that a word spells, from the least to the most.
+/// Parses a number between `least` and `most`.
 fn number_in<'a>(
     option: &'static str,
     word: &'a str,
@@ -724,7 +725,7 @@ fn number_in<'a>(
     }
 }
 
-/// The number of bytes that is given, from the least to the most, or where none is given this one.
+/// The value of a size option in bytes, between `least` and `most`; its default if it isn't given.
 fn size_given<'a>(
     matches: &ArgMatches<'a>,
     option: &'static str,
@@ -748,7 +749,7 @@ fn size_given<'a>(
     }
 }
 
-/// The number of bytes that a word spells, from the least to the most.
+/// Parses a size in bytes between `least` and `most`.
 fn size_in<'a>(
     option: &'static str,
     word: &'a str,
@@ -773,8 +774,8 @@ fn size_in<'a>(
     }
 }
 
-/// The number of bytes that a text spells, if it has 64 bits: a number, with `k`, `m`, `g`, `b`, `kb`, `mb` or `gb` behind it
-/// where it has one, in small letters or capitals.
+/// Parses a size in bytes: a number below 2^64, optionally followed by `k`, `m`, `g`, `b`, `kb`,
+/// `mb` or `gb` in either case. `None` if it is invalid.
 fn bytes_of(text: &[u8]) -> Option<u64>
     ensures { result ≡ bytes_of text.now }
 {
@@ -787,7 +788,7 @@ fn bytes_of(text: &[u8]) -> Option<u64>
     }
 }
 
-/// The text without a `b` or `B` at its end, which says that bytes are counted.
+/// The text without a trailing `b` or `B`.
 fn counted_of(text: &[u8]) -> &[u8]
     ensures { result.now ≡ counted_of text.now }
 {
@@ -798,7 +799,7 @@ fn counted_of(text: &[u8]) -> &[u8]
     }
 }
 
-/// What the letter behind a number of bytes multiplies it by; 1 where there is none.
+/// The factor of the unit letter at the end: 1024, its square or its cube; 1 if there is none.
 fn unit_of(text: &[u8]) -> u64
     ensures value { result ≡ unit_of text.now }
 {
@@ -813,14 +814,14 @@ fn unit_of(text: &[u8]) -> u64
     }
 }
 
-/// Whether the text ends with this letter, small or capital.
+/// Whether the text ends with this letter in either case.
 fn ends_by(text: &[u8], small: &[u8], capital: &[u8]) -> bool
     ensures { result ≡ ends_by text.now small.now capital.now }
 {
     text.ends_with(small) || text.ends_with(capital)
 }
 
-/// The text without the letter that stands for this unit.
+/// The text without its unit letter, if the factor is more than 1.
 fn digits_of(text: &[u8], unit: u64) -> &[u8]
     requires { unit ≡ unit_of text.now }
     ensures { result.now ≡ digits_of text.now }

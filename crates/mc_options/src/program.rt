@@ -1,4 +1,4 @@
-//! The options of the program, as its help shows them.
+//! The options of the program, as `--help` shows them.
 ghost use Rattle.std.specs.Prelude.{◌≡◌, IfOk, map};
 ghost use Rattle.clap.specs.Words.{app_of, with_rule};
 ghost use Rattle.mc_options.specs.Program.{program, with_rules};
@@ -7,7 +7,7 @@ ghost use Rattle.mc_options.specs.internal.Told.{action_of, by_letter, told_rule
 use clap::{Arg, ArgAction, Command};
 use std::alloc::{AllocError, Global};
 
-/// The calls of the program, below the list of its options.
+/// Usage lines below the list of options.
 const CALLS: &str = "\
 mcd [--listen PLACE..] [--seats N] [--memory SIZE] [options]   serves clients
 mcd --plan [options]                        memory of such a server
@@ -19,13 +19,13 @@ Limits are --shards, --bytes, --memory, --memory-limit, --value-limit,
 or g behind it (1024 each): 64m, 64M, 64mb. Defaults are shown in [].
 memcached's -U 0, -d, -u USER and -P FILE are accepted and do nothing.";
 
-/// An option: its name, the letter that gives it too, what the help calls its value, and what the help says of it. One that is
-/// given or not has no value. One whose value ends with dots there may be given more than once. One of which the help says nothing is not shown: it does nothing, or only names the option that
-/// took its place.
+/// An option: name, short letter, metavariable and help text. A flag has no metavariable. If the
+/// metavariable ends with dots, the option may be repeated. An option without a help text is
+/// hidden: it has no effect, or it is an alias.
 type Told<'a> = (&'a str, Option<char>, &'a str, &'a str);
 
-/// The options, in the order of the help: how the program is called, what the server is like, who watches it, and what
-/// memcached has besides. A letter means here what it means there.
+/// The options in the order of `--help`: usage, server sizes, telemetry, and the remaining ones of
+/// memcached. A short letter has memcached's meaning.
 const OPTIONS: [Told<'static>; 28] = [
     (
         "listen",
@@ -181,7 +181,7 @@ pub fn program_options<'a>(alloc: Global) -> Result<Command<'a>, AllocError>
     with_options(alloc, command, &OPTIONS)
 }
 
-/// The program with these options too.
+/// Adds these options to the program.
 fn with_options<'a>(
     alloc: Global,
     program: Command<'a>,
@@ -198,7 +198,7 @@ fn with_options<'a>(
     Ok(more)
 }
 
-/// The program with the option of which this is told.
+/// Adds one option to the program.
 fn with_option<'a>(
     alloc: Global,
     program: Command<'a>,
@@ -221,7 +221,8 @@ fn with_option<'a>(
     }
 }
 
-/// What another use of an option does whose value has this name: it adds to the values, or is refused.
+/// How repetitions of an option are handled, by its metavariable: values are collected, or a
+/// repetition is refused.
 fn action_of(value: &str) -> ArgAction
     ensures { result ≡ action_of value.now }
 {
@@ -232,7 +233,7 @@ fn action_of(value: &str) -> ArgAction
     }
 }
 
-/// The option, which one dash and the letter give too.
+/// Adds the short letter to an option, if it has one.
 fn by_letter<'a>(option: Arg<'a>, letter: Option<char>) -> Arg<'a>
     ensures { result ≡ by_letter letter option.entry }
 {

@@ -1,15 +1,16 @@
-//! What tests assert. It stands by itself, so that how a failure is told is proved once, and not at each place that asserts.
+//! Assertions for tests. Out of line, so that the path of a failure is proved once instead of at
+//! each assertion.
 ghost use Rattle.std.specs.Prelude.{◌≡◌, true};
 
 use std::fmt::Debug;
 use std::process::Abort;
 
-/// Asserts that what was found is what was wanted.
+/// Asserts that both are equal.
 pub fn equal<T: PartialEq + Debug + Copy>(rt: &impl Abort, found: T, wanted: T) {
     assert_eq!(rt; found, wanted);
 }
 
-/// Asserts that it holds.
+/// Asserts that the condition holds.
 pub fn holds(rt: &impl Abort, condition: bool)
     ensures { condition ≡ true }
 {

@@ -1,6 +1,6 @@
-//! What no clause says: that each public call succeeds where memory is ample, and what a line becomes
-//! when it runs out. `rt try --test --fail-alloc N` refuses the Nth allocation of each test:
-//! `a_line_without_memory_is_given_up` passes at every N.
+//! Tests of what no contract states: that each public call succeeds with ample memory, and how a
+//! line is refused without it. `rt try --test --fail-alloc N` refuses the Nth allocation of each
+//! test; `a_line_without_memory_is_given_up` passes for every N.
 use crate::asserting::{equal, holds};
 use mc_command::{
     Block, Command, Direction, Keys, Line, Refusal, StoreMode, Vivify, announced_bytes,
@@ -10,19 +10,19 @@ use mc_wire::{DEFAULT_VALUE_LIMIT, Key, WireFault, words};
 use std::alloc::{AllocError, Global};
 use std::test::Fail;
 
-/// A line as it was read.
+/// A parsed line.
 pub struct ReadLine {
     pub line: Line,
 }
 
 impl Drop for ReadLine {
-    /// By hand, so that to let one go is one call for whoever holds it.
+    /// Written by hand, so that its owners drop it by a single call (docs/DECISIONS.md, F20).
     fn drop(self) {
         let ReadLine { line: _line } = self;
     }
 }
 
-/// The line as it is read.
+/// Parses the line.
 pub fn read(alloc: Global, line: &[u8]) -> ReadLine {
     ReadLine {
         line: read_line(alloc, line, DEFAULT_VALUE_LIMIT),
@@ -34,7 +34,8 @@ pub fn is_a(key: &Key) -> bool {
     key.bytes() == b"a".as_slice()
 }
 
-/// Whether it is a storage command of this mode and at this unique under the key `a`, with the flags 5, dead at once, without reply.
+/// Whether it is a storage command of this mode with this unique, for key `a`, with flags 5, an
+/// exptime that has passed, and noreply.
 fn is_storage(line: &Line, mode: StoreMode, compare: Option<u64>) -> bool {
     match line {
         Line::Data(Command::Store(stored), 3) => {
@@ -48,7 +49,7 @@ fn is_storage(line: &Line, mode: StoreMode, compare: Option<u64>) -> bool {
     }
 }
 
-/// The line, whose command has this block where it announces one.
+/// The line, with this block if it announces one.
 fn with_block(line: Line, block: Block) -> ReadLine {
     match line {
         Line::Data(command, count) => ReadLine {
@@ -58,7 +59,7 @@ fn with_block(line: Line, block: Block) -> ReadLine {
     }
 }
 
-/// Whether the line and the block `xyz` are such a command.
+/// Whether the line with the block `xyz` is such a command.
 fn stores(
     alloc: Global,
     line: &[u8],
@@ -97,7 +98,7 @@ fn a_block_keeps_its_bytes(rt: HostRuntime) -> Result<(), Fail> {
     Ok(())
 }
 
-/// Whether it is the name that comes next.
+/// Whether the key equals the next name.
 fn is_next(found: &[u8], name: Option<&&[u8]>) -> bool {
     match name {
         Some(name) => found == *name,
@@ -105,7 +106,7 @@ fn is_next(found: &[u8], name: Option<&&[u8]>) -> bool {
     }
 }
 
-/// Whether the keys have such names, in order.
+/// Whether the keys have these names, in order.
 fn are_named(keys: &Keys, names: &[&[u8]]) -> bool {
     let (first, others) = keys.parts();
     let mut left = names.iter();
@@ -120,7 +121,7 @@ fn are_named(keys: &Keys, names: &[&[u8]]) -> bool {
     left.next().is_none()
 }
 
-/// Of a line that asks for items under such names: the exptime that it gives, and whether it asks for uniques.
+/// For a retrieval of these keys: its exptime, and whether it asks for uniques.
 fn retrieved(line: &Line, names: &[&[u8]]) -> Option<(Option<i64>, bool)> {
     match line {
         Line::Whole(Command::Get(get)) if are_named(&get.keys, names) => {
@@ -130,7 +131,7 @@ fn retrieved(line: &Line, names: &[&[u8]]) -> Option<(Option<i64>, bool)> {
     }
 }
 
-/// Whether keys that are read from two texts have such names.
+/// Whether these two texts are parsed as keys of these names.
 fn reads(alloc: Global, first: &[u8], others: &[u8], names: &[&[u8]]) -> Result<bool, Refusal> {
     let keys = Keys::read(alloc, first, words(others))?;
     Ok(are_named(&keys, names))
@@ -152,7 +153,7 @@ fn keys_stand_in_the_order_of_the_request(rt: HostRuntime) -> Result<(), Fail> {
     Ok(())
 }
 
-/// The exptime of the item that a line of `ma` makes of a miss, 0 where it makes none.
+/// The exptime of the item that `ma` creates on a miss; 0 if it creates none.
 fn made_at(vivify: Option<Vivify>) -> i64 {
     match vivify {
         Some(made) => made.exptime,
@@ -160,7 +161,7 @@ fn made_at(vivify: Option<Vivify>) -> i64 {
     }
 }
 
-/// What a line asks of one key: its name, and a number.
+/// The operation of a line on one key: its name, and a number.
 fn asked_of(line: &Line) -> (&'static str, i64) {
     match line {
         Line::Whole(Command::Delete { key, noreply }) => {
@@ -232,13 +233,14 @@ fn refusal_of(line: &Line) -> (Option<Refusal>, u64) {
     }
 }
 
-/// How a line is refused, if it is, and how many bytes behind it are skipped or are its block.
+/// The refusal of a line, if it is refused, and the number of bytes behind it that are skipped or
+/// are its block.
 pub fn refused(alloc: Global, line: &[u8]) -> (Option<Refusal>, u64) {
     refusal_of(&read(alloc, line).line)
 }
 
-/// Lines with the bytes that stand behind them and their faults, if they have one. Each key takes memory: those of at most 38
-/// bytes take none.
+/// Lines, with the number of bytes behind them and their refusals. Keys are long enough to need an
+/// allocation: those of at most 38 bytes don't.
 static LINES: [(&str, u64, Option<Refusal>); 23] = [
     ("set a:key:of:39:bytes:lies:in:its:own:block 0 0 3", 5, None),
     (
@@ -317,7 +319,7 @@ static LINES: [(&str, u64, Option<Refusal>); 23] = [
     ("ma a:key:of:39:bytes:lies:in:its:own:block N0", 0, None),
 ];
 
-/// Where an allocation is refused, the line is refused as out of memory, and as many bytes are skipped.
+/// If an allocation is refused, the line is refused with `Memory`, and the same bytes are skipped.
 #[test]
 fn a_line_without_memory_is_given_up(rt: HostRuntime) {
     for (line, behind, fault) in &LINES {

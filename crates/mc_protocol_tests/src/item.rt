@@ -44,7 +44,7 @@ fn value_of(alloc: Global, text: &[u8]) -> Result<Value, NoMemory>
     Value::new(bytes)
 }
 
-/// A value that shares its bytes leaves the reserve, which is for copies alone.
+/// A value that shares its bytes doesn't use the reserve, which is for copies alone.
 #[test]
 fn sharing_uses_up_no_reserve(rt: HostRuntime) -> Result<(), Fail> {
     let a = rt.alloc();
@@ -63,7 +63,7 @@ fn sharing_uses_up_no_reserve(rt: HostRuntime) -> Result<(), Fail> {
     Ok(())
 }
 
-/// The number that a value of this text holds.
+/// The number in a value with this text.
 fn number_of(alloc: Global, text: &[u8]) -> Result<Option<u64>, NoMemory>
     requires { length text.now ≤ 100 }
 {
@@ -93,7 +93,7 @@ fn values_hold_numbers(rt: HostRuntime) -> Result<(), Fail> {
     Ok(())
 }
 
-/// An item that dies at the second 1,000.
+/// An item that expires at second 1,000.
 fn item_of(value: Value) -> Item {
     Item {
         value,
@@ -107,7 +107,7 @@ fn item_of(value: Value) -> Item {
     }
 }
 
-/// The value of an item and a block, joined, where both are short.
+/// A short item's value joined with a short block.
 fn short_joined(
     alloc: Global,
     item: &Item,
@@ -120,14 +120,14 @@ fn short_joined(
     item.joined(alloc, block, is_behind)
 }
 
-/// An item of the value `bc` and the block `d`, joined.
+/// The value `bc` of an item joined with the block `d`.
 fn joined(alloc: Global, is_behind: bool) -> Result<Value, NoMemory> {
     let item = item_of(value_of(alloc, b"bc")?);
     let block = value_of(alloc, b"d")?;
     short_joined(alloc, &item, &block, is_behind)
 }
 
-/// Asserts what they are, joined, and that a clone has the same bytes.
+/// Asserts the bytes of the joined value, and that a clone has the same ones.
 fn are_joined(rt: &impl Abort, alloc: Global, is_behind: bool, want: &[u8]) -> Result<(), Fail> {
     let value = joined(alloc, is_behind)?;
     equal(rt, value.bytes(), want);
@@ -179,7 +179,7 @@ fn numbers_have_texts(rt: HostRuntime) -> Result<(), Fail> {
     is_written(&rt, rt.alloc(), 0, b"0")
 }
 
-/// The kind of an operation, and how many bytes its key has.
+/// The kind of an operation, and the length of its key.
 fn kind_and_key(op: Op) -> (Kind, Option<usize>) {
     let length = match op.key() {
         Some(key) => Some(key.bytes().len()),
@@ -200,7 +200,7 @@ fn pieces_have_kinds_and_keys(rt: HostRuntime) -> Result<(), Fail> {
     Ok(())
 }
 
-/// Whether it answers an operation of this kind.
+/// Whether the answer is one to an operation of this kind.
 fn answers(answer: Answer, kind: Kind) -> bool {
     answer.is_lawful(kind)
 }

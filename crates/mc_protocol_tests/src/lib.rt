@@ -1,5 +1,5 @@
-//! Tests of the crates between the bytes of a stream and the answer of a shard. They stand apart from the crates that they
-//! call, which are so proved once, and not a second time with their tests.
+//! Tests of the crates from the bytes of a stream to the answer of a shard. They are in a crate of
+//! their own, so that the crates under test are proved without them.
 #![tactic(auto)]
 
 #[cfg(test)]

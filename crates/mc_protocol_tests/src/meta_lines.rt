@@ -1,4 +1,5 @@
-//! Meta lines with values from outside: what each flag asks, which fault is told, and what is skipped.
+//! Meta lines with values from outside: what each flag requests, which error is reported, and what
+//! is skipped.
 use crate::asserting::{equal, holds};
 use crate::command::{is_a, read, refused};
 use mc_command::{
@@ -6,7 +7,7 @@ use mc_command::{
 };
 use std::process::Abort;
 
-/// Asserts that it is the `mg` of the next test.
+/// Asserts that the line is the `mg` of the next test.
 fn asks_with_its_flags(rt: &impl Abort, line: &Line) {
     let Line::Whole(Command::MetaGet(get)) = line else {
         panic!(rt; "no mg")
@@ -26,7 +27,7 @@ fn asks_with_its_flags(rt: &impl Abort, line: &Line) {
     );
 }
 
-/// What that `mg` has given back, in the order of its flags.
+/// The flags that this `mg` returns, in order.
 static RETURNED: [ReturnFlag; 8] = [
     ReturnFlag::Size,
     ReturnFlag::Unique,
@@ -44,7 +45,7 @@ fn a_get_asks_what_its_flags_say(rt: HostRuntime) {
     asks_with_its_flags(&rt, &read.line);
 }
 
-/// Of an `ms` of the key `a`: its mode, and its client flags, exptime and unique.
+/// Of an `ms` of key `a`: its mode, client flags, exptime and unique.
 fn ms_of(line: &Line) -> Option<(StoreMode, (u32, i64, Option<u64>))> {
     match line {
         Line::Data(Command::MetaSet(set), _) if is_a(&set.asked.key) => {
@@ -77,8 +78,8 @@ fn the_modes_of_ms_in_either_case(rt: HostRuntime) {
     }
 }
 
-/// Of an `ma`: its direction and amount, the exptime and the number of an item that it makes, and its exptime for one that it
-/// finds.
+/// Of an `ma`: its direction and amount, the exptime and number of an item that it creates, and the
+/// exptime that it sets on an existing one.
 fn ma_of(line: &Line) -> Option<((Direction, u64), Option<(i64, u64)>, Option<i64>)> {
     match line {
         Line::Whole(Command::MetaArithmetic(MetaArithmetic { asked, .. })) => {
@@ -113,7 +114,7 @@ fn the_defaults_of_ma_and_its_flags(rt: HostRuntime) {
     }
 }
 
-/// Of an `md`: whether it marks and whether it is quiet, its unique and its exptime.
+/// Of an `md`: whether it marks stale and is quiet, its unique and its exptime.
 fn md_of(line: &Line) -> Option<((bool, bool), (Option<u64>, Option<i64>))> {
     match line {
         Line::Whole(Command::MetaDelete(delete)) => {

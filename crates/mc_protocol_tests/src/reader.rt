@@ -1,5 +1,5 @@
-//! What no clause says: that calls succeed where memory is ample, that a skipped block takes none, and that
-//! reading goes on where an allocation was refused.
+//! Tests of what no contract states: that calls succeed with ample memory, that a skipped block
+//! takes none, and that parsing continues after a refused allocation.
 ghost use Rattle.std.specs.Prelude.{◌<◌};
 
 use crate::asserting::{equal, holds};
@@ -15,7 +15,7 @@ use std::test::Fail;
 
 static PIECE: [u8; 65_536] = [b'x'; 65_536];
 
-/// What came next of a stream, in short.
+/// The next result of a reader, in short.
 #[derive(Clone, Copy, Debug, PartialEq, Eq)]
 enum Came {
     Store,
@@ -49,7 +49,7 @@ fn what_came(next: &Next) -> Came {
     }
 }
 
-/// What comes next.
+/// The next result.
 fn next_of(alloc: Global, reader: &mut Reader) -> Came {
     what_came(&reader.next(alloc))
 }
@@ -59,14 +59,15 @@ fn feed_all(rt: &impl Abort, reader: &mut Reader, piece: &[u8]) {
     equal(rt, reader.feed(piece), piece.len());
 }
 
-/// Asserts that these come next, one after another.
+/// Asserts the next results.
 fn gives(rt: &impl Abort, alloc: Global, reader: &mut Reader, wanted: &[Came]) {
     for one in wanted {
         equal(rt, next_of(alloc, reader), *one);
     }
 }
 
-/// Asserts that what comes up to the next `NeedMore` begins the wanted commands, and tells how many came.
+/// Asserts that the results up to the next `NeedMore` are a prefix of the expected commands, and
+/// returns their number.
 fn gives_some(rt: &impl Abort, alloc: Global, reader: &mut Reader, wanted: &[Came]) -> usize {
     for (count, one) in wanted.iter().enumerate() {
         let given = next_of(alloc, reader);
@@ -78,7 +79,7 @@ fn gives_some(rt: &impl Abort, alloc: Global, reader: &mut Reader, wanted: &[Cam
     wanted.len()
 }
 
-/// Asserts that the input, cut into such pieces, gives these commands and nothing else.
+/// Asserts that the input, cut into pieces of this size, gives exactly these commands.
 fn gives_cut(
     rt: &impl Abort,
     alloc: Global,
@@ -160,13 +161,13 @@ fn each_call_with_ample_memory(rt: HostRuntime) -> Result<(), Fail> {
     Ok(())
 }
 
-/// The longest block that a line can announce: none of it is kept, and it is skipped to its last byte.
+/// The longest block that a line can announce is not stored, and is skipped to its last byte.
 #[test]
 fn a_skipped_block_is_not_kept(rt: HostRuntime) -> Result<(), Fail> {
     let alloc = rt.alloc();
     let mut reader = Reader::new(alloc, DEFAULT_VALUE_LIMIT)?;
     feed_all(&rt, &mut reader, b"set a 0 0 4294967295\r\n");
-    // These are the block and one of the two bytes behind it.
+    // The block and one of the two bytes behind it.
     for _ in 0..65_536u32 {
         gives(&rt, alloc, &mut reader, &[Came::NeedMore]);
         feed_all(&rt, &mut reader, &PIECE);
@@ -187,8 +188,9 @@ fn a_skipped_block_is_not_kept(rt: HostRuntime) -> Result<(), Fail> {
     Ok(())
 }
 
-/// Holds whichever one allocation is refused, as by `rt try --test --fail-alloc N` for each N: its command is
-/// given up, its block is skipped, and the commands behind it are read. Each key that is read takes memory.
+/// Passes whichever allocation is refused, as with `rt try --test --fail-alloc N` for each N: the
+/// command is refused, its block is skipped, and later commands are parsed. Each key needs an
+/// allocation.
 #[test]
 fn a_refused_allocation_gives_up_one_command(rt: HostRuntime) {
     let alloc = rt.alloc();
@@ -224,7 +226,7 @@ fn a_refused_allocation_gives_up_one_command(rt: HostRuntime) {
     gives(&rt, alloc, &mut reader, &[Came::NeedMore]);
 }
 
-/// Feeds `count` bytes of a word, at most `size` at a time.
+/// Feeds a word of `count` bytes, at most `size` at a time.
 fn feed_word(rt: &impl Abort, reader: &mut Reader, count: usize, size: usize) {
     let mut left = count;
     for _ in 0..count {
@@ -237,7 +239,7 @@ fn feed_word(rt: &impl Abort, reader: &mut Reader, count: usize, size: usize) {
     }
 }
 
-/// A line has at most as many bytes as the rules say, whatever limit is chosen and however it is cut.
+/// Lines are accepted up to each line limit, in whatever pieces they arrive.
 #[test]
 fn lines_at_the_limit(rt: HostRuntime) -> Result<(), Fail> {
     let alloc = rt.alloc();
@@ -262,7 +264,7 @@ fn lines_at_the_limit(rt: HostRuntime) -> Result<(), Fail> {
     Ok(())
 }
 
-/// A value has at most as many bytes as the limit says, whatever limit is chosen.
+/// Values are accepted up to each value limit.
 #[test]
 fn values_at_the_limit(rt: HostRuntime) -> Result<(), Fail> {
     let alloc = rt.alloc();

@@ -1,4 +1,5 @@
-//! The secret of the hash of a shard's keys comes from the random source. No clause can say so: nothing is known of random bytes.
+//! The secret of a shard's key hash comes from the random source. No contract can state this, since
+//! nothing is known about random bytes.
 use crate::asserting::holds;
 use mc_store::Shard;
 use std::alloc::Global;
@@ -17,7 +18,7 @@ impl RandomSource for Broken {
     }
 }
 
-/// A source that counts the bytes that it gave.
+/// A source that counts the bytes that it returned.
 #[derive(Drop)]
 struct Counted {
     given: AtomicU64,
@@ -33,7 +34,7 @@ impl RandomSource for Counted {
     }
 }
 
-/// Whether a shard is made over this source.
+/// Whether a shard can be made with this source.
 fn is_made(source: &impl RandomSource, alloc: Global) -> bool {
     Shard::empty(source, alloc, 0, 2, 1_024, 1_024).is_ok()
 }
@@ -44,7 +45,7 @@ fn without_random_bytes_there_is_no_shard(rt: HostRuntime) -> Result<(), Fail> {
     Ok(())
 }
 
-/// A secret of at least 8 bytes is drawn for each shard.
+/// At least 8 secret bytes are drawn for each shard.
 #[test]
 fn each_shard_draws_a_secret(rt: HostRuntime) -> Result<(), Fail> {
     let source = Counted {

@@ -1,4 +1,4 @@
-//! A shard that is asked one operation after another, with what the protocol's worked rows have it answer.
+//! Sequences of operations on a shard, with the answers of the protocol's worked rows.
 ghost use Rattle.std.specs.Prelude.{◌≤◌};
 
 mod asked;
@@ -17,7 +17,7 @@ use std::process::Abort;
 use std::random::RandomSource;
 use std::test::Fail;
 
-/// The first of two shards, whose items may cost `budget` bytes.
+/// The first of two shards, with this memory budget in bytes.
 fn new_shard(rt: &impl RandomSource, alloc: Global, budget: usize) -> Result<Shard, Fail>
     requires least { 1024 ≤ budget }
     requires most { budget ≤ 68719476736 }
@@ -25,7 +25,7 @@ fn new_shard(rt: &impl RandomSource, alloc: Global, budget: usize) -> Result<Sha
     Ok(Shard::new(alloc, RandomState::new(rt)?, 0, 2, budget, 0, 1_048_576)?)
 }
 
-/// Asks it, and says whether the answer is shown like this.
+/// Runs the operation, and returns whether the answer is as expected.
 fn answers(alloc: Global, shard: &mut Shard, row: Row) -> Result<bool, Fail> {
     let (at, key, ask, want) = row;
     let op = op_of(alloc, key, ask)?;
@@ -34,7 +34,7 @@ fn answers(alloc: Global, shard: &mut Shard, row: Row) -> Result<bool, Fail> {
     Ok(shown.as_str() == want)
 }
 
-/// Asks each row, and stops where an answer is another one.
+/// Runs each row, and stops at the first unexpected answer.
 fn ask_all(rt: &impl Abort, alloc: Global, shard: &mut Shard, rows: &[Row]) -> Result<(), Fail> {
     for (place, row) in rows.iter().enumerate() {
         let wanted = answers(alloc, shard, *row)?;
@@ -43,7 +43,7 @@ fn ask_all(rt: &impl Abort, alloc: Global, shard: &mut Shard, rows: &[Row]) -> R
     Ok(())
 }
 
-/// Asks each row of a new shard, whose items may cost `budget` bytes.
+/// Runs each row on a new shard with this memory budget in bytes.
 fn ask_new<R: Abort + RandomSource>(
     rt: &R,
     alloc: Global,
@@ -92,7 +92,7 @@ static LAST_UNIQUE: [Row; 9] = [
         "non-numeric",
     ),
     (1000, "a", Ask::Get, "0 18446744073709551615 x"),
-    // A client's unique may still be given.
+    // A unique chosen by a client may be assigned again.
     (1000, "a", Ask::MsAs(3, "z"), "c3 s1 t99 0"),
     (1000, "a", Ask::MdAs(5, true), "done"),
     (1000, "a", Ask::Set("y"), "no cas"),
@@ -114,7 +114,7 @@ static FLUSH_LATER: [Row; 9] = [
     (1010, "a", Ask::Set("x"), "stored"),
     (1010, "a", Ask::Get, "0 3 x"),
     (1011, "a", Ask::Get, "0 3 x"),
-    // The latest flush replaces a pending one, an immediate one too.
+    // The latest flush replaces a pending one, even if it is immediate.
     (1020, "a", Ask::Flush(10), "done"),
     (1021, "a", Ask::Flush(0), "done"),
 ];
@@ -135,7 +135,8 @@ fn a_delayed_flush(rt: HostRuntime) -> Result<(), Fail> {
     ask_all(&rt, a, &mut shard, &FLUSH_AT_ONCE)
 }
 
-// One command flushes each shard by its own time: the same delay may be to come on one and past on the other.
+// A flush is applied at the time of each shard: with one delay it may be pending on one shard and
+// done on the other.
 static EARLY_SHARD: [Row; 14] = [
     (2_600_005, "a", Ask::Set("x"), "stored"),
     (2_600_005, "a", Ask::Flush(2_600_010), "done"),
@@ -179,7 +180,7 @@ fn two_shards_at_their_times(rt: HostRuntime) -> Result<(), Fail> {
     ask_all(&rt, a, &mut late, &LATE_SHARD)
 }
 
-// Two items of some 300 bytes fit a budget of 1,024, and three don't.
+// Two items of some 300 bytes fit a budget of 1,024; three don't.
 static LEAST_USED: [Row; 15] = [
     (1000, "a", Ask::Long(300), "stored"),
     (1000, "c", Ask::Long(301), "stored"),
@@ -187,14 +188,15 @@ static LEAST_USED: [Row; 15] = [
     (1000, "e", Ask::Long(302), "stored"),
     (1000, "c", Ask::Get, "miss"),
     (1000, "e", Ask::Get, "0 5 302 bytes"),
-    // A refused add makes its item the first, a refused cas or replace does not.
+    // A refused `add` makes its item the most recently used one; a refused `cas` or `replace`
+    // doesn't.
     (1000, "a", Ask::Put(StoreMode::Add, "y"), "not stored"),
     (1000, "e", Ask::Cas(99, "y"), "exists"),
     (1000, "c", Ask::Put(StoreMode::Replace, "y"), "not stored"),
     (1000, "g", Ask::Long(303), "stored"),
     (1000, "e", Ask::Get, "miss"),
     (1000, "a", Ask::Get, "0 1 300 bytes"),
-    // An item marked stale keeps its place.
+    // An item marked stale keeps its position.
     (1000, "g", Ask::Md(None, true), "done"),
     (1000, "e", Ask::Long(304), "stored"),
     (1000, "g", Ask::Mg(None, None, None), "miss"),
@@ -227,7 +229,7 @@ static COUNTED: [Row; 10] = [
     ),
     (1000, "c", Ask::Long(400), "stored"),
     (1000, "d", Ask::Long(400), "stored"),
-    // The item under a went, and stats itself was asked once.
+    // The item of `a` was evicted, and one `stats` was run.
     (
         1000,
         "a",
@@ -235,7 +237,7 @@ static COUNTED: [Row; 10] = [
         "get 1/1 set 3/0 touch 1/0 other 1/0 n2 b930 of 1024 e1",
     ),
     (1000, "a", Ask::ResetStats, "reset"),
-    // The reset is counted, in the counts that it begins.
+    // The reset itself is counted, in the new counters.
     (
         1000,
         "a",
@@ -255,11 +257,11 @@ static DEAD_ITEM: [Row; 2] = [
 ];
 
 static DEAD_ITEM_MET: [Row; 7] = [
-    // Under its own key it goes first.
+    // An expired item of the same key is dropped first.
     (1000, "c", Ask::LongFor(-1, 400), "stored"),
     (1000, "a", Ask::Get, "0 1 400 bytes"),
     (1000, "c", Ask::LongFor(5, 400), "stored"),
-    // Under another key it goes as the least recently used one alone.
+    // An expired item of another key is evicted only as the least recently used one.
     (2000, "a", Ask::Get, "0 1 400 bytes"),
     (2000, "e", Ask::Long(400), "stored"),
     (2000, "a", Ask::Get, "0 1 400 bytes"),
@@ -275,7 +277,7 @@ fn a_dead_item_takes_room(rt: HostRuntime) -> Result<(), Fail> {
     ask_all(&rt, a, &mut shard, &DEAD_ITEM_MET)
 }
 
-// The first two get a turn. The first is looked at while it lives, so its turn comes again.
+// The first two get a turn. The first one is fetched while it is alive, so it gets another turn.
 static TURNS: [Row; 2] = [
     (1000, "a", Ask::LongFor(5, 100), "stored"),
     (1000, "c", Ask::LongFor(2000, 100), "stored"),
@@ -297,7 +299,7 @@ fn a_dead_item_gives_its_room_back(rt: HostRuntime) -> Result<(), Fail> {
     Ok(())
 }
 
-// An item of 959 bytes under one byte of a key costs 1,024.
+// An item of 959 bytes with a key of one byte costs 1,024.
 static WHOLE_BUDGET: [Row; 8] = [
     (1000, "a", Ask::Long(300), "stored"),
     (1000, "c", Ask::Long(300), "stored"),
@@ -318,7 +320,7 @@ fn an_item_of_the_whole_budget(rt: HostRuntime) -> Result<(), Fail> {
     Ok(())
 }
 
-// Items that cost 365, 366 and 293 together: the budget.
+// Items that cost 365, 366 and 293: together the budget.
 static FULL: [Row; 3] = [
     (1000, "a", Ask::Long(300), "stored"),
     (1000, "c", Ask::Long(301), "stored"),
@@ -333,7 +335,7 @@ static GROWS_BY_ONE: [Row; 4] = [
 ];
 
 static COUNTS_TO_TEN: [Row; 7] = [
-    // 9 grows by one byte: the items cost the budget before.
+    // 9 becomes one byte longer; the items cost the whole budget before.
     (1000, "c", Ask::Put(StoreMode::Replace, "9"), "stored"),
     (1000, "e", Ask::Long(893), "stored"),
     (1000, "c", Ask::Count(Direction::Increment, 0), "9"),
@@ -540,7 +542,7 @@ fn the_largest_value(rt: HostRuntime) -> Result<(), Fail> {
     ask_new(&rt, rt.alloc(), 16_777_216, &LIMIT)
 }
 
-// A limit, two parts of a value of that length, and what a get shows of it.
+// A limit, the lengths of two parts of a value, and what a get returns.
 static LIMITS: [(usize, usize, usize, &str); 4] = [
     (1_024, 1_023, 1, "0 3 1024 bytes"),
     (1_025, 0, 1_025, "0 3 1025 bytes"),
@@ -548,7 +550,7 @@ static LIMITS: [(usize, usize, usize, &str); 4] = [
     (GREATEST_VALUE_LIMIT, 1, 8_388_607, "0 3 8388608 bytes"),
 ];
 
-/// The first of two shards, whose values have at most `limit` bytes.
+/// The first of two shards, with this value limit.
 fn limited_shard(rt: &HostRuntime, alloc: Global, limit: usize) -> Result<Shard, Fail> {
     let limit = limit.min(GREATEST_VALUE_LIMIT);
     let hasher = RandomState::new(rt)?;
@@ -680,7 +682,7 @@ fn recache_and_stale_marks(rt: HostRuntime) -> Result<(), Fail> {
     ask_new(&rt, rt.alloc(), 16_777_216, &MARKS)
 }
 
-/// The operations of the rows, each with its moment.
+/// The operations of the rows, with their times.
 fn list_of(alloc: Global, rows: &[Row]) -> Result<Vec<(Op, u64)>, WireFault> {
     let mut asked = Vec::with_capacity(alloc, rows.len())?;
     for (at, key, ask, _) in rows {
@@ -750,7 +752,7 @@ fn meta_arithmetic(rt: HostRuntime) -> Result<(), Fail> {
     ask_new(&rt, rt.alloc(), 16_777_216, &META_NUMBERS)
 }
 
-// Keys of the first of two shards that take memory: those of at most 38 bytes take none.
+// Keys of the first of two shards that need an allocation: those of at most 38 bytes don't.
 const KEY_A: &str = "a:key:of:39:bytes:lies:in:its:own:block";
 
 const KEY_C: &str = "c:key:of:39:bytes:lies:in:its:own:block";
@@ -759,8 +761,8 @@ const KEY_E: &str = "e:key:of:39:bytes:lies:in:its:own:block";
 
 const KEY_G: &str = "g:key:of:39:bytes:lies:in:its:own:block";
 
-// Rows for refused allocations, and whether the operation takes no memory once it was made: it deletes, touches,
-// marks stale, flushes, or stores under a key that is there.
+// Rows for refused allocations, and whether running the operation needs no memory, once it was
+// made: it deletes, touches, marks stale, flushes, or stores under an existing key.
 static SHORT: [(Row, bool); 18] = [
     ((1000, KEY_A, Ask::Set("x"), "stored"), false),
     ((1000, KEY_A, Ask::Get, "0 1 x"), false),
@@ -828,7 +830,7 @@ static SHORT: [(Row, bool); 18] = [
     ((1000, KEY_E, Ask::ResetStats, "reset"), true),
 ];
 
-/// Makes the operation, in a second try where no memory was left for the first.
+/// Makes the operation; tries again if memory was refused.
 fn op_in_the_end(alloc: Global, row: Row) -> Result<Op, WireFault> {
     match op_of(alloc, row.1, row.2) {
         Ok(op) => Ok(op),
@@ -836,7 +838,7 @@ fn op_in_the_end(alloc: Global, row: Row) -> Result<Op, WireFault> {
     }
 }
 
-/// Asks it, and once more where it was out of memory, as far as the operation takes any.
+/// Runs the operation, and once more if memory was refused and the operation may need some.
 fn answer_in_the_end(
     alloc: Global,
     shard: &mut Shard,
@@ -867,8 +869,9 @@ fn shard_in_the_end(rt: &HostRuntime, alloc: Global) -> Result<Shard, Fail> {
     }
 }
 
-/// A refused allocation changes nothing: the same operation, asked again, has the answer that it would have had, and
-/// so have all after it. Run with each allocation refused in turn, this one test alone shows it of each.
+/// A refused allocation changes nothing: if the operation is repeated, it and all later ones have
+/// the answers that they would have had. Run with each allocation refused in turn, this test shows
+/// it for each.
 #[test]
 fn memory_may_be_refused_once(rt: HostRuntime) -> Result<(), Fail> {
     let a = rt.alloc();

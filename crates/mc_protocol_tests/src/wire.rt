@@ -1,5 +1,5 @@
-//! What no clause says: values from outside, success where memory is ample, and outlets that take a
-//! byte at a time and fail in the middle of a text.
+//! Tests of what no contract states: values from outside, success with ample memory, and outlets
+//! that take one byte per write and fail within a text.
 ghost use Rattle.std.specs.Prelude.{◌<◌};
 ghost use Rattle.mc_wire.specs.Outlet.{Listed, sight_out};
 
@@ -12,7 +12,7 @@ use std::alloc::Global;
 use std::process::Abort;
 use std::test::Fail;
 
-/// Takes one byte a write, and fails after this number of writes.
+/// Takes one byte per write, and fails after this number of writes.
 #[derive(Drop)]
 struct Dripping {
     store: Vec<u8>,
@@ -81,20 +81,20 @@ fn numbers_end_where_64_bits_end(rt: HostRuntime) {
     }
 }
 
-/// The place of the key of this word, among this number of places.
+/// The number of the shard of this word's key, of this number of shards.
 fn place_of(alloc: Global, word: &[u8], places: usize) -> Result<usize, WireFault>
     requires { 0 < places }
 {
     Ok(Key::from_word(alloc, word)?.place(places))
 }
 
-/// Whether the keys of both words are the same.
+/// Whether the keys of both words are equal.
 fn are_alike(alloc: Global, one: &[u8], other: &[u8]) -> Result<bool, WireFault> {
     let one = Key::from_word(alloc, one)?;
     Ok(Key::from_word(alloc, other)? == one)
 }
 
-/// Whether the key of this word and a clone of it have its bytes, and are the same.
+/// Whether this word's key and its clone have the word's bytes, and are equal.
 fn keeps_its_bytes(alloc: Global, word: &[u8]) -> Result<bool, WireFault> {
     let key = Key::from_word(alloc, word)?;
     let clone = key.clone()?;
@@ -103,7 +103,8 @@ fn keeps_its_bytes(alloc: Global, word: &[u8]) -> Result<bool, WireFault> {
 
 static PLACES: [(&[u8], usize); 5] = [(b"a", 0), (b"b", 1), (b"c", 0), (b"d", 1), (b"e", 0)];
 
-/// The places are those of the published hashes E40C292C, E70C2DE5, E60C2C52, E10C2473 and E00C22E0.
+/// The numbers follow from the published hashes E40C292C, E70C2DE5, E60C2C52, E10C2473 and
+/// E00C22E0.
 #[test]
 fn keys_have_their_places(rt: HostRuntime) -> Result<(), Fail> {
     for (word, shard) in &PLACES {
@@ -125,7 +126,7 @@ static WORDS: [&[u8]; 5] = [
     b"0123456789012345678901234567890123456789",
 ];
 
-/// A key of at most 38 bytes lies in the `Key` itself, a longer one in a block of memory: nothing of that is seen.
+/// Keys of at most 38 bytes are stored inline, longer ones on the heap; they behave alike.
 #[test]
 fn keys_are_alike_wherever_they_lie(rt: HostRuntime) -> Result<(), Fail> {
     for word in &WORDS {
@@ -149,7 +150,7 @@ static VECTORS: [(&[u8], &[u8]); 7] = [
     (b"AAEg/w==", b"\x00\x01\x20\xff"),
 ];
 
-/// Asserts that the key of a word in base64 has such bytes, and is shown as it was read.
+/// Asserts that the key of a word in base64 has these bytes, and is encoded to the word again.
 fn is_base64(rt: &impl Abort, alloc: Global, word: &[u8], bytes: &[u8]) -> Result<(), Fail> {
     let key = Key::from_base64(alloc, word)?;
     equal(rt, (word, key.bytes()), (word, bytes));
@@ -158,7 +159,7 @@ fn is_base64(rt: &impl Abort, alloc: Global, word: &[u8], bytes: &[u8]) -> Resul
     Ok(())
 }
 
-/// The texts are those of RFC 4648, section 10.
+/// The texts are from RFC 4648, section 10.
 #[test]
 fn base64_keys_are_shown_as_they_were_read(rt: HostRuntime) -> Result<(), Fail> {
     for (word, bytes) in &VECTORS {
@@ -192,12 +193,12 @@ static FAULTS: [(&[u8], Option<WireFault>, WireFault); 7] = [
     ),
 ];
 
-/// The fault of what was read, if it has one.
+/// The error of a key, if there is one.
 fn fault_of(key: Result<Key, WireFault>) -> Option<WireFault> {
     key.err()
 }
 
-/// Also where an allocation is refused: such a word asks for none.
+/// Also if an allocation is refused: an invalid word needs none.
 #[test]
 fn faults_of_words_take_no_memory(rt: HostRuntime) {
     for (word, plain, base64) in &FAULTS {
@@ -211,7 +212,7 @@ fn faults_of_words_take_no_memory(rt: HostRuntime) {
     }
 }
 
-/// Whether a key was read, and is cloned.
+/// Whether a key was parsed and can be cloned.
 fn is_cloned(key: Result<Key, WireFault>) -> bool {
     match &key {
         Ok(key) => key.clone().is_ok(),
@@ -219,7 +220,7 @@ fn is_cloned(key: Result<Key, WireFault>) -> bool {
     }
 }
 
-/// Also where an allocation is refused: a key of at most 38 bytes asks for none.
+/// Also if an allocation is refused: a key of at most 38 bytes needs none.
 #[test]
 fn short_keys_take_no_memory(rt: HostRuntime) {
     holds(&rt, is_cloned(Key::from_word(rt.alloc(), &[b'k'; 38])));
@@ -239,7 +240,7 @@ fn is_long_key(rt: &impl Abort, key: Result<Key, WireFault>) {
     }
 }
 
-/// With an allocation refused the answer is `Memory`, and else the key.
+/// If an allocation is refused, the error is `Memory`; otherwise there is none.
 #[test]
 fn memory_is_the_only_other_fault(rt: HostRuntime) {
     is_long_key(&rt, Key::from_word(rt.alloc(), &LONG_KEY));

@@ -35,7 +35,7 @@ front_last rules (first ∷ entries) before input text after entry front goes_on
     let later = front_last rules entries (before + 1) front.1 text after entry (rw still.0 at front.4) still.1 spelled in
     (front.0, front.1, front.2, front.3, rw still.0 later)
 
--- What the same commands leave of one input is one rest.
+-- Equal commands at the front of one input leave equal rests.
 pub same_rest : (rules : Rules) (entries : List Command) (before : ℕ) (input rest rest' : List ℕ) → SpellsFront rules before input entries rest → SpellsFront rules before input entries rest' → rest ≡ rest'
 same_rest rules [] before input rest rest' front front' = sym front ∙ front'
 same_rest rules (entry ∷ entries) before input rest rest' front front' =
@@ -67,11 +67,11 @@ last_of rules (first ∷ entries) before input entry rest front = elim (cases_Bo
       record { text = later.text; front = (front.0, front.1, front.2, front.3, rw goes later.front); goes_on = rw goes later.goes_on; spelled = later.spelled }
 ]
 
--- where nothing is left that spells, or a last command was given
+-- the rest has no command, or a command closed the stream
 abbrev pub IsAll : Rules → ℕ → List Command → List ℕ → Type 0
 IsAll rules before entries rest = MatchBool (is_closed_after before entries) (Unit {0}) (SpellsNothing rules rest)
 
--- the commands of a beginning begin those of the whole, where these are all
+-- the commands of a prefix are a prefix of those of the whole input, if the latter are all of them
 pub begins : (rules : Rules) (entries others : List Command) (before : ℕ) (input more rest rest' : List ℕ) → SpellsFront rules before input entries rest → SpellsFront rules before (input ++ more) others rest' → IsAll rules before others rest' → Begins entries others
 begins rules [] others before input more rest rest' front front' all = (others, refl)
 begins rules (entry ∷ entries) [] before input more rest rest' front front' all =
@@ -89,15 +89,15 @@ begins rules (entry ∷ entries) (other ∷ others) before input more rest rest'
           (later.0, (λ i. same.entry i ∷ later.1 i))
     ]
 
--- The commands of a beginning begin those of the whole.
+-- The commands of a prefix are a prefix of those of the whole input.
 pub commands_begin : (rules : Rules) (input more : List ℕ) (entries others : List Command) → BeginCommands rules input entries → AreCommands rules (input ++ more) others → Begins entries others
 commands_begin rules input more entries others some all = begins rules entries others 0 input more some.0 all.0 some.1 all.1 all.2
 
--- What begins the commands of a beginning begins those of the whole.
+-- A prefix of the commands of a prefix of the input is a prefix of those of the whole input.
 pub begin_more : (rules : Rules) (input more : List ℕ) (entries : List Command) → BeginCommands rules input entries → BeginCommands rules (input ++ more) entries
 begin_more rules input more entries some = (some.0 ++ more, front_more rules entries 0 input some.0 more some.1)
 
--- All commands of an input begin its commands.
+-- All commands of an input are a prefix of its commands.
 pub all_begin : (rules : Rules) (input : List ℕ) (entries : List Command) → AreCommands rules input entries → BeginCommands rules input entries
 all_begin rules input entries all = (all.0, all.1)
 
@@ -118,7 +118,7 @@ one_list rules input entries others all all' =
 pub closed_more : (rules : Rules) (input more : List ℕ) (entries : List Command) → AreCommands rules input entries → is_closed entries ≡ true → AreCommands rules (input ++ more) entries
 closed_more rules input more entries all closed = (all.0 ++ more, front_more rules entries 0 input all.0 more all.1, rw closed tt)
 
--- whether a line feed stands in some bytes, and where the first does
+-- whether some bytes contain a line feed, and where the first one is
 data FirstEnd (bytes : List ℕ) : Type 0 where
   ended : (line rest : List ℕ) → bytes ≡ line ++ 10 ∷ rest → HasNoEnd line → FirstEnd bytes
   endless : HasNoEnd bytes → FirstEnd bytes
@@ -145,7 +145,7 @@ too_long rules bytes line rest is none full = (
   Spells.long (omega (arith, length-take rules.line_limit line)) (no_end_take rules.line_limit line none) refl,
 )
 
--- Some beginning of an input spells something, or none does.
+-- Either a prefix of the input denotes a command, or none does.
 first_spelled : (rules : Rules) (input : List ℕ) → SpellsSomething rules input ⊎ SpellsNothing rules input
 first_spelled rules input = elim (first_end input) [
   | ended line tail is none ↦ elim (cases_lt (length line) rules.line_limit) [
@@ -161,7 +161,7 @@ first_spelled rules input = elim (first_end input) [
   ]
 ]
 
--- a text that spells and closes nothing has a byte at least
+-- the text of a command that closes nothing has at least one byte
 some_byte : (rules : Rules) (text : List ℕ) (entry : Command) → Reads rules text entry → closes entry ≡ false → 0 < length text
 some_byte rules text entry (Reads.lined line tail is) goes = omega (arith, ap length is.text_is, length-append line (10 ∷ tail))
 some_byte rules text entry (Reads.endless full none e) goes = absurd (false≢true (sym goes ∙ ap closes e))
@@ -188,6 +188,6 @@ some_commands rules (suc fuel) before input few = elim (first_spelled rules inpu
   ]
 ]
 
--- Every input has its commands: all that it spells, up to the first after which nothing is read.
+-- Every input has its commands, up to the first that closes the stream.
 pub every_input : (rules : Rules) (input : List ℕ) → (entries : List Command) × AreCommands rules input entries
 every_input rules input = let some = some_commands rules (length input) 0 input (omega arith) in (some.0, (some.1, some.2, some.3))

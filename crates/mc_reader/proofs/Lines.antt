@@ -68,6 +68,6 @@ at_line_of bytes long line rest is none long_is =
 pub at_line : (bytes : List ℕ) (long : ℕ) → IsFirstLine bytes long → AtLine bytes long
 at_line bytes long first = at_line_of bytes long first.line first.rest first.bytes_are first.no_end first.long_is
 
--- A first line that ends is shorter than the bytes that it stands in.
+-- A first line that ends is shorter than the bytes that contain it.
 pub line_in : (bytes : List ℕ) (long : ℕ) → IsFirstLine bytes long → long < length bytes
 line_in bytes long first = let e = first.long_is in omega (arith, ap length first.bytes_are, length-append first.line (10 ∷ first.rest))

@@ -62,7 +62,7 @@ skip_fed rules discarded refusal left after others unread piece n m part n_is af
       behind = λ more. none_left n m others piece (omega arith) (part.behind (omega arith));
     }
 
--- A block begins with what the buffer has of it.
+-- A new block has the bytes that the buffer has of it.
 pub block_begun : (rules : Rules) (line : List ℕ) (asked : Command) (count : ℕ) (others : List ℕ) (n : ℕ) → HasNoEnd line → length line < rules.line_limit → line_says rules line ≡ Data asked count → n ≡ min (count + 2 - 0) (length others) → IsInBlock rules asked count (take n others) (drop n others) (line ++ 10 ∷ others)
 block_begun rules line asked count others n none short says n_is = record {
   line = line;
@@ -73,7 +73,7 @@ block_begun rules line asked count others n none short says n_is = record {
   behind = λ few. drop_all n others (omega (arith, length-take n others));
 }
 
--- Skipping begins with what the buffer has of it.
+-- A new skip has skipped the bytes that the buffer has of it.
 pub skip_begun : (rules : Rules) (line : List ℕ) (discarded : Option (List ℕ)) (refusal : Refusal) (left after : ℕ) (others : List ℕ) (n : ℕ) → HasNoEnd line → length line < rules.line_limit → Says (line_says rules line) (Skip discarded refusal left) → n ≡ min left (length others) → after + n ≡ left → IsInSkip rules discarded refusal after (drop n others) (line ++ 10 ∷ others)
 skip_begun rules line discarded refusal left after others n none short says n_is after_is =
     let long : length (take n others) + after ≡ left = omega (arith, length-take n others) in
@@ -87,7 +87,7 @@ skip_begun rules line discarded refusal left after others n none short says n_is
       behind = λ more. drop_all n others (omega arith);
     }
 
--- a text that begins with a line spells what the line says
+-- a text that starts with a line denotes what the line denotes
 pub lined : (rules : Rules) (line tail : List ℕ) (entry : Command) → HasNoEnd line → length line < rules.line_limit → length tail ≡ bytes_behind (line_says rules line) → entry ≡ entry_after rules (line_says rules line) tail → Spells rules (line ++ 10 ∷ tail) entry
 lined rules line tail entry none short long is = spells rules (line ++ 10 ∷ tail) entry (Reads.lined line tail (record { text_is = refl; no_end = none; short = short; tail_long = long; entry_is = is }))
 

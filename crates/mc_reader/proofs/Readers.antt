@@ -102,7 +102,8 @@ held_line rules reader fed ended given rest h goes_on front none =
     let unended : HasNoEnd at.0 = subst (λ bytes. HasNoEnd bytes) same none in
     rw same (line_held rules reader.state reader.buffer.bytes at.0 at.2 unended)
 
--- The commands that a reader gave begin those of the bytes fed, each given up only where it may be.
+-- The commands that a reader returned are a prefix of those of its input, each refused for want of memory
+-- only if its rules allow it.
 pub reader_begins : (reader : Reader) (rules : Rules) (fed : List ℕ) (ended : Bool) (given : List Given) → IsReader reader rules fed ended given → BeginCommands rules fed (entries_of given) × AllByRecursion MayBeGiven given
 unfolding IsReader
 reader_begins reader rules fed ended given h = ((h.unread, h.front), h.may)
@@ -264,7 +265,7 @@ all_given_is rules reader fed ended given test says shut h = (forth, back) where
     | inr fails ↦ fails
   ]
 
--- Amid a line's skipped bytes no block is open.
+-- While the bytes behind a line are skipped, there is no incomplete block.
 no_block : (rules : Rules) (at : State) (buffer unread line skipped : List ℕ) (discarded : Option (List ℕ)) (refusal : Refusal) (count : ℕ) → Holds rules at buffer unread → unread ≡ line ++ 10 ∷ skipped → HasNoEnd line → line_says rules line ≡ Skip discarded refusal count → held_in at ≡ 0
 no_block rules (state.Block block) buffer unread line skipped discarded refusal count h is none says =
     let lines = one_line h.line line (block.bytes.items ++ buffer) skipped h.no_end none (sym h.unread_are ∙ is) in
@@ -272,7 +273,7 @@ no_block rules (state.Block block) buffer unread line skipped discarded refusal 
     absurd cc
 no_block rules at buffer unread line skipped discarded refusal count h is none says = refl
 
--- A reader amid bytes that it skips behind a line holds no bytes of a block.
+-- A reader that skips bytes behind a line holds no bytes of a block.
 pub nothing_in_blocks : (rules : Rules) (reader : Reader) (fed : List ℕ) (ended : Bool) (given : List Given) → HasGiven reader rules fed ended given → IsAmidSkipped rules fed given → held_in reader.state ≡ 0
 nothing_in_blocks rules reader fed ended given h amid =
     let at = still_open rules reader fed ended given h amid.goes_on in

@@ -1,4 +1,4 @@
--- Worked texts with what they spell, and worked streams with their commands.
+-- Worked texts with their commands, and worked streams.
 use Rattle.std.proofs.Common.{◌≡◌, ℕ, ◌<◌, Bool, false, ◌||◌, List, [], ◌∷◌, ◌++◌, length, ◌==◌, refl, codes, pos, lit<, None}
 use Rattle.std.proofs.lemmas.Bool.{or_parts}
 use Rattle.std.specs.Int.{int_wrap}
@@ -50,8 +50,8 @@ blank : Spells (own DEFAULT_VALUE_LIMIT) (codes "\r\n") (command.Refused Unknown
 unfolding line_of words_of name_of
 blank = spelled (codes "\r") [] (command.Refused Unknown) refl (lit< tt) refl refl
 
--- Storage lines: a block is as long as its line says, whatever stands in it or behind it; a refused line whose
--- count can be read takes its block along, without a look at its end, and another doesn't.
+-- Storage lines: a block is as long as its line announces, whatever its bytes are. A refused line whose
+-- length can be read includes its block, whatever ends it; another one doesn't.
 blocks :
     Spells (own DEFAULT_VALUE_LIMIT) (codes "set a 5 0 3\r\nabc\r\n") (stored (codes "a") 5 (codes "abc"))
     × Spells (own DEFAULT_VALUE_LIMIT) (codes "set b 0 0 0\r\n\r\n") (stored (codes "b") 0 [])

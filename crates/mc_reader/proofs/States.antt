@@ -41,17 +41,17 @@ pub finished_line : (rules : Rules) (s : State) (buffer after unread : List ℕ)
 finished_line rules (state.Line None) buffer after unread long e full opened h none = rw (none, h.0) (whole_long rules buffer h.2 full)
 finished_line rules s buffer after unread long e full opened h none = absurd cc
 
--- Once all bytes of an open block have come, its line and the block spell a command, and the buffer comes behind.
+-- If a block is complete, its line and the block are the text of a command, and the buffer follows.
 pub finished_block : (rules : Rules) (s : State) (buffer unread : List ℕ) (block : OpenBlock) (entry : Command) → s ≡ state.Block block → Completes rules.line_limit s buffer → vec_len block.bytes ≤ block.count + 2 → entry ≡ block_entry rules block.command block.count block.bytes.items → Holds rules s buffer unread → IsWhole rules entry buffer unread
 finished_block rules s buffer unread block entry e full within entry_is h =
     let come : block.count + 2 ≤ length block.bytes.items = rw e at full in
     rw entry_is (whole_block rules block.command block.count block.bytes.items buffer unread (rw e at h) (omega arith))
 
--- what a test that answers no says
+-- the consequence of a test that is false
 pub not_complete : {P : Type 0} (test : Bool) → test ≡ false → (P → IsTrue test) → P → ⊥
 not_complete test e f p = let yes = f p in absurd cc
 
--- Once all bytes that are skipped have come, the line spells its refusal with them, and the buffer comes behind.
+-- If all bytes to skip have come, the line with them is the text of its refusal, and the buffer follows.
 pub finished_skip : (rules : Rules) (s : State) (buffer unread : List ℕ) (skipped : Skipped) (entry : Command) → s ≡ state.Skip skipped → Completes rules.line_limit s buffer → Holds rules s buffer unread → entry ≡ skip_entry skipped.discarded skipped.refusal → IsWhole rules entry buffer unread
 finished_skip rules s buffer unread skipped entry e full h entry_is =
     let none : skipped.left ≡ 0 = rw e at full in
@@ -106,7 +106,8 @@ read_head rules P s buffer after unread long e after_is holds h =
     let first = first_line rules s buffer after unread long e after_is h in
     subst P (sym first.unread_are) (holds first.no_end first.short)
 
--- Skipping begins with what the buffer has behind the line, as much of it as is to be skipped, and the rest stays.
+-- A new skip has skipped the bytes behind the line that are in the buffer, as far as they are to be skipped;
+-- the rest stays.
 pub begun_skip : (rules : Rules) (new : Skipped) (discarded : Option (List ℕ)) (refusal : Refusal) (left : ℕ) (buffer after bytes line : List ℕ) (n : ℕ) → new.refusal ≡ refusal → new.discarded ≡ discarded → new.left + n ≡ left → n ≡ min left (length bytes) → bytes ≡ buffer → after ≡ drop n buffer →
     HasNoEnd line → length line < rules.line_limit → Says (line_says rules line) (Skip discarded refusal left) → IsInSkip rules new.discarded new.refusal new.left after (line ++ 10 ∷ buffer)
 begun_skip rules new discarded refusal left buffer after bytes line n same gone left_is n_is bytes_are after_is none short says =
@@ -127,7 +128,7 @@ something_awaited rules (state.Skip skipped) buffer unread full opened h =
     shows rules (whole_skip rules skipped.discarded skipped.refusal buffer unread (rw full at part)) refl
 something_awaited rules state.Closed buffer unread full opened h = absurd h
 
--- A test whether all has come tells whether something is spelled.
+-- A test for completeness decides whether the text of a command is there.
 pub whole_awaited : (rules : Rules) (s : State) (buffer unread : List ℕ) (test : Bool) → (IsTrue test ↔ Completes rules.line_limit s buffer) → IsTrue (is_opened s) → Holds rules s buffer unread → IsTrue test ↔ SpellsSomething rules unread
 whole_awaited rules s buffer unread test is opened h = (
   λ come. something_awaited rules s buffer unread (is.0 come) opened h,
@@ -135,7 +136,7 @@ whole_awaited rules s buffer unread test is opened h = (
       something rules some.0 some.1 some.2 some.4 (rw some.3 at (nothing_awaited rules s buffer unread (not_complete test none is.1) opened h).0)),
 )
 
--- The line that was found spells something where the bytes that belong to it have come.
+-- The line that was found is the text of a command if the bytes that belong to it have come.
 pub whole_found : (rules : Rules) (s : State) (buffer unread behind : List ℕ) (long n : ℕ) → s ≡ state.Line (Some long) → behind ≡ drop long buffer → n ≡ bytes_behind (line_says rules (take long buffer)) → Holds rules s buffer unread → IsTrue (nat_lt n (length behind)) ↔ SpellsSomething rules unread
 whole_found rules s buffer unread behind long n e behind_is n_is h = (forth, back (nat_lt n (length behind)) refl) where
   tail : List ℕ

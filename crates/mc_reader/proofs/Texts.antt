@@ -1,4 +1,4 @@
--- A text that spells an entry, seen by its first line: what follows from which texts spell what.
+-- The text of a command, by its first line: consequences of which texts denote which commands.
 use Rattle.std.proofs.Common.{◌≡◌, ℕ, ◌<◌, ◌≤◌, Bool, true, false, List, [], ◌∷◌, ◌++◌, length, take, drop, refl, sym, ap, ap₂, ◌∙◌, arith, append_assoc, length-append, length-take, append-nil, cond}
 use Rattle.std.proofs.lemmas.List.{nil_from_length, take-append-drop}
 use Rattle.std.proofs.Math.Seq.{drop-append_seam, take-append_seam}
@@ -25,7 +25,7 @@ one_line (a ∷ ls) (b ∷ bs) x y p q e =
     let rest = one_line ls bs x y p.1 q.1 tail in
     (λ i. head i ∷ rest.0 i, rest.1)
 
--- a beginning without an end of a line is no longer than the first line
+-- a prefix without a line end is no longer than the first line
 pub end_inside : (a x line rest : List ℕ) → HasNoEnd a → a ++ x ≡ line ++ 10 ∷ rest → length line < length a → ⊥
 end_inside [] x line rest p e below = omega arith
 end_inside (b ∷ bs) x [] rest p e below = let same : b ≡ 10 = cc in let apart = rw same at p.0 in absurd cc
@@ -38,7 +38,7 @@ same_front a b x y long e = (
   sym (drop-append_seam a x) ∙ (ap₂ drop long e ∙ drop-append_seam b y),
 )
 
--- what a line spells with the bytes that belong to it
+-- the command of a line with the bytes that belong to it
 abbrev pub entry_after : Rules → Line → List ℕ → Command
 entry_after rules (Whole entry) tail = entry
 entry_after rules (Refused refusal) tail = command.Refused refusal
@@ -53,7 +53,7 @@ pub record IsLined (rules : Rules) (text : List ℕ) (entry : Command) (line tai
   pub tail_long : length tail ≡ bytes_behind (line_says rules line)
   pub entry_is : entry ≡ entry_after rules (line_says rules line) tail
 
--- a text that spells, by its first line
+-- the text of a command, by its first line
 pub data Reads (rules : Rules) (text : List ℕ) (entry : Command) : Type 0 where
   lined : (line tail : List ℕ) → IsLined rules text entry line tail → Reads rules text entry
   endless : length text ≡ rules.line_limit → HasNoEnd text → entry ≡ command.Refused LineTooLong → Reads rules text entry
@@ -64,7 +64,8 @@ line_short rules text line is = let s = is.short in omega (arith, ap length is.t
 with_tail : (rules : Rules) (head line tail text : List ℕ) → IsLine rules head line → text ≡ head ++ tail → text ≡ line ++ 10 ∷ tail
 with_tail rules head line tail text is e = e ∙ (ap (λ xs. xs ++ tail) is.text_is ∙ append_assoc line (10 ∷ []) tail)
 
--- A text that spells something is a line with what belongs to it, or one that reaches the limit without an end.
+-- The text of a command is a line with the bytes that belong to it, or one that reaches the limit without an
+-- end.
 pub reads : (rules : Rules) (text : List ℕ) (entry : Command) → Spells rules text entry → Reads rules text entry
 reads rules text entry (Spells.line line is says) =
     lined line [] (record { text_is = is.text_is; no_end = is.no_end; short = line_short rules text line is; tail_long = rw says refl; entry_is = rw says refl })
@@ -99,7 +100,7 @@ reads rules text entry (Spells.long full none e) = endless full none e
 is_line : (rules : Rules) (line : List ℕ) → HasNoEnd line → length line < rules.line_limit → IsLine rules (line ++ 10 ∷ []) line
 is_line rules line none short = record { text_is = refl; no_end = none; short = omega (arith, length-append line (10 ∷ [])) }
 
--- a line with its bytes spells what it says
+-- a line with its bytes is the text of its command
 spells_lined : (rules : Rules) (said : Line) (text line tail : List ℕ) (entry : Command) → line_says rules line ≡ said → text ≡ line ++ 10 ∷ tail → HasNoEnd line → length line < rules.line_limit → length tail ≡ bytes_behind said → entry ≡ entry_after rules said tail → Spells rules text entry
 spells_lined rules (Whole given) text line tail entry says text_is none short long e =
     let bare : text ≡ line ++ 10 ∷ [] = rw (nil_from_length tail long) at text_is in
@@ -126,12 +127,13 @@ spells_lined rules (Data asked count) text line tail entry says text_is none sho
   by_end true t given = Spells.block (line ++ 10 ∷ []) line (take count tail) asked (is_line rules line none short) (whole (13 ∷ 10 ∷ []) (same_text (drop count tail) (13 ∷ 10 ∷ []) (sym t))) (rw counted says) given
   by_end false t given = Spells.bad_block (line ++ 10 ∷ []) line (take count tail) (drop count tail) asked (is_line rules line none short) (whole (drop count tail) refl) two t (rw counted says) given
 
--- A line with what belongs to it spells what it says, and one that reaches the limit without an end its refusal.
+-- A line with the bytes that belong to it is the text of its command, and one that reaches the limit without
+-- an end that of its refusal.
 pub spells : (rules : Rules) (text : List ℕ) (entry : Command) → Reads rules text entry → Spells rules text entry
 spells rules text entry (lined line tail is) = spells_lined rules (line_says rules line) text line tail entry refl is.text_is is.no_end is.short is.tail_long is.entry_is
 spells rules text entry (endless full none e) = Spells.long full none e
 
--- where a line's bytes have all come, it spells with them
+-- if all bytes of a line have come, it is the text of a command with them
 pub spelled_behind : (rules : Rules) (line tail input : List ℕ) → input ≡ line ++ 10 ∷ tail → HasNoEnd line → length line < rules.line_limit → bytes_behind (line_says rules line) ≤ length tail → SpellsSomething rules input
 spelled_behind rules line tail input is none short enough =
     let n = bytes_behind (line_says rules line) in
@@ -143,7 +145,7 @@ spelled_behind rules line tail input is none short enough =
       spells_lined rules (line_says rules line) (line ++ 10 ∷ take n tail) line (take n tail) (entry_after rules (line_says rules line) (take n tail)) refl refl none short long refl,
     )
 
--- two texts that spell at the front of one input
+-- two texts of commands at the front of one input
 pub record AreSame (a b : List ℕ) (x y : List ℕ) (e f : Command) : Type 0 where
   pub text : a ≡ b
   pub entry : e ≡ f
@@ -170,7 +172,7 @@ same_reads rules a b x y e f (endless full none given) (endless full' none' give
     let parts = same_front a b x y (full ∙ sym full') same in
     record { text = parts.0; entry = given ∙ sym given'; rest = parts.1 }
 
--- No text that spells begins another, and what it spells is one thing.
+-- No text of a command is a proper prefix of another one, and a text denotes one command.
 pub same_spelled : (rules : Rules) (a b x y : List ℕ) (e f : Command) → Spells rules a e → Spells rules b f → a ++ x ≡ b ++ y → AreSame a b x y e f
 same_spelled rules a b x y e f s t same = same_reads rules a b x y e f (reads rules a e s) (reads rules b f t) same
 
@@ -212,7 +214,7 @@ nothing_without_end rules input none short count entry below spelled = go (reads
       end_inside input [] line (tail ++ rest) none (append-nil input ∙ sym e) (omega (arith, ap length e, length-append line (10 ∷ (tail ++ rest))))
   go (endless full none' e) = omega (arith, length-take count input)
 
--- a beginning that spells is no nothing
+-- a prefix that denotes a command excludes that none does
 pub something : (rules : Rules) (text after : List ℕ) (entry : Command) → Spells rules text entry → SpellsNothing rules (text ++ after) → ⊥
 something rules text after entry spelled nothing =
     nothing (length text) entry (omega (arith, length-append text after)) (rw (take-append_seam text after) spelled)

@@ -1,4 +1,4 @@
-//! The bytes of a stream that were fed and are not read yet.
+//! The input buffer of a reader.
 ghost use Rattle.std.specs.Prelude.{◌≡◌, ◌+◌, ◌-◌, ◌≤◌, ◌<◌, ◌++◌, ◌↔◌, [], IfOk, IsTrue, length, take, drop, min};
 
 use crate::room::{append, remove_front};
@@ -6,18 +6,19 @@ use mc_wire::DEFAULT_LINE_LIMIT;
 use std::alloc::{AllocError, Global};
 use std::marker::Model;
 
-/// Room for the longest line. A contract sees the bytes that are not read yet, and how many there may be.
+/// An input buffer for the longest line. Contracts see the unread bytes and the limit.
 ///
-/// The room is taken whole at once, so that taking bytes never fails for want of memory. The system gives memory only
-/// for what is written there. Of that no more than the default limit is kept once the buffer is empty.
+/// The capacity is reserved at once, so that buffering never fails for want of memory; the system
+/// provides pages only when they are written. An empty buffer keeps no more than the default line
+/// limit.
 #[derive(Drop)]
 pub(crate) struct Buffer {
     bytes: Vec<u8>,
-    /// Where the first byte that is not read stands.
+    /// Index of the first unread byte.
     start: usize,
-    /// How many bytes there may be.
+    /// Maximum number of unread bytes.
     limit: usize,
-    /// Whether the bytes reached beyond what is kept, before they were moved to the front.
+    /// Whether bytes were written beyond what an empty buffer keeps.
     reached_far: bool,
     alloc: Global,
 }
@@ -38,7 +39,7 @@ impl Model for Buffer {
 }
 
 impl Buffer {
-    /// An empty buffer for `limit` bytes, with all its room.
+    /// An empty buffer for `limit` bytes. Reserves all its memory.
     pub(crate) fn new(alloc: Global, limit: usize) -> Result<Buffer, AllocError>
         ensures { IfOk result (λ buffer. (buffer.bytes ≡ []) × (buffer.limit ≡ limit)) }
     {
@@ -51,7 +52,7 @@ impl Buffer {
         })
     }
 
-    /// The bytes that are not read yet.
+    /// The unread bytes.
     pub(crate) fn unread(&self) -> &[u8]
         ensures bytes { result.now ≡ self.now.bytes }
         ensures fits { length result.now ≤ self.now.limit }
@@ -59,14 +60,14 @@ impl Buffer {
         self.bytes.as_slice().split_at(self.start).1
     }
 
-    /// Whether there are as many bytes as there may be.
+    /// Whether the buffer is full.
     pub(crate) fn is_full(&self) -> bool
         ensures { IsTrue result ↔ (length self.now.bytes ≡ self.now.limit) }
     {
         self.unread().len() == self.limit
     }
 
-    /// Takes the first `count` bytes away. Where none is left, all room is free again.
+    /// Consumes the first `count` bytes. If none is left, the whole buffer is free again.
     pub(crate) fn consume(&mut self, count: usize)
         requires { count ≤ length self.old.bytes }
         ensures bytes { self.new.bytes ≡ drop count self.old.bytes }
@@ -78,7 +79,7 @@ impl Buffer {
         }
     }
 
-    /// Takes all bytes away. Where they reached beyond what is kept, the room is renewed.
+    /// Drops all bytes. If they reached beyond what is kept, the buffer is reallocated.
     pub(crate) fn clear(&mut self)
         ensures bytes { self.new.bytes ≡ [] }
         ensures limit { self.new.limit ≡ self.old.limit }
@@ -90,8 +91,8 @@ impl Buffer {
         self.start = 0;
     }
 
-    /// Takes new room, to which nothing was written, in place of this one. Where there is no memory for it, this one
-    /// stays.
+    /// Replaces the memory by a fresh allocation, whose pages are untouched. If it is refused, the
+    /// old one is kept.
     #[inline(never)]
     fn renew(&mut self)
         ensures bytes { self.new.bytes ≡ [] }
@@ -105,8 +106,8 @@ impl Buffer {
         }
     }
 
-    /// Takes as much of the piece as there is room for behind the bytes, and tells how much that is. No byte
-    /// is moved.
+    /// Appends as much of the piece as fits behind the bytes without moving any, and returns the
+    /// number of bytes.
     pub(crate) fn push(&mut self, piece: &[u8]) -> usize
         ensures within { result ≤ length piece.now }
         ensures bytes { self.new.bytes ≡ self.old.bytes ++ take result piece.now }
@@ -116,8 +117,8 @@ impl Buffer {
         append(&mut self.bytes, self.limit, piece)
     }
 
-    /// Takes as much of the piece as there is room for, and tells how much that is. The bytes are moved to
-    /// the front where that makes room.
+    /// Appends as much of the piece as fits, and returns the number of bytes. Moves the unread
+    /// bytes to the front if that makes space.
     pub(crate) fn push_all(&mut self, piece: &[u8]) -> usize
         ensures count { result ≡ min (self.old.limit - length self.old.bytes) (length piece.now) }
         ensures bytes { self.new.bytes ≡ self.old.bytes ++ take result piece.now }

@@ -1,4 +1,4 @@
-//! Laws of what texts spell and of the commands of a stream, over every input and all rules.
+//! Laws of the parsed commands of a byte stream, for every input and all rules.
 ghost use Rattle.std.specs.Prelude.{◌≡◌, ◌++◌, ℕ, List, [], IsTrue};
 ghost use Rattle.std.specs.List.{AllByRecursion};
 ghost use Rattle.mc_command.specs.declared.command.Command.{Command};
@@ -7,21 +7,21 @@ ghost use Rattle.mc_reader.specs.Reader.{IfReader};
 ghost use Rattle.mc_reader.specs.Spelling.{AreCommands, BeginCommands, Begins, MayBeGiven, Spells, entries_of, is_closed};
 ghost use Rattle.mc_reader.specs.declared.reader.Reader.{Reader};
 
-/// No text that spells begins another, and what a text spells is one thing.
+/// No text of a command is a proper prefix of another one, and a text denotes one command.
 pub fn no_text_begins_another()
     ensures { (rules : Rules) (text more : List ℕ) (entry other : Command) →
         Spells rules text entry → Spells rules (text ++ more) other →
         (more ≡ []) × (entry ≡ other) }
 {}
 
-/// The commands of an input are one list.
+/// The commands of an input are unique.
 pub fn one_list_of_commands()
     ensures { (rules : Rules) (input : List ℕ) (entries others : List Command) →
         AreCommands rules input entries → AreCommands rules input others → entries ≡ others }
 {}
 
-/// The commands of the bytes so far begin those of all bytes, and are those of all bytes where they are
-/// closed.
+/// The commands of a prefix of the input are a prefix of the commands of the whole input, and equal
+/// to them if they end with one that closes the stream.
 pub fn commands_only_grow()
     ensures kept { (rules : Rules) (input more : List ℕ) (entries : List Command) →
         BeginCommands rules input entries → BeginCommands rules (input ++ more) entries }
@@ -39,8 +39,8 @@ pub fn every_input_has_commands()
         (entries : List Command) × AreCommands rules input entries }
 {}
 
-/// The commands that a reader gave begin those of the bytes that it was fed, and each was given up only
-/// where it may be.
+/// The commands returned by a reader are a prefix of those of its input. A command is given up only
+/// if its rules allow it.
 pub fn readers_give_commands()
     ensures begin { (reader : Reader) → IfReader reader (λ rules fed ended given.
         BeginCommands rules fed (entries_of given)) }

@@ -1,9 +1,9 @@
-//! Bytes that are put into room that was taken before.
+//! Appending to buffers of a fixed capacity.
 ghost use Rattle.std.specs.Prelude.{◌≡◌, ◌+◌, ◌-◌, ◌≤◌, ◌++◌, length, take, drop, min};
 ghost use Rattle.std.specs.Vec.{vec_len, vec_capacity};
 
-/// Puts as much of the piece behind the bytes as they may have in all, and tells how much that is. It takes no
-/// memory.
+/// Appends bytes of the piece up to `limit` bytes in all, and returns their number. Allocates
+/// nothing.
 pub(crate) fn append(bytes: &mut Vec<u8>, limit: usize, piece: &[u8]) -> usize
     requires within { vec_len bytes.old ≤ limit }
     requires room { limit ≤ vec_capacity bytes.old }
@@ -18,7 +18,7 @@ pub(crate) fn append(bytes: &mut Vec<u8>, limit: usize, piece: &[u8]) -> usize
     count
 }
 
-/// Takes the first bytes away and moves the others to the front.
+/// Removes the first `count` bytes and moves the rest to the front.
 pub(crate) fn remove_front(bytes: &mut Vec<u8>, count: usize)
     requires { count ≤ vec_len bytes.old }
     ensures items { bytes.new.items ≡ drop count bytes.old.items }

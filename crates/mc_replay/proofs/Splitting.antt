@@ -26,7 +26,7 @@ parts_at separator text at h = elim (cases_lt (position_or_len (λ byte. byte ==
       absurd cc
 ]
 
--- A text in which the separator does not stand has one part, the whole of it.
+-- A text without the separator has one part, all of it.
 pub parts_nowhere : (separator : ℕ) (text : List ℕ) → None ≡ position (λ byte. byte == separator) text → parts_of separator text ≡ text ∷ []
 unfolding parts_of
 parts_nowhere separator text h = elim (cases_lt (position_or_len (λ byte. byte == separator) text) (length text)) [

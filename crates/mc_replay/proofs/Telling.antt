@@ -18,7 +18,7 @@ use Rattle.mc_replay.specs.Report.{connection_line, counts_line}
 use Rattle.mc_replay.specs.Replay.{IsReport, connection_lines, log_line, report}
 use Rattle.mc_replay.specs.Report.{entry_line}
 
--- the lines from a connection on begin with its own
+-- the lines from a connection on start with its own
 pub connection_lines-at : (sizes : Sizes) (w : World) (number : ℕ) (link : Link) → IsLink w number link
     → connection_lines sizes w number (drop number w.links) ≡ connection_line number link.seat (handed_bytes sizes w number link) ++ connection_lines sizes w (number + 1) (drop (number + 1) w.links)
 connection_lines-at sizes w number link here =
@@ -32,7 +32,7 @@ pub connection_lines_more : (sizes : Sizes) (w : World) (number : ℕ) (link : L
 connection_lines_more sizes w number link text whole here lacks =
     append_assoc text _ _ ∙ (ap (λ lines. text ++ lines) (sym (connection_lines-at sizes w number link here)) ∙ lacks)
 
--- as many connections as seats, and their seats the same
+-- as many connections as seats, and each on its seat
 pub same_lengths : {A : Type 0} (f : A → ℕ) (xs : List A) (links : List Link) → map f xs ≡ map (λ link. link.seat) links → length xs ≡ length links
 same_lengths f [] [] same = refl
 same_lengths f [] (link ∷ links) same = absurd cc
@@ -76,7 +76,7 @@ report_is sizes w done idle log begin first second third none one two three same
     let entries : flat_map entry_line log ≡ flat_map log_line w.log = ap (flat_map entry_line) same ∙ flat_map-map entry_line line_of w.log in
     three ∙ (ap (λ text. text ++ counts_line done idle) (two ∙ (ap (λ text. text ++ flat_map entry_line log) start ∙ ap (λ lines. connection_lines sizes w 0 w.links ++ lines) entries)) ∙ append_assoc (connection_lines sizes w 0 w.links) (flat_map log_line w.log) (counts_line done idle))
 
--- what is told of a run
+-- the report of a run
 abbrev pub IsTold : Sizes → List Event → List ℕ → ℕ → ℕ → Type 0
 IsTold sizes events text done idle =
     (w : World) × (led : Schedule sizes events w) × FoundMemory sizes empty_world events w led × (done ≡ done_in sizes empty_world events w led) × (text ≡ report sizes w done idle)
@@ -86,7 +86,7 @@ is_report sizes events text done idle rest told =
     let most = done_in-le sizes empty_world events told.0 told.1 in
     record { w = told.0; led = told.1; memory = told.2; done = done; idle = idle; done_is = told.3; all = omega (arith, most, told.3, rest); text_is = told.4 }
 
--- the same, where the events were handed on
+-- the report of a run, if the events were passed on
 pub is_report_of : (sizes : Sizes) (events given : List Event) (text : List ℕ) (done idle : ℕ) → given ≡ events → idle ≡ length events - done → IsTold sizes given text done idle → IsReport sizes events text
 is_report_of sizes events given text done idle same rest told =
     is_report sizes events text done idle rest (subst (λ (some : List Event). IsTold sizes some text done idle) same told)

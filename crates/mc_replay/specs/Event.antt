@@ -1,4 +1,4 @@
--- The other lines of a replay file: the ten kinds of event. A line names only seats and shards that are there.
+-- The other lines of a replay file: the ten kinds of event. A line may only name seats and shards that exist.
 use Rattle.std.specs.Prelude.{ℕ, ◌^◌, List, [], ◌∷◌, Option, None, codes, find, if◌then◌else◌}
 use Rattle.std.specs.Option.{option_and_then, option_map}
 use Rattle.std.specs.Str.{bytes_eq}
@@ -8,7 +8,7 @@ use Rattle.mc_model.specs.Events.{Event}
 use Rattle.mc_model.specs.Events.Event.{Open, Feed, Take, Send, Pop, Give, Receive, Hand, End, Break}
 use Rattle.mc_replay.specs.Text.{hex_bytes}
 
--- what two values make, where both are there
+-- the event made of two values, if both are valid
 unfoldable pub both : {A B : Type 0} → (A → B → Event) → Option A → Option B → Option Event
 both make first second = option_and_then (λ one. option_map (λ two. make one two) second) first
 
@@ -21,7 +21,7 @@ seat_events seat =
 abbrev pub seat_event : List ℕ → ℕ → Option Event
 seat_event name seat = option_map (λ row. row.1) (find (λ row. bytes_eq name row.0) (seat_events seat))
 
--- the event that the words of a line spell, of a server so large
+-- the event on a line of these words, for a server of these sizes
 abbrev pub event_of : Sizes → List (List ℕ) → Option Event
 event_of sizes (name ∷ word ∷ []) =
     if bytes_eq name (codes "give") then option_map Give (number_of sizes.shards word)

@@ -1,4 +1,4 @@
--- The first line of a replay file: sim SEATS SHARDS BYTES RING, behind which VALUE WINDOW may stand, and behind that LINE, drop-in or both
+-- The first line of a replay file: sim SEATS SHARDS BYTES RING [VALUE WINDOW [LINE] [drop-in]]
 use Rattle.std.specs.Prelude.{ℕ, ◌^◌, ◌&&◌, List, [], ◌∷◌, Option, Some, None, codes, nat_le, if◌then◌else◌}
 use Rattle.std.specs.Option.{option_and_then, option_map}
 use Rattle.std.specs.Str.{bytes_eq}
@@ -8,12 +8,12 @@ use Rattle.mc_command.specs.declared.rules.Profile.TheVariants.{DropIn, Own}
 use Rattle.mc_sizes.specs.declared.TheConstants.{DEFAULT_WINDOW, GREATEST_BUDGET, GREATEST_RING, GREATEST_SEATS, GREATEST_SHARDS, GREATEST_WINDOW, LEAST, LEAST_BUDGET}
 use Rattle.mc_sizes.specs.declared.sizes.Sizes.{Sizes}
 
--- the number from the least to the most that a word spells
+-- the number in a word, between the least and the most
 abbrev pub number_within : ℕ → ℕ → List ℕ → Option ℕ
 number_within least most word =
     option_and_then (λ number. if nat_le least number && nat_le number most then Some number else None) (number_of (2 ^ 64) word)
 
--- the sizes with the line limit that this word spells
+-- the sizes with the line limit in this word
 abbrev pub with_line : Sizes → List ℕ → Option Sizes
 with_line sizes word = option_map (λ line. record sizes { line = line }) (number_within LEAST_LINE_LIMIT GREATEST_LINE_LIMIT word)
 
@@ -25,7 +25,8 @@ with_rules sizes (last ∷ []) =
 with_rules sizes (line ∷ last ∷ []) = if bytes_eq last (codes "drop-in") then with_line (record sizes { profile = DropIn }) line else None
 with_rules sizes words = None
 
--- the sizes with the limits that these words spell: none, or a value limit and a window, behind which the rules may stand
+-- the sizes with the limits in these words: none, or a value limit and a window, optionally followed by the
+-- rules
 abbrev pub with_limits : Sizes → List (List ℕ) → Option Sizes
 with_limits sizes [] = Some sizes
 with_limits sizes (value ∷ []) = None
@@ -35,7 +36,7 @@ with_limits sizes (value ∷ window ∷ rules) =
     (number_within LEAST GREATEST_WINDOW window))
     (number_within LEAST_VALUE_LIMIT GREATEST_VALUE_LIMIT value)
 
--- the sizes that these counts spell, with the limits of the words behind them
+-- the sizes with these counts, and with the limits in the words behind them
 abbrev pub sizes_of : List ℕ → List ℕ → List ℕ → List ℕ → List (List ℕ) → Option Sizes
 sizes_of seats shards bytes ring limits =
     option_and_then (λ seats.
@@ -48,7 +49,7 @@ sizes_of seats shards bytes ring limits =
     (number_within LEAST GREATEST_SHARDS shards))
     (number_within LEAST GREATEST_SEATS seats)
 
--- the sizes that the words of a header spell
+-- the sizes in the words of a header
 abbrev pub header_of : List (List ℕ) → Option Sizes
 header_of (name ∷ seats ∷ shards ∷ bytes ∷ ring ∷ limits) =
     if bytes_eq name (codes "sim") then sizes_of seats shards bytes ring limits else None

@@ -1,4 +1,4 @@
--- What is told of a schedule: the world that its events lead to, line by line.
+-- The report of a schedule: the world that its events lead to, line by line.
 use Rattle.std.specs.Prelude.{ℕ, ◌≡◌, ◌+◌, List, [], ◌∷◌, ◌++◌, length, Result, Ok, Err, Vec}
 use Rattle.std.specs.List.{flat_map}
 use Rattle.std.specs.declared.alloc.Global.{Global}
@@ -28,11 +28,11 @@ connection_lines sizes w number (link ∷ links) =
 abbrev pub log_line : Entry → List ℕ
 log_line entry = entry_line (line_of entry)
 
--- what is told of a world to which events led: done counts those that were done, and idle those that were idle
+-- the report of a reachable world, with the numbers of events done and idle
 abbrev pub report : Sizes → World → ℕ → ℕ → List ℕ
 report sizes w done idle = connection_lines sizes w 0 w.links ++ (flat_map log_line w.log ++ counts_line done idle)
 
--- The text tells of a world to which all of the events lead, where each of them found its memory.
+-- The text is the report of a world to which all of the events lead, none of which was refused memory.
 pub record IsReport (sizes : Sizes) (events : List Event) (text : List ℕ) : Type 0 where
   pub w : World
   pub led : Schedule sizes events w
@@ -43,14 +43,14 @@ pub record IsReport (sizes : Sizes) (events : List Event) (text : List ℕ) : Ty
   pub all : done + idle ≡ length events
   pub text_is : text ≡ report sizes w done idle
 
--- Of a server that may be so large a text tells; else it is refused, or memory ran out.
+-- For a server of valid sizes, the text is a report; otherwise the schedule is refused, or memory was.
 abbrev pub GivesReport : schedule.Schedule → Result (Vec ℕ Global) ReplayFault → Type 0
 GivesReport plan (Ok text) = IsReport plan.sizes (events_of plan) text.items
 GivesReport plan (Err (Size fault)) = IsFirstOut plan.sizes fault
 GivesReport plan (Err Memory) = AreWithin plan.sizes
 GivesReport plan (Err Gone) = ⊥
 
--- The whole of such a text was written, or a beginning where the outlet failed; a refusal wrote nothing.
+-- The whole report was written, or a prefix of it if the outlet failed; nothing if the schedule was refused.
 abbrev pub Replays : {X : Type 0} → schedule.Schedule → Result X ReplayFault → Sight → Sight → Type 0
 Replays plan (Ok all) old new = (text : List ℕ) × IsReport plan.sizes (events_of plan) text × (new ≡ took text old)
 Replays plan (Err Gone) old new = (text : List ℕ) × IsReport plan.sizes (events_of plan) text × BreaksOff text old new

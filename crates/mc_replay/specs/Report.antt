@@ -1,4 +1,4 @@
--- What a replay tells, line by line.
+-- The report of a replay, line by line.
 use Rattle.std.specs.Prelude.{ℕ, List, [], ◌∷◌, codes, decimal}
 use Rattle.std.specs.List.{concat}
 use Rattle.hex.specs.Hex.{encode_lower}
@@ -14,7 +14,7 @@ abbrev pub connection_line : ℕ → ℕ → List ℕ → List ℕ
 connection_line number seat handed =
     concat (codes "conn " ∷ decimal number ∷ codes " seat " ∷ decimal seat ∷ codes " " ∷ handed_word handed ∷ codes "\n" ∷ [])
 
--- log SHARD CONNECTION TICKET PART MOMENT
+-- log SHARD CONNECTION TICKET PART TIME
 abbrev pub entry_line : LogEntry → List ℕ
 entry_line kept =
     concat (codes "log " ∷ decimal kept.shard ∷ codes " " ∷ decimal kept.connection ∷ codes " " ∷ decimal kept.ticket.0

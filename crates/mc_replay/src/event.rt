@@ -1,4 +1,4 @@
-//! The lines behind the header of a replay file: one event each.
+//! The lines after the header of a replay file: one event each (docs/REPLAY.md).
 ghost use Rattle.std.specs.Prelude.{◌≡◌, ◌∷◌, ◌^◌, [], IfOk, option_map};
 ghost use Rattle.mc_wire.specs.Number.{number_of};
 ghost use Rattle.mc_model.specs.Events.Event.{Feed, Pop, Receive, Take};
@@ -15,7 +15,7 @@ use mc_sizes::Sizes;
 use mc_wire::number_u64;
 use std::alloc::{AllocError, Global};
 
-/// Reads an event of a server so large: its name, and one or two words behind it.
+/// Parses an event of a server of these sizes: its name, and one or two words.
 pub(crate) fn read_event(
     alloc: Global,
     line: &[u8],
@@ -34,7 +34,7 @@ pub(crate) fn read_event(
     }
 }
 
-/// An event of a shard or a seat alone.
+/// An event of a shard or a slot alone.
 fn event_at(name: &[u8], word: &[u8], sizes: Sizes) -> Option<Event>
     ensures { option_map shown result ≡
         event_of sizes (name.now ∷ word.now ∷ []) }
@@ -47,7 +47,7 @@ fn event_at(name: &[u8], word: &[u8], sizes: Sizes) -> Option<Event>
     }
 }
 
-/// The event of that name of a seat alone.
+/// The event of this name of a slot alone.
 fn seat_event(name: &[u8], seat: usize) -> Option<Event>
     ensures { option_map shown result ≡ spec.seat_event name.now seat }
 {
@@ -61,7 +61,7 @@ fn seat_event(name: &[u8], seat: usize) -> Option<Event>
     }
 }
 
-/// An event of a seat with bytes or a moment, or of a seat and a shard.
+/// An event of a slot with bytes or a time, or of a slot and a shard.
 fn event_between(
     alloc: Global,
     name: &[u8],
@@ -83,7 +83,7 @@ fn event_between(
     }
 }
 
-/// take c MOMENT
+/// `take SEAT TIME`
 #[tactic(auto, unfolding(crate::specs::Event::both))]
 fn read_take(seat: &[u8], moment: &[u8], sizes: Sizes) -> Option<Event>
     ensures { option_map shown result ≡
@@ -94,7 +94,7 @@ fn read_take(seat: &[u8], moment: &[u8], sizes: Sizes) -> Option<Event>
     Some(Event::Take { seat, moment })
 }
 
-/// pop s c
+/// `pop SHARD SEAT`
 #[tactic(auto, unfolding(crate::specs::Event::both))]
 fn read_pop(shard: &[u8], seat: &[u8], sizes: Sizes) -> Option<Event>
     ensures { option_map shown result ≡
@@ -105,7 +105,7 @@ fn read_pop(shard: &[u8], seat: &[u8], sizes: Sizes) -> Option<Event>
     Some(Event::Pop { shard, seat })
 }
 
-/// receive c s
+/// `receive SEAT SHARD`
 #[tactic(auto, unfolding(crate::specs::Event::both))]
 fn read_receive(seat: &[u8], shard: &[u8], sizes: Sizes) -> Option<Event>
     ensures { option_map shown result ≡
@@ -116,7 +116,7 @@ fn read_receive(seat: &[u8], shard: &[u8], sizes: Sizes) -> Option<Event>
     Some(Event::Receive { seat, shard })
 }
 
-/// feed c HEX
+/// `feed SEAT HEX`
 #[tactic(auto, unfolding(crate::specs::Event::both))]
 fn read_feed(
     alloc: Global,
@@ -136,7 +136,7 @@ fn read_feed(
     }
 }
 
-/// The bytes that a text spells in hexadecimal, at least one.
+/// Decodes hexadecimal text of at least one byte; `None` if it is invalid.
 fn read_hex(alloc: Global, text: &[u8]) -> Result<Option<Vec<u8>>, AllocError>
     ensures { IfOk result (λ bytes. option_map (λ some. some.items) bytes ≡ hex_bytes text.now) }
 {

@@ -1,4 +1,4 @@
-//! The first line of a replay file: how large the server is, and whose rules it follows.
+//! The header of a replay file: the sizes and the profile of the server.
 ghost use Rattle.std.specs.Prelude.{◌≡◌, ◌∷◌, [], codes};
 ghost use Rattle.std.specs.Str.{bytes_eq};
 ghost use Rattle.mc_replay.specs.Text.{words_in};
@@ -17,7 +17,7 @@ use mc_wire::{
     GREATEST_VALUE_LIMIT, LEAST_LINE_LIMIT, LEAST_VALUE_LIMIT,
 };
 
-/// Reads a header: sim SEATS SHARDS BYTES RING [VALUE WINDOW [LINE] [drop-in]]
+/// Parses a header: `sim SEATS SHARDS BYTES RING [VALUE WINDOW [LINE] [drop-in]]`
 pub(crate) fn read_header(line: &[u8]) -> Option<Sizes>
     ensures { result ≡ header_of (words_in line.now) }
 {
@@ -32,7 +32,7 @@ pub(crate) fn read_header(line: &[u8]) -> Option<Sizes>
     }
 }
 
-/// Reads the counts of a header, and the limits that may stand behind them.
+/// Parses the counts of a header, and the limits after them, if there are any.
 fn read_sizes(
     seats: &[u8],
     shards: &[u8],
@@ -56,7 +56,8 @@ fn read_sizes(
     with_limits(sizes, more)
 }
 
-/// The sizes with the limits of these words: none, or a value limit and a window, behind which the rules may stand.
+/// Sets the limits from the remaining words: none, or a value limit and a window, optionally
+/// followed by the rules.
 fn with_limits(sizes: Sizes, mut more: PartWalk<'_>) -> Option<Sizes>
     ensures { result ≡ with_limits sizes (parts_left more.entry) }
 {
@@ -74,7 +75,7 @@ fn with_limits(sizes: Sizes, mut more: PartWalk<'_>) -> Option<Sizes>
     }
 }
 
-/// The sizes with the rules of these words: a line limit, drop-in, both or neither.
+/// Sets the rules from the remaining words: a line limit, `drop-in`, both or neither.
 fn with_rules(sizes: Sizes, mut more: PartWalk<'_>) -> Option<Sizes>
     ensures { result ≡ with_rules sizes (parts_left more.entry) }
 {
@@ -96,7 +97,7 @@ fn with_rules(sizes: Sizes, mut more: PartWalk<'_>) -> Option<Sizes>
     }
 }
 
-/// The sizes with the rules of one word: drop-in, or a line limit.
+/// Sets the rules from one word: `drop-in`, or a line limit.
 fn with_rule(sizes: Sizes, word: &[u8]) -> Option<Sizes>
     ensures { result ≡ with_rules sizes (word.now ∷ []) }
 {
@@ -111,14 +112,14 @@ fn with_rule(sizes: Sizes, word: &[u8]) -> Option<Sizes>
     }
 }
 
-/// Whether the word names memcached's rules.
+/// Whether the word is `drop-in`.
 fn is_drop_in(word: &[u8]) -> bool
     ensures { result ≡ bytes_eq word.now (codes "drop-in") }
 {
     word == b"drop-in".as_slice()
 }
 
-/// The sizes with the line limit that a word spells.
+/// Sets the line limit from a word.
 fn with_line(sizes: Sizes, word: &[u8]) -> Option<Sizes>
     ensures { result ≡ with_line sizes word.now }
 {

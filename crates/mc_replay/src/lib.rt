@@ -1,4 +1,4 @@
-//! Replay files: a schedule of events as text, read, run and told.
+//! Replay files: a schedule of events as text is parsed, run and reported.
 #![tactic(auto)]
 
 mod event;

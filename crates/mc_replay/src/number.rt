@@ -1,11 +1,11 @@
-//! The numbers of a replay file, each in a range of its own.
+//! The numbers in a replay file, each with its range.
 ghost use Rattle.std.specs.Prelude.{◌≡◌};
 ghost use Rattle.mc_wire.specs.Number.{number_of};
 ghost use Rattle.mc_replay.specs.Header.{number_within};
 
 use mc_wire::number_u64;
 
-/// The number below the bound that a word spells.
+/// Parses a number below `bound`.
 #[tactic(auto, using(crate::proofs::Numbers::number_below))]
 pub(crate) fn number_below(word: &[u8], bound: usize) -> Option<usize>
     ensures { result ≡ number_of bound word.now }
@@ -16,7 +16,7 @@ pub(crate) fn number_below(word: &[u8], bound: usize) -> Option<usize>
     }
 }
 
-/// The number in the range that a word spells.
+/// Parses a number between `least` and `most`.
 pub(crate) fn number_within(word: &[u8], least: usize, most: usize) -> Option<usize>
     ensures { result ≡ number_within least most word.now }
 {

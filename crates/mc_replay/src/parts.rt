@@ -1,4 +1,4 @@
-//! The parts of a text between separators: the lines of a file, and the words of a line.
+//! Splitting text at a separator: lines of a file, or words of a line.
 ghost use Rattle.std.specs.Prelude.{◌≡◌, ◌∷◌, ◌==◌, []};
 ghost use Rattle.std.specs.Option.{option_map_or};
 ghost use Rattle.std.specs.List.{position};
@@ -6,14 +6,14 @@ ghost use Rattle.std.specs.Iterator.{YieldsFirstRef, item_count};
 ghost use Rattle.mc_replay.specs.Text.{parts_of};
 ghost use Rattle.mc_replay.specs.internal.Parts.{parts_left};
 
-/// The parts of a text, one after another. There is one more than there are separators.
+/// Iterator over the parts of a text. There is one more part than separators.
 #[derive(Drop)]
 pub(crate) struct PartWalk<'a> {
     rest: Option<&'a [u8]>,
     separator: u8,
 }
 
-/// Walks the parts of a text.
+/// Splits a text at this separator.
 pub(crate) fn parts(text: &[u8], separator: u8) -> PartWalk<'_>
     ensures { parts_left result ≡ parts_of separator text.now }
 {
@@ -38,7 +38,7 @@ impl<'a> Iterator for PartWalk<'a> {
     }
 }
 
-/// The part before the first separator, and what stands behind that; all of the text where there is none.
+/// The text before and after the first separator; `None` for the latter if there is no separator.
 fn cut(text: &[u8], separator: u8) -> (&[u8], Option<&[u8]>)
     ensures { parts_of separator text.now
         ≡ result.0.now ∷ option_map_or (λ rest. parts_of separator rest.now) result.1 [] }

@@ -1,4 +1,4 @@
-//! What a replay tells: a line for each connection, one for each entry of the log, and one with the counts.
+//! The report of a replay: a line for each connection, one for each log entry, and one with counts.
 ghost use Rattle.std.specs.Prelude.{◌≡◌, ◌++◌, IfOk, OnOk};
 ghost use Rattle.mc_replay.specs.Report.{connection_line, counts_line, entry_line, handed_word};
 
@@ -7,7 +7,7 @@ use itoa::Buffer;
 use mc_sim::LogEntry;
 use std::alloc::{AllocError, Global};
 
-/// Tells of a connection what was handed to it.
+/// Appends the line of a connection: the replies written to it.
 pub(crate) fn push_connection(
     alloc: Global,
     text: &mut Vec<u8>,
@@ -28,7 +28,7 @@ pub(crate) fn push_connection(
     )
 }
 
-/// Bytes in hexadecimal, a dash for none.
+/// Bytes in hexadecimal, or a dash for none.
 fn handed_word(alloc: Global, bytes: &[u8]) -> Result<Vec<u8>, AllocError>
     ensures { IfOk result (λ word. word.items ≡ handed_word bytes.now) }
 {
@@ -38,7 +38,7 @@ fn handed_word(alloc: Global, bytes: &[u8]) -> Result<Vec<u8>, AllocError>
     Ok(hex::encode(alloc, bytes)?.into_bytes())
 }
 
-/// Tells of a piece where it ran, and for whom.
+/// Appends the line of a piece: the shard that ran it, and its connection.
 pub(crate) fn push_entry(text: &mut Vec<u8>, entry: &LogEntry) -> Result<(), AllocError>
     ensures { OnOk result (text.new.items ≡ text.old.items ++ entry_line entry.now) }
 {
@@ -57,7 +57,7 @@ pub(crate) fn push_entry(text: &mut Vec<u8>, entry: &LogEntry) -> Result<(), All
     )
 }
 
-/// Tells how many events were done, and how many were idle.
+/// Appends the number of events that were done, and that were idle.
 pub(crate) fn push_counts(text: &mut Vec<u8>, done: u64, idle: u64) -> Result<(), AllocError>
     ensures { OnOk result (text.new.items ≡ text.old.items ++ counts_line done idle) }
 {

@@ -1,4 +1,4 @@
-//! Runs a schedule, and tells what became of it.
+//! Runs a schedule and reports its results.
 ghost use Rattle.std.specs.Prelude.{◌≡◌, ◌++◌, ◌+◌, IfOk, OnOk, map};
 ghost use Rattle.std.specs.List.{flat_map};
 ghost use Rattle.mc_sizes.specs.declared.sizes.Sizes.{Sizes};
@@ -22,16 +22,16 @@ use std::alloc::{AllocError, Global};
 use std::random::RandomSource;
 use thiserror::Error;
 
-/// Why a schedule wasn't replayed to its end.
+/// Why a schedule wasn't replayed completely.
 #[derive(Clone, Copy, Debug, PartialEq, Eq, Error)]
 pub enum ReplayFault {
-    /// A size of the server is out of its limits. Nothing was written.
+    /// A size of the server is out of range. Nothing was written.
     #[error(transparent)]
     Size(SizeFault),
-    /// Memory ran out. Nothing was written.
+    /// Memory was refused. Nothing was written.
     #[error("out of memory")]
     Memory,
-    /// The outlet has failed. It took a beginning of what is told.
+    /// The outlet has failed; a prefix of the report was written.
     #[error("cannot write")]
     Gone,
 }
@@ -44,8 +44,8 @@ impl From<AllocError> for ReplayFault {
     }
 }
 
-/// Runs the events of a schedule, and then tells on the outlet what was handed to each connection, what the shards ran, and
-/// how many events were done and how many idle.
+/// Runs the events of a schedule, then writes the report to the outlet: the replies to each
+/// connection, the log of the shards, and the numbers of events done and idle.
 pub fn replay<R: RandomSource, O: Outlet>(
     rt: &R,
     alloc: Global,
@@ -61,7 +61,7 @@ pub fn replay<R: RandomSource, O: Outlet>(
     }
 }
 
-/// What is told of a schedule, once its events ran.
+/// The report of a schedule after its events were run.
 fn tell<R: RandomSource>(rt: &R, alloc: Global, schedule: &Schedule) -> Result<Vec<u8>, ReplayFault>
     ensures { GivesReport schedule.now result }
 {
@@ -80,8 +80,8 @@ fn tell<R: RandomSource>(rt: &R, alloc: Global, schedule: &Schedule) -> Result<V
     }
 }
 
-/// Runs all events, and tells how many of them were done. A replay ends at the first event that finds no memory: what the
-/// core has become by then is never told.
+/// Runs all events and returns the number of those done. Fails at the first event that is refused
+/// memory; nothing is reported then.
 fn run_all(alloc: Global, sim: &mut Sim, events: &[Event]) -> Result<u64, ReplayFault>
     ensures { IfOk result (λ done. Runs sim.old (map event_of events.now) done sim.new) }
 {
@@ -91,7 +91,7 @@ fn run_all(alloc: Global, sim: &mut Sim, events: &[Event]) -> Result<u64, Replay
     }
 }
 
-/// What is told of the world that the core stands in.
+/// The report of the simulator's current state.
 fn report(alloc: Global, sim: &Sim, done: u64, idle: u64) -> Result<Vec<u8>, AllocError>
     ensures { IfOk result (λ text.
         (sizes : Sizes) (w : World) → Stands sizes sim.now w →
@@ -104,7 +104,7 @@ fn report(alloc: Global, sim: &Sim, done: u64, idle: u64) -> Result<Vec<u8>, All
     Ok(text)
 }
 
-/// Tells of each connection what was handed to it.
+/// Appends the line of each connection.
 fn push_connections(alloc: Global, text: &mut Vec<u8>, sim: &Sim) -> Result<(), AllocError>
     ensures { OnOk result
         ((sizes : Sizes) (w : World) → Stands sizes sim.now w →
@@ -117,7 +117,7 @@ fn push_connections(alloc: Global, text: &mut Vec<u8>, sim: &Sim) -> Result<(), 
     Ok(())
 }
 
-/// Tells of the connection of this number, which is on that seat, what was handed to it.
+/// Appends the line of one connection, which is on that slot.
 fn push_handed(
     alloc: Global,
     text: &mut Vec<u8>,
@@ -133,12 +133,12 @@ fn push_handed(
 {
     match sim.handed(number) {
         Some(handed) => push_connection(alloc, text, number, seat, handed),
-        // There is no connection of that number.
+        // There is no connection of this number.
         None => Ok(()),
     }
 }
 
-/// Tells what the shards ran.
+/// Appends the line of each log entry.
 fn push_log(text: &mut Vec<u8>, log: &[LogEntry]) -> Result<(), AllocError>
     ensures { OnOk result (text.new.items ≡ text.old.items ++ flat_map entry_line log.now) }
 {

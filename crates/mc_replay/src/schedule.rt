@@ -1,4 +1,4 @@
-//! Reads a whole replay file.
+//! Parsing of a replay file.
 ghost use Rattle.std.specs.Prelude.{◌≡◌};
 ghost use Rattle.mc_replay.specs.Text.{without_last_end};
 ghost use Rattle.mc_replay.specs.Schedule.{SpellsSchedule, SpellsEvents};
@@ -13,22 +13,22 @@ use mc_sizes::Sizes;
 use std::alloc::{AllocError, Global};
 use thiserror::Error;
 
-/// A server and a list of events: what a replay file says.
+/// A parsed replay file: a server and a list of events.
 #[derive(Drop)]
 pub struct Schedule {
-    /// How large the server is, and whose rules it follows.
+    /// The sizes and the profile of the server.
     pub sizes: Sizes,
-    /// What happens, in order.
+    /// The events in order.
     pub events: Vec<Event>,
 }
 
-/// Why a replay file wasn't read.
+/// Why a replay file is invalid.
 #[derive(Clone, Copy, Debug, Error)]
 pub enum ScheduleFault {
-    /// The line of this number, counted from 1, is the first that is no header or no event.
+    /// The number, counted from 1, of the first line that is no header or no event.
     #[error("line {0}: bad event")]
     Bad(usize),
-    /// There is no memory for the events.
+    /// Memory for the events was refused.
     #[error("out of memory")]
     Memory,
 }
@@ -41,7 +41,7 @@ impl From<AllocError> for ScheduleFault {
     }
 }
 
-/// Reads a replay file: every line of it, before anything runs.
+/// Parses a replay file completely, before any event runs.
 pub fn read_schedule(alloc: Global, text: &[u8]) -> Result<Schedule, ScheduleFault>
     ensures { SpellsSchedule text.now result }
 {
@@ -53,14 +53,15 @@ pub fn read_schedule(alloc: Global, text: &[u8]) -> Result<Schedule, ScheduleFau
     Ok(Schedule { sizes, events })
 }
 
-/// The text without the end of its last line, if that has one.
+/// The text without its trailing line feed, if it has one.
 fn without_last_end(text: &[u8]) -> &[u8]
     ensures { result.now ≡ without_last_end text.now }
 {
     text.strip_suffix(b"\n").unwrap_or(text)
 }
 
-/// Reads the events of a server so large, one a line. The first of these lines is line 2 of the file.
+/// Parses the events of a server of these sizes, one per line. The first of these lines is line 2
+/// of the file.
 fn read_events(
     alloc: Global,
     lines: PartWalk<'_>,

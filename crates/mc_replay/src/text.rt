@@ -1,10 +1,10 @@
-//! Texts that are put together from parts.
+//! Concatenation of texts.
 ghost use Rattle.std.specs.Prelude.{◌≡◌, ◌++◌, OnOk};
 ghost use Rattle.std.specs.List.{flat_map};
 
 use std::alloc::AllocError;
 
-/// Adds these parts to a text, one after another.
+/// Appends these parts to a text.
 pub(crate) fn push_parts(text: &mut Vec<u8>, parts: &[&[u8]]) -> Result<(), AllocError>
     ensures { OnOk result
         (text.new.items ≡ text.old.items ++ flat_map (λ part. part.now) parts.now) }

@@ -1,4 +1,4 @@
--- A quiet command beside the loud one: its reply is empty or the same.
+-- A quiet command beside the loud one: its reply is empty or equal.
 use Rattle.std.proofs.Common.{◌≡◌, ℕ, Bool, true, false, ◌&&◌, ◌⊎◌, inl, inr, cond, List, [], ◌∷◌, Option, refl}
 use Rattle.std.specs.List.{list_any}
 use Rattle.mc_command.specs.declared.command.Command.{Command}
@@ -12,7 +12,7 @@ use Rattle.mc_reply.specs.Shape.{is_lenient_in, shape_of, shown_key}
 use Rattle.mc_reply.specs.Text.{coded_text, is_hidden, is_no_memory, memory_line, shape_text, text_of, told}
 use Rattle.mc_reply.specs.TextLaws.{loud, without_quiet}
 
--- nothing is said where the test holds
+-- the text is empty if the test holds
 abbrev EmptyOr : List ℕ → List ℕ → Type 0
 EmptyOr text other = (text ≡ []) ⊎ (text ≡ other)
 
@@ -36,7 +36,7 @@ meta_or_not kind flags value key lenient [] = inl refl
 meta_or_not kind flags value key lenient (answer ∷ answers) =
     coded_or_not kind flags value key (flags.quiet && is_hidden kind value answer) (list_any is_no_memory (answer ∷ answers)) (told answer lenient)
 
--- The reply to a command is empty, or it is that to the same command without `noreply` and `q`.
+-- The reply to a command is empty, or equal to that of the command without `noreply` and `q`.
 pub empty_or_loud : (command : Command) (answers : List Answer) → (text_of command answers ≡ []) ⊎ (text_of command answers ≡ text_of (loud command) answers)
 unfolding shape_of shape_text
 empty_or_loud (command.Store storage) answers = noreply_or_not storage.noreply (shape_text (shape.Line false storage.lenient) answers)

@@ -38,7 +38,7 @@ headed : (code marks : List ℕ) (one : ReturnFlag → List ℕ) (flags others :
     DiffersInOrder flags others (code ++ (flat_map one flags ++ (marks ++ codes "\r\n"))) (code ++ (flat_map one others ++ (marks ++ codes "\r\n")))
 headed code marks one flags others = record { before = code; behind = marks ++ codes "\r\n"; one = one; text_is = refl; other_is = refl }
 
--- a reply with a value, whose size stands before the flags
+-- a reply with a value, whose size precedes the flags
 valued : (value marks : List ℕ) (one : ReturnFlag → List ℕ) (flags others : List ReturnFlag) →
     DiffersInOrder flags others (codes "VA " ++ (decimal (length value) ++ (flat_map one flags ++ (marks ++ (codes "\r\n" ++ (value ++ codes "\r\n")))))) (codes "VA " ++ (decimal (length value) ++ (flat_map one others ++ (marks ++ (codes "\r\n" ++ (value ++ codes "\r\n"))))))
 valued value marks one flags others = record {
@@ -83,7 +83,7 @@ ordered kind flags others value key lenient answers moved =
     let same : shown_key flags key ≡ shown_key (with_flags flags others) key = ap (λ test. cond test (Some key) None) (list_any-IsPermutation is_key_flag flags.returned others moved) in
     rw (← same) (with_key kind flags others value (shown_key flags key) lenient answers)
 
--- Returned flags in another order give the same reply, but for the order in which they are returned.
+-- Another order of the returned flags changes only their order in the reply.
 pub orders_flags : (command : Command) (returned : List ReturnFlag) → IsPermutation (returned_in command) returned → (answers : List Answer) →
     DiffersInOrder (returned_in command) returned (text_of command answers) (text_of (with_returned command returned) answers)
 unfolding shape_of

@@ -46,7 +46,7 @@ told_as_it_is : (given : Answer) → told given false ≡ given
 told_as_it_is answer.TooLarge = refl
 told_as_it_is given = refl
 
--- Whatever is lawful is told as what is lawful.
+-- A lawful answer is reported as a lawful answer.
 told_lawful : (kind : Kind) (lenient : Bool) (given : Answer) → is_lawful kind given ≡ true → is_lawful kind (told given lenient) ≡ true
 unfolding is_lawful
 told_lawful Store true answer.TooLarge lawful = refl
@@ -65,7 +65,7 @@ pub values_shown : (lacks : Bool) (items : List ℕ) → (cond lacks memory_line
 values_shown true items = (λ e. absurd cc, λ e. absurd cc)
 values_shown false items = (λ e. absurd (some_behind items (codes "ND\r\n") 69 e), λ e. absurd cc)
 
--- A reply whose text begins with a byte is not empty, and neither is the memory line.
+-- A reply whose text starts with a byte is not empty, and neither is the memory line.
 pub told_shown : (lacks : Bool) (byte : ℕ) (text : List ℕ) → (cond lacks memory_line (byte ∷ text) ≡ []) ↔ IsTrue false
 told_shown true byte text = (λ e. absurd cc, λ e. absurd cc)
 told_shown false byte text = (λ e. absurd cc, λ e. absurd cc)
@@ -118,7 +118,8 @@ pub version_shown : (profile : Profile) (answers : List Answer) → (version_lin
 version_shown Own answers = (λ e. absurd cc, λ e. absurd cc)
 version_shown DropIn answers = (λ e. absurd cc, λ e. absurd cc)
 
--- Where the first answer is lawful for a kind whose reply is a line, the reply is empty just where noreply stands.
+-- If the first answer is lawful for a kind whose reply is a line, the reply is empty exactly if noreply is
+-- set.
 pub plain_silent : (piece : Kind) → is_plain piece ≡ true → (noreply lenient : Bool) (given : Answer) (answers : List Answer) → is_lawful piece given ≡ true →
     (shape_text (shape.Line noreply lenient) (given ∷ answers) ≡ []) ↔ IsTrue noreply
 unfolding shape_text

@@ -29,8 +29,8 @@ got keys with_unique = command.Get (record { keys = keys; touch = None; with_uni
 abbrev hit_x : Answer
 hit_x = answer.Hit 0 1 (codes "x")
 
--- the items stand in the order of the keys, a repeated one each time, and a miss shows nothing; one part without memory is the
--- whole reply
+-- the items are in the order of the keys, a repeated one each time, and a miss returns nothing; if memory was
+-- refused for one part, that is the whole reply
 gets : (text_of (got (codes "a" ∷ codes "b" ∷ codes "a" ∷ codes "c" ∷ []) false) (hit_x ∷ answer.Hit 0 2 (codes "yy") ∷ hit_x ∷ answer.Miss ∷ [])
     ≡ codes "VALUE a 0 1\r\nx\r\nVALUE b 0 2\r\nyy\r\nVALUE a 0 1\r\nx\r\nEND\r\n")
     × (text_of (got (codes "a" ∷ []) true) (answer.Hit 5 1 (codes "abc") ∷ []) ≡ codes "VALUE a 5 3 1\r\nabc\r\nEND\r\n")
@@ -62,7 +62,7 @@ meta_hit value unique left won stale sent = answer.MetaHit (record { value = val
 abbrev meta_done : ℕ → ℕ → ℕ → Answer
 meta_done unique size number = answer.MetaDone (record { unique = unique; size = size; left = None; number = number })
 
--- an item made by this command, and one that another client was told to recompute: the marks stand last
+-- an item made by this command, and one that another client was asked to recompute: the marks come last
 hits : (text_of (meta_get (codes "a") (flags_of false false (flag.TimeLeft ∷ []) []) true) (meta_hit [] 1 (Some 30) true false false ∷ []) ≡ codes "VA 0 t30 W\r\n\r\n")
     × (text_of (meta_get (codes "a") (flags_of false false (flag.Unique ∷ []) []) true) (meta_hit (codes "x") 5 None false true true ∷ []) ≡ codes "VA 1 c5 X Z\r\nx\r\n")
     × (text_of (meta_get (codes "a") (flags_of false false (flag.Fetched ∷ flag.LastAccess ∷ flag.TimeLeft ∷ []) []) false) (meta_hit (codes "x") 1 (Some 93) false false false ∷ [])
@@ -70,13 +70,13 @@ hits : (text_of (meta_get (codes "a") (flags_of false false (flag.TimeLeft ∷ [
 unfolding shape_of shape_text digits
 hits = (refl, refl, refl)
 
--- of a miss only the key and the token are told, in the order of the request
+-- a miss returns only the key and the token, in the order of the request
 misses : (text_of (meta_get (codes "zz") (flags_of false false (flag.Key ∷ flag.Size ∷ flag.Opaque ∷ []) (codes "7")) true) (answer.Miss ∷ []) ≡ codes "EN kzz O7\r\n")
     × (text_of (meta_get (codes "zz") (flags_of false true (flag.Key ∷ []) []) true) (answer.Miss ∷ []) ≡ [])
 unfolding shape_of shape_text digits
 misses = (refl, refl)
 
--- a key whose base64 is `YQ==` is told so, and `b` stands behind it
+-- a key whose base64 is `YQ==` is returned so, followed by `b`
 coded_key : (key : List ℕ) → base64_of key ≡ codes "YQ==" → text_of (meta_get key (flags_of true false (flag.Key ∷ []) []) true) (meta_hit (codes "x") 1 None false false false ∷ []) ≡ codes "VA 1 kYQ== b\r\nx\r\n"
 unfolding shape_of shape_text digits
 coded_key key coded = rw coded refl
@@ -94,8 +94,8 @@ arithmetic : text_of (command.MetaArithmetic (record { asked = record { key = co
 unfolding shape_of shape_text digits
 arithmetic = refl
 
--- By memcached's rules: the marks stand the other way round, `ms` shows the unique 0 of what it did not store, also where it is
--- quiet, and a joined value that is too large counts as not stored.
+-- By memcached's rules: the marks are in reverse order, `ms` returns unique 0 for an item that it did not
+-- store, even if it is quiet, and a joined value that is too large counts as not stored.
 abbrev by_memcached : MetaFlags → MetaFlags
 by_memcached flags = record flags { profile = DropIn }
 
@@ -136,15 +136,15 @@ ms_joined_too_large : (map (ms_too_large (by_memcached quiet_flags)) (mode.Appen
 unfolding shape_of shape_text digits
 ms_joined_too_large = (refl, refl, refl)
 
--- a shard that was asked for two items and had one of them, and another that had one, stored one with a unique, and let the most
--- items go that can be counted
+-- a shard with two gets, of which one hit, and another with one hit, one store with a unique, and the maximum
+-- number of evictions
 abbrev first_shard : Answer
 first_shard = answer.Stats (record { tally = noted (noted no_counts asked.Get status.Hit) asked.Get status.Miss; evicted = 3; items = 4; bytes = 400; budget = 1000 })
 
 abbrev second_shard : Answer
 second_shard = answer.Stats (record { tally = noted (noted no_counts asked.Get status.Hit) asked.Cas status.Hit; evicted = 18446744073709551615; items = 5; bytes = 500; budget = 1000 })
 
--- The numbers of the shards are added up, and a count starts anew after its greatest value.
+-- The numbers of the shards are added, modulo 2^64.
 counts : text_of (command.Stats request.General) (first_shard ∷ second_shard ∷ [])
     ≡ codes "STAT version 1.6.18\r\nSTAT cmd_get 3\r\nSTAT cmd_set 1\r\nSTAT cmd_flush 0\r\nSTAT cmd_touch 0\r\nSTAT get_hits 2\r\nSTAT get_misses 1\r\n"
     ++ codes "STAT delete_misses 0\r\nSTAT delete_hits 0\r\nSTAT incr_misses 0\r\nSTAT incr_hits 0\r\nSTAT decr_misses 0\r\nSTAT decr_hits 0\r\n"

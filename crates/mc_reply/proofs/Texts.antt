@@ -60,7 +60,7 @@ item-line_block with_unique key flags unique size value front line sized begins 
 pub line_block : (line value more whole : List ℕ) → more ≡ line ++ value → whole ≡ more ++ codes "\r\n" → line ++ (value ++ codes "\r\n") ≡ whole
 line_block line value more whole is ends = rw (ends, is) (sym (append_assoc line value (codes "\r\n")))
 
--- What was written of one text was written of the same text in other words.
+-- A write of one text is a write of any equal text.
 pub writes_same : {X E : Type 0} {text other : List ℕ} (old new : Sight) (result : Result X E) → text ≡ other → Writes other result old new → Writes text result old new
 writes_same old new result same written = rw same written
 
@@ -90,7 +90,7 @@ lines-filled : (answers : List Answer) (stats : List Stat) → flat_map (sum_lin
 lines-filled answers [] = refl
 lines-filled answers (stat ∷ stats) = rw (sum-filled stat answers, lines-filled answers stats) refl
 
--- the reply to stats, whose parts are the same
+-- the reply to stats, made of the same parts
 told : List ℕ → ℕ → List ℕ
 told sums threads = concat (stat_text (codes "version") release ∷ sums ∷ stat_text (codes "threads") (decimal threads) ∷ codes "END\r\n" ∷ [])
 
@@ -131,7 +131,7 @@ wrote_first part parts first = record { front = part; sight = first; parts = par
 pub first_breaks : (part rest : List ℕ) {whole : List ℕ} {old new : Sight} → whole ≡ part ++ rest → BreaksOff part old new → BreaksOff whole old new
 first_breaks part rest parts off = rw parts (breaks_first _ _ part rest off)
 
--- what is left is written last, however that goes
+-- the rest is written last, whatever the result is
 pub writes_rest : {X E : Type 0} {whole rest : List ℕ} {old mid : Sight} (new : Sight) (result : Result X E) → WroteBut whole rest old mid → Writes rest result mid new → Writes whole result old new
 writes_rest {rest} new (Ok done) so_far last = rw so_far.parts (writes_on _ _ _ so_far.front rest so_far.sight last)
 writes_rest {rest} new (Err fault) so_far off = rw so_far.parts (breaks_later _ _ _ so_far.front rest so_far.sight off)
@@ -161,11 +161,11 @@ sum_next f slots i slot sum number next below here sum_is number_is next_is =
 pub text_last : {X : Type 0} {whole : List ℕ} {old now : Sight} (f : X → List ℕ) (xs ys : List X) (i : ℕ) → ys ≡ xs → length ys ≤ i → WroteBut whole (flat_map f (drop i xs)) old now → WroteBut whole [] old now
 text_last f xs ys i same past so_far = rw (ap (λ zs. flat_map f (drop i zs)) (sym same) ∙ at_drop_all (λ zs. flat_map f zs) ys i past) at so_far
 
--- the line before a value is the first part of what stands before it
+-- the header of a value is the first part of the text before the value
 pub size-parts : (size : ℕ) (line flags : List ℕ) → line ≡ codes "VA " ++ (decimal size ++ []) → codes "VA " ++ (decimal size ++ flags) ≡ line ++ flags
 size-parts size line flags line_is = rw (line_is, append-nil (decimal size))
 
--- the size and the flags stand before a value
+-- the size and the flags precede a value
 front_text : (size flags rest : List ℕ) → codes "VA " ++ (size ++ (flags ++ rest)) ≡ (codes "VA " ++ (size ++ flags)) ++ rest
 front_text size flags rest = ap (λ xs. codes "VA " ++ xs) (sym (append_assoc size flags rest))
 

@@ -1,4 +1,4 @@
--- What the text of a reply depends on beside the answers.
+-- What a reply's text depends on besides the answers.
 use Rattle.std.specs.Prelude.{ℕ, Bool, true, false, List, Option, Some, None, if◌then◌else◌}
 use Rattle.std.specs.List.{list_any}
 use Rattle.mc_command.specs.declared.command.Command.{Command}
@@ -21,11 +21,11 @@ abbrev pub is_key_flag : ReturnFlag → Bool
 is_key_flag Key = true
 is_key_flag flag = false
 
--- the key, where the flag k asks for it
+-- the key, if the flag k asks for it
 abbrev pub shown_key : MetaFlags → List ℕ → Option (List ℕ)
 shown_key flags key = if list_any is_key_flag flags.returned then Some key else None
 
--- By memcached's rules a value that `ms` joins counts as not stored where it is too large, and that is no error.
+-- By memcached's rules a value that `ms` joins counts as not stored if it is too large, which is no error.
 abbrev pub is_lenient_in : Profile → StoreMode → Bool
 is_lenient_in DropIn Append = true
 is_lenient_in DropIn Prepend = true

@@ -1,4 +1,4 @@
--- The slots of a form, however they are kept.
+-- The slots of a form, in whatever storage.
 use Rattle.std.specs.Prelude.{ℕ, List, [], ◌∷◌, Option, count_by}
 use Rattle.std.specs.Option.{is_none}
 use Rattle.mc_item.specs.declared.answer.Answer.{Answer}
@@ -10,6 +10,6 @@ abbrev pub answers_in : Kept → List (Option Answer)
 answers_in (One answer) = answer ∷ []
 answers_in (Many answers) = answers.items
 
--- how many parts have no answer yet
+-- the number of parts without an answer
 abbrev pub missing_in : List (Option Answer) → ℕ
 missing_in answers = count_by is_none answers

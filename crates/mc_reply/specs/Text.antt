@@ -1,4 +1,5 @@
--- The texts of replies, as functions of the whole list of answers (protocol.txt, the reply lines of each command).
+-- The texts of replies, as functions of the whole list of answers (protocol.txt, the reply lines of each
+-- command).
 use Rattle.std.specs.Prelude.{ℕ, ◌^◌, ◌%◌, Bool, true, false, ◌&&◌, List, [], ◌∷◌, ◌++◌, length, codes, decimal, Option, Some, None, if◌then◌else◌}
 use Rattle.std.specs.List.{concat, flat_map, list_any, sum_by, zip}
 use Rattle.mc_command.specs.declared.command.Command.{Command}
@@ -39,16 +40,16 @@ refusal_line refusal.Memory = codes "SERVER_ERROR out of memory\r\n"
 refusal_line refusal.WordCount = codes "ERROR\r\n"
 refusal_line refusal.Hidden = []
 
--- the release of memcached that its rules follow, whose parts clients compare as numbers
+-- the memcached release whose rules are followed; clients compare its parts as numbers
 abbrev pub release : List ℕ
 release = codes "1.6.18"
 
--- the line of `version`; by memcached's rules that of the release that they follow
+-- the line of `version`; by memcached's rules, of the release that is followed
 abbrev pub version_line : Profile → List ℕ
 version_line profile.Own = codes "VERSION 1.6.0-sharded\r\n"
 version_line profile.DropIn = concat (codes "VERSION " ∷ release ∷ codes "\r\n" ∷ [])
 
--- a reply that no answer changes
+-- a reply that doesn't depend on answers
 abbrev pub fixed_text : Fixed → List ℕ
 fixed_text fixed.Nothing = []
 fixed_text fixed.Ok = codes "OK\r\n"
@@ -57,7 +58,7 @@ fixed_text fixed.End = codes "END\r\n"
 fixed_text fixed.MetaNoop = codes "MN\r\n"
 fixed_text (fixed.Refused refusal) = refusal_line refusal
 
--- the reply to a command of which any part found no memory
+-- the reply to a command for which memory was refused
 abbrev pub memory_line : List ℕ
 memory_line = codes "SERVER_ERROR out of memory\r\n"
 
@@ -65,11 +66,11 @@ abbrev pub is_no_memory : Answer → Bool
 is_no_memory NoMemory = true
 is_no_memory answer = false
 
--- the text, or the memory line where any answer says that memory ran out
+-- the text, or the memory line if any answer is "out of memory"
 abbrev pub unless_no_memory : List Answer → List ℕ → List ℕ
 unless_no_memory answers text = if list_any is_no_memory answers then memory_line else text
 
--- the line of an answer that has one, whichever command of its kind it answers
+-- the line of an answer that has one, for all commands of its kind
 abbrev pub answer_line : Answer → List ℕ
 answer_line Stored = codes "STORED\r\n"
 answer_line NotStored = codes "NOT_STORED\r\n"
@@ -86,17 +87,17 @@ answer_line Done = codes "OK\r\n"
 answer_line Reset = codes "RESET\r\n"
 answer_line answer = []
 
--- An answer as it is told: where that counts as not stored, none is too large.
+-- An answer as it is reported: if too large counts as not stored, no answer is too large.
 abbrev pub told : Answer → Bool → Answer
 told TooLarge true = NotStored
 told answer lenient = answer
 
--- the text of the first answer: a command of several parts that has one line has the same answer to each
+-- the text of the first answer: if a command of several parts has one line, all its answers are equal
 abbrev pub of_first : (Answer → List ℕ) → List Answer → List ℕ
 of_first text [] = []
 of_first text (answer ∷ answers) = text answer
 
--- an item that was found (protocol.txt, "Retrieval command"), with its unique or without; a miss shows nothing
+-- an item found (protocol.txt, "Retrieval command"), with or without its unique; a miss has no text
 abbrev pub item_text : Bool → List ℕ → Answer → List ℕ
 item_text with_unique key (Hit flags unique value) =
     concat (codes "VALUE " ∷ key ∷ codes " " ∷ decimal flags ∷ codes " " ∷ decimal (length value)
@@ -111,23 +112,23 @@ values_text keys with_unique answers = flat_map (λ pair. item_text with_unique 
 abbrev pub stat_text : List ℕ → List ℕ → List ℕ
 stat_text name value = concat (codes "STAT " ∷ name ∷ codes " " ∷ value ∷ codes "\r\n" ∷ [])
 
--- what the answer of a shard tells of a number
+-- the value of a statistic in a shard's answer
 abbrev pub stat_in : Stat → Answer → ℕ
 stat_in stat (answer.Stats stats) = (row_of stat).1 stats
 stat_in stat answer = 0
 
--- a number of all shards together; a count starts anew after 2^64 - 1
+-- the sum of a statistic over all shards, modulo 2^64
 abbrev pub together : Stat → List Answer → ℕ
 together stat answers = sum_by (stat_in stat) answers % 2 ^ 64
 
--- the release, the numbers of all shards together, and how many shards there are, each of which runs in a thread of its own
+-- the release, the statistics summed over all shards, and the number of shards, each of which has a thread
 abbrev pub stats_text : List Answer → List ℕ
 stats_text answers =
     concat (stat_text (codes "version") release ∷ flat_map (λ stat. stat_text (row_of stat).0 (decimal (together stat answers))) all_stats
     ∷ stat_text (codes "threads") (decimal (length answers)) ∷ codes "END\r\n" ∷ [])
 
--- what the flag `q` hides (protocol.txt, "Meta Commands": "noreply semantics for return codes"): of `mg` the miss,
--- of `ms` that it is stored, of `md` that it is done or not found, of `ma` the same, unless it shows the number
+-- what the flag `q` hides (protocol.txt, "Meta Commands": "noreply semantics for return codes"): the miss of
+-- `mg`, the success of `ms`, success and miss of `md`, and those of `ma` unless it returns the number
 abbrev pub is_hidden : MetaKind → Bool → Answer → Bool
 is_hidden kind.Get value Miss = true
 is_hidden kind.Set value (answer.MetaDone done) = true
@@ -138,18 +139,18 @@ is_hidden kind.Arithmetic false (answer.MetaDone done) = true
 is_hidden kind.Arithmetic value NotFound = true
 is_hidden kind value answer = false
 
--- the key word: as it stands, or its base64 (RFC 4648, section 4), which the flag `b` then marks
+-- the key: its bytes, or its base64 text (RFC 4648, section 4), which the flag `b` then marks
 abbrev pub key_flag : Bool → Option (List ℕ) → List ℕ
 key_flag base64 None = []
 key_flag false (Some key) = concat (codes " k" ∷ key ∷ [])
 key_flag true (Some key) = concat (codes " k" ∷ base64_of key ∷ codes " b" ∷ [])
 
--- the seconds left, -1 for never
+-- the seconds to live, or -1
 abbrev pub left_flag : Option ℕ → List ℕ
 left_flag None = codes " t-1"
 left_flag (Some left) = concat (codes " t" ∷ decimal left ∷ [])
 
--- a returned flag of what was found, stored or changed; other answers show none
+-- a returned flag of an item found, stored or changed; other answers have none
 abbrev pub item_flag : Answer → ReturnFlag → List ℕ
 item_flag (answer.MetaHit hit) return_flag.Unique = concat (codes " c" ∷ decimal hit.unique ∷ [])
 item_flag (answer.MetaHit hit) return_flag.ClientFlags = concat (codes " f" ∷ decimal hit.flags ∷ [])
@@ -162,7 +163,7 @@ item_flag (answer.MetaDone done) return_flag.Size = concat (codes " s" ∷ decim
 item_flag (answer.MetaDone done) return_flag.TimeLeft = left_flag done.left
 item_flag answer flag = []
 
--- a returned flag: the key and the opaque token of every reply, and what the answer tells of the item
+-- a returned flag: the key and the opaque token in every reply, and the fields of the item in the answer
 abbrev pub flag_text : MetaFlags → Option (List ℕ) → Answer → ReturnFlag → List ℕ
 flag_text flags key answer return_flag.Key = key_flag flags.base64 key
 flag_text flags key answer return_flag.Opaque = concat (codes " O" ∷ flags.opaque ∷ [])
@@ -172,7 +173,7 @@ flag_text flags key answer flag = item_flag answer flag
 abbrev pub flags_text : MetaFlags → Option (List ℕ) → Answer → List ℕ
 flags_text flags key answer = flat_map (flag_text flags key answer) flags.returned
 
--- the same where nothing was stored or changed: by memcached's rules `ms` shows a unique of 0
+-- a returned flag if nothing was stored or changed: by memcached's rules `ms` returns a unique of 0
 abbrev pub failed_flag : MetaKind → Profile → (ReturnFlag → List ℕ) → ReturnFlag → List ℕ
 failed_flag kind.Set profile.DropIn text return_flag.Unique = codes " c0"
 failed_flag kind profile text flag = text flag
@@ -180,7 +181,7 @@ failed_flag kind profile text flag = text flag
 abbrev pub failed_text : MetaKind → MetaFlags → Option (List ℕ) → Answer → List ℕ
 failed_text kind flags key answer = flat_map (failed_flag kind flags.profile (flag_text flags key answer)) flags.returned
 
--- the marks of a hit, behind its flags; in memcached the other way round
+-- the marks of a hit, behind its flags; memcached's order is reversed
 abbrev pub marks_text : Profile → Marks → List ℕ
 marks_text profile.DropIn marks =
     concat ((if marks.sent then codes " Z" else []) ∷ (if marks.stale then codes " X" else []) ∷ (if marks.won then codes " W" else []) ∷ [])
@@ -191,13 +192,13 @@ marks_text profile.Own marks =
 abbrev pub head_text : List ℕ → List ℕ → List ℕ → List ℕ
 head_text code flags marks = concat (code ∷ flags ∷ marks ∷ codes "\r\n" ∷ [])
 
--- a reply with this value, whose size stands behind the code, or without it
+-- a reply with this value, whose size follows the code, or without a value
 abbrev pub value_text : Bool → List ℕ → List ℕ → List ℕ → List ℕ
 value_text true value flags marks =
     concat (codes "VA " ∷ decimal (length value) ∷ flags ∷ marks ∷ codes "\r\n" ∷ value ∷ codes "\r\n" ∷ [])
 value_text false value flags marks = head_text (codes "HD") flags marks
 
--- the reply of a meta command, with its value or number where that is asked for (protocol.txt, "Meta Commands");
+-- the reply of a meta command, with its value or number if that is requested (protocol.txt, "Meta Commands");
 -- an error line has no flags
 abbrev pub coded_text : MetaKind → MetaFlags → Option (List ℕ) → Answer → Bool → List ℕ
 coded_text kind flags key (answer.MetaHit hit) value = value_text value hit.value (flags_text flags key (answer.MetaHit hit)) (marks_text flags.profile hit.marks)
@@ -210,7 +211,7 @@ coded_text kind flags key Exists value = head_text (codes "EX") (failed_text kin
 coded_text kind flags key NotFound value = head_text (codes "NF") (failed_text kind flags key NotFound) []
 coded_text kind flags key answer value = answer_line answer
 
--- the reply of a meta command, or nothing where `q` hides it
+-- the reply of a meta command, or nothing if `q` hides it
 abbrev pub meta_text : MetaKind → MetaFlags → Bool → Option (List ℕ) → Bool → Answer → List ℕ
 meta_text kind flags value key lenient answer =
     if flags.quiet && is_hidden kind value answer then [] else coded_text kind flags key (told answer lenient) value

@@ -1,4 +1,4 @@
--- What holds of the texts of all replies.
+-- Laws of the texts of all replies.
 use Rattle.std.specs.Prelude.{ℕ, ◌≡◌, Bool, true, false, ◌&&◌, ◌⊎◌, List, [], ◌∷◌, ◌++◌}
 use Rattle.std.specs.List.{flat_map}
 use Rattle.std.specs.List.Sorted.{IsPermutation}
@@ -14,18 +14,18 @@ use Rattle.mc_command.specs.declared.meta.MetaKind.{MetaKind}
 use Rattle.mc_command.specs.declared.meta.MetaKind.TheVariants as kind
 use Rattle.mc_reply.specs.Text.{is_hidden, text_of}
 
--- the flag `q` stands, and hides the answer
+-- the flag `q` is set and hides the answer
 abbrev pub hides : MetaKind → MetaFlags → Bool → List Answer → Bool
 hides kind flags value [] = false
 hides kind flags value (answer ∷ answers) = flags.quiet && is_hidden kind value answer
 
--- Nothing is shown of the refusal.
+-- The refusal is not reported.
 abbrev pub is_hidden_refusal : Refusal → Bool
 is_hidden_refusal refusal.Hidden = true
 is_hidden_refusal refused = false
 
--- Nothing is shown of the command: of `quit`, where `noreply` stands, and where `q` hides what was answered. A
--- refusal that isn't a hidden one is always shown, and so is a get.
+-- The command has no reply: `quit`, with `noreply`, or if `q` hides the answer. A refusal that isn't hidden
+-- is always reported, and so is a get.
 abbrev pub is_silent : Command → List Answer → Bool
 is_silent (command.Store storage) answers = storage.noreply
 is_silent (command.Get retrieval) answers = false
@@ -69,11 +69,11 @@ loud (command.MetaArithmetic arithmetic) = command.MetaArithmetic (record arithm
 loud (command.Refused refusal) = command.Refused refusal
 loud (command.Discard key refusal) = command.Discard key refusal
 
--- The reply to a quiet command is empty or that to the loud one, whatever was answered.
+-- The reply to a quiet command is empty or equal to that of the loud one, whatever the answers are.
 abbrev pub IsEmptyOrLoud : Type 0
 IsEmptyOrLoud = (command : Command) (answers : List Answer) → (text_of command answers ≡ []) ⊎ (text_of command answers ≡ text_of (loud command) answers)
 
--- Two texts are the same, but that the texts of some flags stand in the order of these and of those.
+-- Two texts are equal but for the order of the texts of some flags.
 pub record DiffersInOrder (flags others : List ReturnFlag) (text other : List ℕ) : Type 0 where
   pub before : List ℕ
   pub behind : List ℕ
@@ -81,7 +81,7 @@ pub record DiffersInOrder (flags others : List ReturnFlag) (text other : List �
   pub text_is : text ≡ before ++ (flat_map one flags ++ behind)
   pub other_is : other ≡ before ++ (flat_map one others ++ behind)
 
--- Returned flags in another order change nothing but the order in which they are returned.
+-- Another order of the flags changes only the order of the returned ones.
 abbrev pub OrdersFlags : Type 0
 OrdersFlags = (command : Command) (returned : List ReturnFlag) → IsPermutation (returned_in command) returned → (answers : List Answer) →
     DiffersInOrder (returned_in command) returned (text_of command answers) (text_of (with_returned command returned) answers)

@@ -1,16 +1,16 @@
-//! Writes the block of a value behind its line.
+//! Writing a value's data block.
 ghost use Rattle.std.specs.Prelude.{◌++◌, codes};
 ghost use Rattle.mc_wire.specs.Outlet.{Writes};
 
 use mc_item::Value;
 use mc_wire::{OutFault, Outlet, put_all, put_parts};
 
-/// A value of fewer bytes is copied, also where the outlet keeps what it is given: to keep it by itself would take more memory
-/// than it has bytes.
+/// Smallest size of a value, in bytes, that an outlet may share. A reference to a smaller one would
+/// take more memory than a copy.
 const SHARED_LEAST: usize = 1_024;
 
-/// Writes the end of the line before a value, the value, and the end of its block. An outlet that keeps what it is given may
-/// share a long value.
+/// Writes the end of the header line, the value and its line end. An outlet that stores its bytes
+/// may share a large value instead of copying it.
 pub(crate) fn put_block<O: Outlet>(out: &mut O, line: &[u8], value: &Value) -> Result<(), OutFault>
     ensures { Writes (line.now ++ (value.now ++ codes "\r\n")) result (O.sight out.old)
         (O.sight out.new) }

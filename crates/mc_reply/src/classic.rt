@@ -1,4 +1,4 @@
-//! The replies of the classic commands.
+//! Replies of the classic commands.
 ghost use Rattle.std.specs.Prelude.{◌≡◌, ◌≤◌, ◌+◌, ◌∷◌, [], ◌++◌, length, codes, decimal};
 ghost use Rattle.std.specs.List.{concat, list_any};
 ghost use Rattle.mc_wire.specs.Outlet.{Writes};
@@ -17,7 +17,7 @@ use mc_command::Keys;
 use mc_item::{Answer, Value};
 use mc_wire::{KEY_LIMIT, OutFault, Outlet, WordWalk, put_all, put_parts};
 
-/// Whether an answer says that memory ran out.
+/// Whether some answer reports that memory was refused.
 pub fn any_lacks_memory(slots: &[Option<Answer>]) -> bool
     ensures { result ≡ list_any lacks_memory slots.now }
 {
@@ -30,7 +30,7 @@ fn slot_lacks_memory(slot: &Option<Answer>) -> bool
     matches!(slot, Some(Answer::NoMemory))
 }
 
-/// Writes the line of the first answer, in which too large may count as not stored.
+/// Writes the line of the first answer. With `lenient`, too large counts as not stored.
 pub fn put_first_line<O: Outlet>(
     out: &mut O,
     lenient: bool,
@@ -46,7 +46,7 @@ pub fn put_first_line<O: Outlet>(
     }
 }
 
-/// Writes the line of an answer; nothing for an answer that has none.
+/// Writes the line of an answer; nothing if it has none.
 pub fn put_line<O: Outlet>(out: &mut O, answer: &Answer) -> Result<(), OutFault>
     ensures { Writes (answer_line answer.now) result (O.sight out.old) (O.sight out.new) }
 {
@@ -56,7 +56,7 @@ pub fn put_line<O: Outlet>(out: &mut O, answer: &Answer) -> Result<(), OutFault>
     }
 }
 
-/// The line of an answer; nothing for an answer that has none, and for a number, whose line is not fixed.
+/// The fixed line of an answer; empty if it has none, or if it is a number.
 pub fn line_of(answer: &Answer) -> &'static [u8]
     ensures { result.now ≡ fixed_line answer.now }
 {
@@ -90,7 +90,7 @@ fn put_number_line<O: Outlet>(out: &mut O, number: u64) -> Result<(), OutFault>
     put_parts(out, &[digits.format(number).as_bytes(), b"\r\n"])
 }
 
-/// Writes the items found, in the order of the keys, and the line that ends them.
+/// Writes the items found, in the order of the keys, and `END`.
 pub fn put_values<O: Outlet>(
     out: &mut O,
     keys: &Keys,
@@ -129,7 +129,7 @@ fn put_items<O: Outlet>(
     Ok(())
 }
 
-/// Writes an item, where one was found.
+/// Writes an item, if one was found.
 fn put_slot<O: Outlet>(
     out: &mut O,
     key: &[u8],
@@ -190,7 +190,7 @@ fn put_item<O: Outlet>(
     }
 }
 
-/// Writes an item whose line, with a short value, has room in `ROOM` bytes.
+/// Writes an item whose header, with a short value, fits into `ROOM` bytes.
 fn put_plain_item<O: Outlet, const ROOM: usize>(
     out: &mut O,
     key: &[u8],

@@ -1,4 +1,4 @@
-//! The replies that no answer changes.
+//! Replies that don't depend on answers.
 ghost use Rattle.std.specs.Prelude.{◌≡◌};
 ghost use Rattle.mc_wire.specs.Outlet.{Writes};
 ghost use Rattle.mc_reply.specs.Text.{refusal_line, fixed_text, memory_line};
@@ -7,17 +7,17 @@ use crate::form::Fixed;
 use mc_command::{Profile, Refusal};
 use mc_wire::{OutFault, Outlet, put_all};
 
-/// The line of a command that found no memory.
+/// The reply to a command for which memory was refused.
 pub const MEMORY_LINE: &[u8] = b"SERVER_ERROR out of memory\r\n";
 
-/// Writes a reply that no answer changes. Where the outlet fails, it took a beginning of it.
+/// Writes a reply that doesn't depend on answers. On an error, a prefix was written.
 pub fn put_fixed<O: Outlet>(out: &mut O, fixed: Fixed) -> Result<(), OutFault>
     ensures { Writes (fixed_text fixed) result (O.sight out.old) (O.sight out.new) }
 {
     put_all(out, fixed_line(fixed))
 }
 
-/// A reply that no answer changes.
+/// The text of a reply that doesn't depend on answers.
 pub fn fixed_line(fixed: Fixed) -> &'static [u8]
     ensures { result.now ≡ fixed_text fixed }
 {
@@ -32,7 +32,7 @@ pub fn fixed_line(fixed: Fixed) -> &'static [u8]
     }
 }
 
-/// The line of a refusal.
+/// The line of a refusal (protocol.txt, "Error strings").
 fn refused_line(refusal: Refusal) -> &'static [u8]
     ensures { result.now ≡ refusal_line refusal }
 {
@@ -52,7 +52,7 @@ fn refused_line(refusal: Refusal) -> &'static [u8]
     }
 }
 
-/// Writes the line of a command that found no memory.
+/// Writes the reply to a command for which memory was refused.
 pub fn put_memory_line<O: Outlet>(out: &mut O) -> Result<(), OutFault>
     ensures { Writes memory_line result (O.sight out.old) (O.sight out.new) }
 {

@@ -1,4 +1,4 @@
-//! The form of a reply: what is known of its text before the answers come, and a slot for each answer.
+//! Pending replies: what is known of a reply before the answers come, and a slot for each answer.
 ghost use Rattle.std.specs.Prelude.{◌≡◌, ◌<◌, ◌↔◌, ◌∷◌, [], Some, None, IsTrue, IfOk, length, replicate, slice_set};
 ghost use Rattle.mc_reply.specs.Slots.{missing_in};
 
@@ -10,12 +10,12 @@ use std::alloc::{AllocError, Global};
 use std::marker::Model;
 use std::{mem, slice};
 
-/// What the text of a reply depends on beside the answers.
+/// What a reply's text depends on besides the answers.
 #[derive(Drop)]
 pub enum Shape {
-    /// A text that no answer changes.
+    /// A text that doesn't depend on answers.
     Fixed(Fixed),
-    /// The line of the answer, or nothing.
+    /// The line of the answer, or nothing with `noreply`.
     Line {
         noreply: bool,
         /// Too large counts as not stored.
@@ -26,31 +26,31 @@ pub enum Shape {
         keys: Keys,
         with_unique: bool,
     },
-    /// The counts of all shards together.
+    /// The statistics summed over all shards.
     Stats,
     /// The reply of a meta command.
     Meta {
         kind: MetaKind,
         flags: MetaFlags,
-        /// The value, or number, of a hit is shown.
+        /// Whether the value, or the number, is returned on a hit.
         value: bool,
-        /// The key, where the reply shows it.
+        /// The key, if the reply returns it.
         key: Option<Key>,
         /// Too large counts as not stored.
         lenient: bool,
     },
 }
 
-/// A reply that no answer changes.
+/// A reply that doesn't depend on answers.
 #[derive(Clone, Copy)]
 pub enum Fixed {
-    /// Nothing at all: `quit`, and `verbosity` with `noreply`.
+    /// No reply: `quit`, or `verbosity` with `noreply`.
     Nothing,
-    /// `OK`, to `verbosity`.
+    /// `OK`, for `verbosity`.
     Ok,
-    /// `VERSION ..`, by the profile.
+    /// `VERSION` and the profile's version.
     Version(Profile),
-    /// `END`, where `stats` has nothing to show.
+    /// `END`, for a `stats` with nothing to show.
     End,
     /// `MN`.
     MetaNoop,
@@ -58,15 +58,15 @@ pub enum Fixed {
     Refused(Refusal),
 }
 
-/// The answers of a command's parts, as far as they have come. One part takes no room of its own.
+/// The answers of a command's parts received so far. A single part needs no allocation.
 pub struct Slots {
     kept: Kept,
-    /// How many answers have not come yet.
+    /// Number of answers still to come.
     missing: usize,
 }
 
 impl Drop for Slots {
-    /// By hand, so that to let one go is one call for whoever holds it (docs/DECISIONS.md).
+    /// Written by hand, so that its owners drop it by a single call (docs/DECISIONS.md, F20).
     #[inline(always)]
     fn drop(self) {
         let Slots {
@@ -76,7 +76,7 @@ impl Drop for Slots {
     }
 }
 
-/// What the slots are kept in.
+/// Storage of the slots.
 #[derive(Drop)]
 enum Kept {
     One(Option<Answer>),
@@ -97,7 +97,7 @@ impl Model for Slots {
 }
 
 impl Slots {
-    /// No slots, for a command that asks no shard.
+    /// No slots, for a command without pieces.
     pub fn none(alloc: Global) -> Slots
         ensures { result ≡ [] }
     {
@@ -107,7 +107,7 @@ impl Slots {
         }
     }
 
-    /// One empty slot. It takes no memory.
+    /// One empty slot. Allocates nothing.
     pub fn one() -> Slots
         ensures { result ≡ None ∷ [] }
     {
@@ -117,7 +117,7 @@ impl Slots {
         }
     }
 
-    /// Empty slots, `count` of them.
+    /// `count` empty slots.
     pub fn empty(alloc: Global, count: usize) -> Result<Slots, AllocError>
         ensures { IfOk result (λ slots. slots ≡ replicate count None) }
     {
@@ -134,7 +134,7 @@ impl Slots {
         })
     }
 
-    /// The answers by part, with `None` where one has not come.
+    /// The answers by part; `None` for one that hasn't come.
     pub fn answers(&self) -> &[Option<Answer>]
         ensures { result.now ≡ self.now }
     {
@@ -144,14 +144,14 @@ impl Slots {
         }
     }
 
-    /// Whether every part is answered. The slots are not looked through.
+    /// Whether each part is answered, by a counter.
     pub fn is_filled(&self) -> bool
         ensures { IsTrue result ↔ (missing_in self.now ≡ 0) }
     {
         self.missing == 0
     }
 
-    /// Puts the answer of a part into its slot.
+    /// Stores the answer of a part.
     pub fn fill(&mut self, part: usize, answer: Answer)
         requires { part < length self.old }
         ensures { self.new ≡ slice_set self.old part (Some answer) }
@@ -166,17 +166,17 @@ impl Slots {
     }
 }
 
-/// The form of a reply, with a slot for the answer of each part.
+/// A pending reply, with a slot for the answer of each part.
 pub struct Form {
     pub ticket: Ticket,
-    /// The kind of the command's pieces; of no meaning where it has none.
+    /// The kind of the command's pieces; meaningless if it has none.
     pub kind: Kind,
     pub shape: Shape,
     pub slots: Slots,
 }
 
 impl Drop for Form {
-    /// By hand, so that to let one go is one call for whoever holds it (docs/DECISIONS.md).
+    /// Written by hand, so that its owners drop it by a single call (docs/DECISIONS.md, F20).
     #[inline(always)]
     fn drop(self) {
         let Form {
@@ -189,7 +189,7 @@ impl Drop for Form {
 }
 
 impl Form {
-    /// Puts the answer of a part into its slot.
+    /// Stores the answer of a part.
     pub fn fill(&mut self, part: usize, answer: Answer)
         requires { part < length self.old.slots }
         ensures { self.new ≡

@@ -1,26 +1,28 @@
-//! The line before a value, and a short value with it, put together in a room of its own so that it goes out in one write.
+//! The header line of a value, assembled in a stack buffer together with a short value, so that
+//! both are written at once.
 ghost use Rattle.std.specs.Prelude.{◌≡◌, ◌+◌, ◌++◌, ◌≤◌, ◌∷◌, [], codes, decimal, length, take};
 ghost use Rattle.std.specs.List.{concat};
 
 use crate::number::{DIGIT_LIMIT, place_number};
 
-/// Room for the longest line before a value: `VALUE`, a key, the client flags, the size and the cas unique; and for a short
-/// value behind it.
+/// Buffer size for the longest header: `VALUE`, key, client flags, size and cas unique, with a
+/// short value behind it.
 pub const HEADER_LIMIT: usize = 512;
 
-/// Room enough where the key is short. A room is filled with zeros before it is used, so a smaller one is made sooner.
+/// Buffer size that suffices for a short key. A buffer is zeroed before use, so a smaller one is
+/// cheaper.
 pub const SHORT_HEADER: usize = 256;
 
-/// The most bytes beside the key: the rest of the line before a value, and a short value with the end of its block.
+/// Maximum length of a header without its key, with a short value and its line end.
 pub const BESIDE_KEY: usize = 172;
 
-/// The most bytes beside the key in the front of that line, up to the size.
+/// Maximum length of a header without its key, up to the size.
 pub const LINE_BESIDE_KEY: usize = 48;
 
-/// The most bytes of a value that is put behind the line before it, so that both go out in one write.
+/// Maximum size of a value that is written together with its header.
 pub const SHORT_VALUE: usize = 120;
 
-/// Puts a part into the room behind the first `at` bytes, and tells where it ends.
+/// Copies a part to index `at` of the buffer, and returns the index behind it.
 #[inline(always)]
 pub fn place(room: &mut [u8], at: usize, part: &[u8]) -> usize
     requires { at + length part.now ≤ length room.old }
@@ -32,8 +34,8 @@ pub fn place(room: &mut [u8], at: usize, part: &[u8]) -> usize
     end
 }
 
-/// Puts the front of the line before a value into the front of the room, up to the size, and tells where it ends. Each part is
-/// placed by a call of its own, so that the compiler knows how long the constant ones are.
+/// Writes the header up to the size to the front of the buffer, and returns its length. Each part
+/// is copied by a call of its own, so that the compiler knows the lengths of the constant ones.
 #[inline(always)]
 pub fn place_line(room: &mut [u8], key: &[u8], flags: u32, size: usize) -> usize
     requires { length key.now + LINE_BESIDE_KEY ≤ length room.old }
@@ -50,7 +52,7 @@ pub fn place_line(room: &mut [u8], key: &[u8], flags: u32, size: usize) -> usize
     place_number(room, end, size as u64)
 }
 
-/// Puts a unique and the end of the line behind the first `at` bytes, and tells where it ends.
+/// Copies a cas unique and the line end to index `at`, and returns the index behind them.
 #[inline(always)]
 pub fn place_unique(room: &mut [u8], at: usize, unique: u64) -> usize
     requires { at + DIGIT_LIMIT + 3 ≤ length room.old }
@@ -63,7 +65,8 @@ pub fn place_unique(room: &mut [u8], at: usize, unique: u64) -> usize
     place(room, end, b"\r\n")
 }
 
-/// Puts the front of a meta reply with a value into the front of the room, and gives its text: `VA` and the size.
+/// Writes `VA` and the size to the front of the buffer, and returns them: the start of a meta reply
+/// with a value.
 #[inline(always)]
 pub fn sized(room: &mut [u8], size: usize) -> &[u8]
     requires { DIGIT_LIMIT + 3 ≤ length room.old }

@@ -1,12 +1,12 @@
-//! Laws of the reply of every command.
+//! Laws of all replies.
 ghost use Rattle.mc_reply.specs.TextLaws.{IsEmptyOrLoud, OrdersFlags};
 
-/// The reply to a quiet command is empty or that to the loud one.
+/// The reply to a quiet command is empty, or equal to the reply to the same command without `q`.
 pub fn quiet_replies_are_empty_or_loud()
     ensures { IsEmptyOrLoud }
 {}
 
-/// Returned flags in another order change nothing but the order in which they are returned.
+/// Another order of the flags changes only the order of the returned ones.
 pub fn flags_change_their_order_alone()
     ensures { OrdersFlags }
 {}

@@ -1,4 +1,5 @@
-//! The text of every reply: its form and its shape, what it says, the laws of what replies say, and what writes them.
+//! The text of each reply: pending replies, their specification and its laws, and the code that
+//! writes them.
 #![tactic(auto)]
 
 mod block;

@@ -1,4 +1,4 @@
-//! The replies of the meta commands (protocol.txt, "Meta Commands").
+//! Replies of the meta commands (protocol.txt, "Meta Commands").
 ghost use Rattle.std.specs.Prelude.{◌≡◌, ◌∷◌, ◌++◌, [], codes, decimal};
 ghost use Rattle.std.specs.List.{concat};
 ghost use Rattle.mc_item.specs.declared.answer.Answer.TheVariants as answers;
@@ -15,10 +15,11 @@ use mc_command::{MetaFlags, MetaKind, Profile, ReturnFlag};
 use mc_item::{Answer, Marks, MetaDone, MetaHit};
 use mc_wire::{BASE64_LIMIT, Key, OutFault, Outlet, put_all, put_parts};
 
-/// Room for `VA` and the size of a value.
+/// Buffer size for `VA` and the size of a value.
 const SIZE_LIMIT: usize = 48;
 
-/// Writes the reply of a meta command, in which too large may count as not stored, or nothing where `q` hides it.
+/// Writes the reply of a meta command; nothing if `q` hides it. With `lenient`, too large counts as
+/// not stored.
 pub fn put_meta<O: Outlet>(
     out: &mut O,
     kind: MetaKind,
@@ -109,7 +110,7 @@ fn put_found<O: Outlet>(
     put_block(out, end, &hit.value)
 }
 
-/// Writes the reply of what `ms` or `ma` did, with the number where `v` shows it.
+/// Writes the reply to a successful `ms` or `ma`, with the number if `v` asks for it.
 fn put_done<O: Outlet>(
     out: &mut O,
     flags: &MetaFlags,
@@ -132,7 +133,7 @@ fn put_done<O: Outlet>(
     put_parts(out, &[b"\r\n", number, b"\r\n"])
 }
 
-/// Writes a reply without a value: a code, the flags, and what ends the line.
+/// Writes a reply without a value: code, flags and line end.
 fn put_head<O: Outlet>(
     out: &mut O,
     code: &[u8],
@@ -149,7 +150,7 @@ fn put_head<O: Outlet>(
     put_all(out, end)
 }
 
-/// Writes the reply to what stored or changed nothing.
+/// Writes the reply to a command that stored or changed nothing.
 fn put_failed<O: Outlet>(
     out: &mut O,
     code: &[u8],
@@ -166,7 +167,8 @@ fn put_failed<O: Outlet>(
     put_all(out, b"\r\n")
 }
 
-/// Writes the returned flags where nothing was stored or changed, in the order of the request.
+/// Writes the returned flags of a command that stored or changed nothing, in the order of the
+/// request.
 fn put_failed_flags<O: Outlet>(
     out: &mut O,
     kind: MetaKind,
@@ -183,7 +185,8 @@ fn put_failed_flags<O: Outlet>(
     Ok(())
 }
 
-/// Writes such a flag: by memcached's rules `ms` shows the unique 0 of what it did not store.
+/// Writes one such flag. By memcached's rules, `ms` returns unique 0 for an item that it didn't
+/// store.
 fn put_failed_flag<O: Outlet>(
     out: &mut O,
     kind: MetaKind,
@@ -202,7 +205,7 @@ fn put_failed_flag<O: Outlet>(
     }
 }
 
-/// Writes the front of a reply with a value: its size, and the flags.
+/// Writes the start of a reply with a value: size and flags.
 fn put_size<O: Outlet>(
     out: &mut O,
     size: usize,
@@ -218,7 +221,7 @@ fn put_size<O: Outlet>(
     put_flags(out, flags, key, answer)
 }
 
-/// The marks of a hit, in their order, and the end of the line.
+/// The flags `W`, `X` and `Z` of a hit, in the order of the profile, and the line end.
 pub fn marks_line(profile: Profile, marks: Marks) -> &'static [u8]
     ensures { result.now ≡ spec.marks_text profile marks ++ codes "\r\n" }
 {
@@ -228,7 +231,7 @@ pub fn marks_line(profile: Profile, marks: Marks) -> &'static [u8]
     }
 }
 
-/// The marks of a hit in memcached's order, and the end of the line.
+/// The flags `W`, `X` and `Z` in memcached's order, and the line end.
 fn memcached_marks(marks: Marks) -> &'static [u8]
     ensures { result.now ≡ spec.marks_text Profile.DropIn marks ++ codes "\r\n" }
 {
@@ -244,7 +247,7 @@ fn memcached_marks(marks: Marks) -> &'static [u8]
     }
 }
 
-/// The marks of a hit in this server's own order, and the end of the line.
+/// The flags `W`, `X` and `Z` in native order, and the line end.
 fn own_marks(marks: Marks) -> &'static [u8]
     ensures { result.now ≡ spec.marks_text Profile.Own marks ++ codes "\r\n" }
 {
@@ -298,7 +301,7 @@ fn put_flag<O: Outlet>(
     }
 }
 
-/// Writes the flag `k`, with ` b` behind a key in base64.
+/// Writes the flag `k`, followed by ` b` if the key is in base64.
 fn put_key<O: Outlet>(out: &mut O, base64: bool, key: &Option<Key>) -> Result<(), OutFault>
     ensures { Writes (key_flag base64 key.now) result (O.sight out.old) (O.sight out.new) }
 {
@@ -312,7 +315,7 @@ fn put_key<O: Outlet>(out: &mut O, base64: bool, key: &Option<Key>) -> Result<()
     }
 }
 
-/// Writes a flag of what was found, stored or changed.
+/// Writes a flag of the item that was found, stored or changed.
 fn put_item_flag<O: Outlet>(out: &mut O, answer: &Answer, flag: ReturnFlag) -> Result<(), OutFault>
     ensures { Writes (item_flag answer.now flag) result (O.sight out.old) (O.sight out.new) }
 {
@@ -370,7 +373,7 @@ fn put_done_flag<O: Outlet>(out: &mut O, done: &MetaDone, flag: ReturnFlag) -> R
     }
 }
 
-/// Writes the flag `t`: the seconds left, -1 for never.
+/// Writes the flag `t`: seconds to live, or -1 if the item doesn't expire.
 fn put_left<O: Outlet>(out: &mut O, left: Option<u64>) -> Result<(), OutFault>
     ensures { Writes (left_flag left) result (O.sight out.old) (O.sight out.new) }
 {
@@ -380,7 +383,7 @@ fn put_left<O: Outlet>(out: &mut O, left: Option<u64>) -> Result<(), OutFault>
     }
 }
 
-/// Writes a flag's letter and its number.
+/// Writes a flag's letter and a number.
 fn put_number<O: Outlet>(out: &mut O, letter: &[u8], number: u64) -> Result<(), OutFault>
     ensures { Writes (concat (letter.now ∷ decimal number ∷ [])) result (O.sight out.old)
         (O.sight out.new) }

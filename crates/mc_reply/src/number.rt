@@ -1,14 +1,15 @@
-//! Numbers, written into a room that a reply's line is put together in.
+//! Decimal numbers, written to the buffer in which a reply's line is assembled.
 ghost use Rattle.std.specs.Prelude.{◌≡◌, ◌+◌, ◌++◌, ◌<◌, ◌≤◌, decimal, length, take};
 
 use crate::header::place;
 use itoa::Buffer;
 
-/// The most digits that a number has.
+/// Maximum number of digits.
 pub const DIGIT_LIMIT: usize = 20;
 
-/// Puts a number into the room behind the first `at` bytes, and tells where it ends. Most client flags and sizes have up to
-/// three digits: these are placed at once, and not in a room of their own first.
+/// Writes a number to index `at` of the buffer, and returns the index behind it. Numbers of up to
+/// three digits, as most client flags and sizes are, are written directly, others through a
+/// temporary buffer.
 #[inline(always)]
 #[tactic(auto, using(crate::proofs::Digits::decimal_one, crate::proofs::Digits::decimal_two, crate::proofs::Digits::decimal_three))]
 pub fn place_number(room: &mut [u8], at: usize, number: u64) -> usize
@@ -30,7 +31,7 @@ pub fn place_number(room: &mut [u8], at: usize, number: u64) -> usize
     place(room, at, digits.format(number).as_bytes())
 }
 
-/// The character of a digit.
+/// The ASCII digit of a number below 10.
 #[inline(always)]
 fn digit(number: u64) -> u8
     requires { number < 10 }

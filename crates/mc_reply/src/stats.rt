@@ -9,10 +9,10 @@ use itoa::Buffer;
 use mc_item::{Answer, Stat};
 use mc_wire::{OutFault, Outlet, put_all, put_parts};
 
-/// The release of memcached that its rules follow.
+/// The memcached release that is reported with `--drop-in`.
 const RELEASE: &[u8] = b"1.6.18";
 
-/// Writes the counts of all shards together, each of which has its slot.
+/// Writes the statistics summed over all shards, one slot each.
 pub fn put_stats<O: Outlet>(out: &mut O, slots: &[Option<Answer>]) -> Result<(), OutFault>
     ensures { Writes (stats_over slots.now) result (O.sight out.old) (O.sight out.new) }
 {
@@ -22,7 +22,7 @@ pub fn put_stats<O: Outlet>(out: &mut O, slots: &[Option<Answer>]) -> Result<(),
     put_all(out, b"END\r\n")
 }
 
-/// Writes each number.
+/// Writes each statistic.
 fn put_sums<O: Outlet>(out: &mut O, slots: &[Option<Answer>]) -> Result<(), OutFault>
     ensures { Writes (sums_text slots.now) result (O.sight out.old) (O.sight out.new) }
 {
@@ -32,7 +32,7 @@ fn put_sums<O: Outlet>(out: &mut O, slots: &[Option<Answer>]) -> Result<(), OutF
     Ok(())
 }
 
-/// A number of all shards together. It starts anew after 2^64 - 1.
+/// A statistic summed over all shards; it wraps after 2^64 - 1.
 fn sum_of(stat: Stat, slots: &[Option<Answer>]) -> u64
     ensures { result ≡ sum_by (slot_stat stat) slots.now % 2 ^ 64 }
 {
@@ -44,7 +44,7 @@ fn sum_of(stat: Stat, slots: &[Option<Answer>]) -> u64
     sum
 }
 
-/// A number of one shard.
+/// A statistic of one shard.
 fn number_in(stat: Stat, slot: &Option<Answer>) -> u64
     ensures { result ≡ slot_stat stat slot.now % 2 ^ 64 }
 {
@@ -54,7 +54,7 @@ fn number_in(stat: Stat, slot: &Option<Answer>) -> u64
     }
 }
 
-/// Writes a line whose value is a number.
+/// Writes a `STAT` line with a number.
 fn put_number<O: Outlet>(out: &mut O, name: &[u8], number: u64) -> Result<(), OutFault>
     ensures { Writes (stat_text name.now (decimal number)) result (O.sight out.old)
         (O.sight out.new) }
@@ -63,7 +63,7 @@ fn put_number<O: Outlet>(out: &mut O, name: &[u8], number: u64) -> Result<(), Ou
     put_stat(out, name, digits.format(number).as_bytes())
 }
 
-/// Writes a line.
+/// Writes a `STAT` line.
 fn put_stat<O: Outlet>(out: &mut O, name: &[u8], value: &[u8]) -> Result<(), OutFault>
     ensures { Writes (stat_text name.now value.now) result (O.sight out.old) (O.sight out.new) }
 {

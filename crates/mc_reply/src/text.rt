@@ -1,4 +1,4 @@
-//! Writes the text of one reply.
+//! Writing one reply.
 ghost use Rattle.std.specs.Prelude.{◌≡◌, List, Some, map, Option};
 ghost use Rattle.mc_item.specs.declared.answer.Answer.{Answer};
 ghost use Rattle.mc_wire.specs.Outlet.{Writes};
@@ -13,7 +13,7 @@ use crate::stats::put_stats;
 use mc_item::Answer;
 use mc_wire::{OutFault, Outlet, put_all};
 
-/// Writes the reply of a form whose parts are all answered. Where the outlet fails, it took a beginning of it.
+/// Writes the reply of a completely answered form. On an error, a prefix was written.
 pub fn put_reply<O: Outlet>(out: &mut O, form: &Form) -> Result<(), OutFault>
     ensures { (answers : List Answer) → form.now.slots ≡ map (λ answer. Some answer) answers →
         Writes (shape_text form.now.shape answers) result (O.sight out.old) (O.sight out.new) }
@@ -21,7 +21,7 @@ pub fn put_reply<O: Outlet>(out: &mut O, form: &Form) -> Result<(), OutFault>
     put_slots(out, &form.shape, form.slots.answers())
 }
 
-/// Writes the reply of a shape, as far as its slots are filled.
+/// Writes the reply of a shape from its filled slots.
 #[tactic(auto, unfolding(crate::specs::internal::SlotTexts::slots_text))]
 fn put_slots<O: Outlet>(
     out: &mut O,

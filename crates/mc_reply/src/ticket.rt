@@ -1,5 +1,5 @@
-//! The number of a command on its connection.
+//! The sequence number of a command on its connection.
 
-/// The place of a command in the list of commands of its connection, from 0.
+/// The index of a command in its connection's list of commands, from 0.
 #[derive(Clone, Copy, Debug, PartialEq, Eq)]
 pub struct Ticket(pub u64);

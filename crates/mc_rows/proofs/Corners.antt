@@ -1,5 +1,5 @@
--- Corners of the protocol that are easily got wrong, each computed by the definitions alone: the command table,
--- the pieces, the step and the texts. The clock stands at the second 1000.
+-- Corners of the protocol that are easily got wrong, each computed by the definitions alone: the command
+-- table, the pieces, the step and the texts. The time is second 1000.
 use Rattle.std.proofs.Common.{◌≡◌, ℕ, List, [], ◌∷◌, ◌++◌, Option, Some, None, true, false, refl}
 use Rattle.std.specs.Prelude.{codes}
 use Rattle.std.specs.FinMap.{empty}
@@ -32,7 +32,7 @@ use Rattle.mc_reply.specs.Text.{shape_text}
 use Rattle.mc_reply.specs.Shape.{shape_of}
 use Rattle.mc_rows.specs.Conversation.{Sent, replies, reply_on, outcomes_on, step_on, found_by}
 
--- The table of outcomes is the step, whatever stands under the key.
+-- The table of outcomes equals the step, whatever item is under the key.
 step_on_is_step : (state : State) (op : Op) → step_on state op (found_by state op) ≡ step_of state op
 unfolding step_of key_of
 step_on_is_step state (op.Store asked) = refl
@@ -79,7 +79,7 @@ record Lines : Type 0 where
   -- Only spaces part words.
   tab_parts_no_words : replies 1000 (line (codes "get" ++ (9 ∷ []) ++ codes "a\r") ∷ [])
       ≡ codes "ERROR\r\n"
-  -- A data block is counted, whatever stands in it: here its end is missing.
+  -- The bytes of a data block are counted, whatever they are: here its end is missing.
   line_feed_ends_no_block : replies 1000 (block (codes "set a 0 0 1\r") (codes "x\nm") ∷ [])
       ≡ codes "CLIENT_ERROR bad data chunk\r\n"
   -- A line without words is no command.
@@ -97,13 +97,13 @@ record Lines : Type 0 where
   -- A skipped block is not looked at.
   skipped_without_an_end : replies 1000 (block (codes "set a x 0 2\r") (codes "abcd") ∷ [])
       ≡ codes "CLIENT_ERROR bad command line format\r\n"
-  -- A wrong number of words skips too, where the count stands in its place.
+  -- A wrong number of words skips a block too, if the length is in its place.
   too_many_words : replies 1000 (block (codes "set a 0 0 1 noreply x\r") (codes "z\r\n") ∷ block (codes "cas a 0 0 1\r") (codes "z\r\n") ∷ [])
       ≡ codes "CLIENT_ERROR bad command line format\r\nCLIENT_ERROR bad command line format\r\n"
   -- Without a count in its place nothing is skipped; 21 digits are no number.
   no_count : replies 1000 (line (codes "set a 0 1\r") ∷ line (codes "set a 0 0 000000000000000000001\r") ∷ [])
       ≡ codes "CLIENT_ERROR bad command line format\r\nCLIENT_ERROR bad command line format\r\n"
-  -- A value that is too large is told only where nothing else is wrong, and `noreply` does not hide it.
+  -- A value that is too large is reported only if nothing else is wrong, and `noreply` does not hide it.
   too_large_is_the_last_fault : replies 1000 (block (codes "set a 0 0 1048577 x\r") [] ∷ block (codes "set a 0 0 1048577 noreply\r") [] ∷ [])
       ≡ codes "CLIENT_ERROR bad command line format\r\nSERVER_ERROR object too large for cache\r\n"
   -- Of a meta line the flags are judged first, then the key, then the count.
@@ -112,13 +112,13 @@ record Lines : Type 0 where
   -- Base64 has one spelling for each key, and the block is skipped.
   base64_that_is_not_canonical : replies 1000 (block (codes "ms YR== 2 b\r") (codes "mn\r\n") ∷ [])
       ≡ codes "CLIENT_ERROR bad key\r\n"
-  -- Within one flag a duplicate is told before a token that is too long.
+  -- Within one flag, a duplicate is reported before a token that is too long.
   duplicate_before_long_token : replies 1000 (line (codes "mg a O1 Oxxxxxxxxxxxxxxxxxxxxxxxxxxxxxxxxx\r") ∷ [])
       ≡ codes "CLIENT_ERROR duplicate flag\r\n"
   -- Each meta command has its own letters, and their case counts.
   each_command_has_its_flags : replies 1000 (block (codes "ms a 0 v\r") (codes "\r\n") ∷ line (codes "mg a C1\r") ∷ line (codes "md a c\r") ∷ line (codes "ma a s\r") ∷ line (codes "mg a V\r") ∷ line (codes "ma a I\r") ∷ line (codes "md a x\r") ∷ [])
       ≡ codes "CLIENT_ERROR invalid flag\r\nCLIENT_ERROR invalid flag\r\nCLIENT_ERROR invalid flag\r\nCLIENT_ERROR invalid flag\r\nCLIENT_ERROR invalid flag\r\nCLIENT_ERROR invalid flag\r\nCLIENT_ERROR invalid flag\r\n"
-  -- `C` goes with the mode S alone.
+  -- `C` is allowed in mode S alone.
   compare_in_another_mode : replies 1000 (block (codes "ms a 2 C1 Ma\r") (codes "mn\r\n") ∷ [])
       ≡ codes "CLIENT_ERROR bad command line format\r\n"
   -- The words of `gat` are judged from left to right, and it wants a key.
@@ -144,9 +144,9 @@ lines_are : Lines
 unfolding computing
 lines_are = assumption refl
 
--- Commands, where this stands under their key: what is passed over, and what `noreply` and `q` hide
+-- Commands with this item under their key: what is skipped, and what `noreply` and `q` hide
 record Hidden : Type 0 where
-  -- What stands in a data block is no command.
+  -- The bytes of a data block are no command.
   commands_inside_a_block : reply_on (shard 0) (block (codes "set a 0 0 6\r") (codes "get a\n\r\n")) None
       ≡ codes "STORED\r\n"
   -- A token joined to a flag that takes none is passed over.
@@ -207,7 +207,7 @@ record Returned : Type 0 where
   -- of a miss too.
   only_key_and_opaque_of_a_miss : reply_on (shard 1) (line (codes "mg c s O1 t k c f h l v\r")) None
       ≡ codes "EN O1 kc\r\n"
-  -- The mark of a base64 key stands behind the key wherever `b` stood,
+  -- The mark of a base64 key follows the key wherever `b` is,
   base64_mark_behind_the_key : reply_on (shard 1) (line (codes "mg YQ== b O1 k\r")) None
       ≡ codes "EN O1 kYQ== b\r\n"
   -- and nowhere where no key is returned.
@@ -216,7 +216,7 @@ record Returned : Type 0 where
   -- A counter that is made holds its number without padding, and nothing is added to it.
   a_counter_is_made : reply_on (shard 0) (line (codes "ma a N0 J007 D5 k v t c O\r")) None
       ≡ codes "VA 1 ka t-1 c1 O\r\n7\r\n"
-  -- For a counter that is made the unique that was asked for counts as not given,
+  -- For a counter that is created, the requested unique is ignored,
   a_unique_of_nothing : reply_on (shard 0) (line (codes "ma a C9 N0 J3 v\r")) None
       ≡ codes "VA 1\r\n3\r\n"
   -- and without `N` nothing is there.
@@ -232,7 +232,7 @@ returned_are = assumption refl
 
 -- Times, and the marks of items
 record Times : Type 0 where
-  -- The time left is that after `T`, wherever `t` stands.
+  -- The time left is the one after `T`, wherever `t` is.
   time_left_is_the_new_one : reply_on (shard 1) (line (codes "mg a t T30\r")) (there (item (codes "x")))
       ≡ codes "HD t30\r\n"
   -- `T0` is for ever.
@@ -250,16 +250,16 @@ record Times : Type 0 where
   -- and one less is.
   recache_of_fewer_seconds : reply_on (shard 1) (line (codes "mg a R31\r")) (there (record (item (codes "x")) { expiry = At 1030 }))
       ≡ codes "HD W\r\n"
-  -- Who comes later is told that another was told.
+  -- A later client sees that another one was asked to recompute.
   someone_was_told : reply_on (shard 1) (line (codes "mg a\r")) (there (record (item (codes "x")) { sent = true }))
       ≡ codes "HD Z\r\n"
-  -- Who makes an item by a get is told to fill it; `T` and `R` do nothing then.
+  -- A client that creates an item by a get is asked to fill it; `T` and `R` do nothing then.
   made_by_a_get : reply_on (shard 0) (line (codes "mg a N30 T99 R50 t h l f s c v\r")) None
       ≡ codes "VA 0 t30 h0 l0 f0 s0 c1 W\r\n\r\n"
-  -- The next one is told that another was told.
+  -- The next client sees that another one was asked.
   made_before : reply_on (shard 1) (line (codes "mg a N60 t\r")) (there (record (item []) { expiry = At 1030; sent = true }))
       ≡ codes "HD t30 Z\r\n"
-  -- The first one to see a stale item is told,
+  -- The first client to see a stale item is asked to recompute it,
   stale_and_told : reply_on (shard 2) (line (codes "mg a v\r")) (there (record (item (codes "6")) { stale = true }))
       ≡ codes "VA 1 W X\r\n6\r\n"
   -- the second one is not.
@@ -293,7 +293,7 @@ record Numbers : Type 0 where
   -- and is below 2^64.
   past_64_bits : reply_on (shard 1) (line (codes "incr a 1\r")) (there (item (codes "18446744073709551616")))
       ≡ codes "CLIENT_ERROR cannot increment or decrement non-numeric value\r\n"
-  -- An increment by 0 writes the number anew.
+  -- An increment by 0 rewrites the number.
   by_nothing : reply_on (shard 1) (line (codes "incr a 0\r")) (there (item (codes "007")))
       ≡ codes "7\r\n"
   -- It wraps at 2^64,
@@ -302,7 +302,7 @@ record Numbers : Type 0 where
   -- and a decrement stops at 0.
   not_below_0 : reply_on (shard 1) (line (codes "decr a 9\r")) (there (item (codes "5")))
       ≡ codes "0\r\n"
-  -- `h` tells whether it was fetched before.
+  -- `h` returns whether the item was fetched before.
   fetched_before : reply_on (shard 1) (line (codes "mg a h\r")) (there (item (codes "x")))
       ≡ codes "HD h0\r\n"
   fetched_again : reply_on (shard 1) (line (codes "mg a h\r")) (there (record (item (codes "x")) { fetched = true }))

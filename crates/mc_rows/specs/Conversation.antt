@@ -1,4 +1,5 @@
--- What a client gets, by the definitions alone: the command table, the protocol's step and the texts of replies.
+-- The replies to a client by the definitions alone: the command table, the protocol's step and the texts of
+-- replies.
 use Rattle.std.specs.Prelude.{ℕ, false, List, map, Option}
 use Rattle.std.specs.FinMap.{get}
 use Rattle.std.specs.Option.{option_and_then}
@@ -25,12 +26,12 @@ use Rattle.mc_reply.specs.Text.{text_of}
 use Rattle.mc_store.specs.State.{State, Used}
 use Rattle.mc_store.specs.Step.{Outcome, fetch_step, store_step, counting, count_step, delete_step, touch_step, flush_step, coming, meta_get_step, meta_delete_step, stats_of}
 
--- a line without its end, and the bytes behind it that belong to it
+-- a line without its line end, and the bytes behind it that belong to it
 pub record Sent : Type 0 where
   pub line : List ℕ
   pub behind : List ℕ
 
--- what is spelled by a line of which the table says this, with the bytes behind it
+-- the command of a parsed line with the bytes behind it
 abbrev pub entry_of : Line → List ℕ → Command
 entry_of (Whole entry) behind = entry
 entry_of (Data asked count) behind = block_entry (own DEFAULT_VALUE_LIMIT) asked count behind
@@ -46,11 +47,11 @@ taken_at moment sent = record { entry = spelled sent; moment = moment; given_up 
 abbrev pub row_sizes : Sizes
 row_sizes = record { profile = Own; seats = 1; shards = 2; bytes = 65536; ring = 64; value = DEFAULT_VALUE_LIMIT; line = DEFAULT_LINE_LIMIT; window = 256 }
 
--- the replies of a server of two shards, still empty, at the moment
+-- the replies of a server of two empty shards, at this time
 abbrev pub replies : ℕ → List Sent → List ℕ
 replies moment sent = alone row_sizes (map (taken_at moment) sent)
 
--- what a shard answers where this stands under the key, and its state then
+-- the answer of a shard that has this item under the key, and its state then
 abbrev pub step_on : State → Op → Option Used → Outcome
 step_on state (op.Fetch key touch) found = fetch_step state key touch found
 step_on state (op.Store asked) found = store_step state asked (λ done. Stored) found
@@ -68,14 +69,14 @@ step_on state (op.MetaDelete asked) found =
     meta_delete_step state asked found
 step_on state (op.MetaCount asked) found = count_step state asked (λ done. MetaDone done) found
 
--- what stands under the key of an operation
+-- the item under the key of an operation
 abbrev pub found_by : State → Op → Option Used
 found_by state op = option_and_then (λ key. get state.items key) (key_of op)
 
--- the outcomes of a command's pieces where this stands under its key
+-- the outcomes of a command's pieces with this item under its key
 abbrev pub outcomes_on : State → Sent → Option Used → List Outcome
 outcomes_on state sent found = map (λ asked. step_on state asked.op found) (pieces_of state.shards (spelled sent))
 
--- the reply to a command where this stands under its key
+-- the reply to a command with this item under its key
 abbrev pub reply_on : State → Sent → Option Used → List ℕ
 reply_on state sent found = text_of (spelled sent) (map (λ outcome. outcome.0) (outcomes_on state sent found))

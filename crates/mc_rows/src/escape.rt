@@ -1,8 +1,8 @@
-//! The bytes of a row as they are written in the file of rows.
+//! Escape sequences in the file of rows.
 use std::alloc::{AllocError, Global};
 
-/// The bytes that a text stands for: `\r`, `\n`, `\t`, `\\` and `\xHH` are one byte each, `{N*TEXT}` is TEXT
-/// N times, and every other byte is itself.
+/// Decodes a text: `\r`, `\n`, `\t`, `\\` and `\xHH` are one byte each, `{N*TEXT}` is TEXT N times,
+/// and every other byte is itself.
 pub fn unescape(alloc: Global, text: &[u8]) -> Result<Vec<u8>, AllocError> {
     let mut bytes = Vec::new(alloc);
     let mut rest = text;
@@ -20,7 +20,8 @@ pub fn unescape(alloc: Global, text: &[u8]) -> Result<Vec<u8>, AllocError> {
     Ok(bytes)
 }
 
-/// Adds the byte that stands behind a backslash; tells how many bytes of the text that takes.
+/// Appends the byte of an escape sequence, without its backslash. Returns the length of the
+/// sequence.
 fn push_escape(bytes: &mut Vec<u8>, text: &[u8]) -> Result<usize, AllocError> {
     let (byte, taken) = match text {
         [b'r', ..] => (b'\r', 1),
@@ -42,7 +43,7 @@ fn hex_digit(byte: u8) -> u8 {
     }
 }
 
-/// Adds what stands behind an opening brace as often as it says; tells how many bytes of the text that takes.
+/// Appends the repeated text behind an opening brace. Returns the number of bytes consumed.
 fn push_repeated(bytes: &mut Vec<u8>, text: &[u8]) -> Result<usize, AllocError> {
     let Some(close) = text.iter().position(|byte| *byte == b'}') else {
         return Ok(0);
@@ -59,7 +60,7 @@ fn push_repeated(bytes: &mut Vec<u8>, text: &[u8]) -> Result<usize, AllocError> 
     Ok(close + 1)
 }
 
-/// The number that the digits spell; at most a thousand million.
+/// Parses decimal digits; at most a thousand million.
 pub fn number(digits: &[u8]) -> u64 {
     let mut value = 0u64;
     for digit in digits {

@@ -1,30 +1,30 @@
-//! How many bytes a connection holds while it is fed: those that are unread, and those of an open block. At no
-//! moment are they more than the longest line and the largest block.
+//! Measures how many bytes a connection holds while it is fed: the unread ones, and those of an
+//! incomplete block. They never exceed the longest line plus the largest block.
 use crate::escape::unescape;
 use mc_conn::{Conn, Taken};
 use mc_wire::{DEFAULT_LINE_LIMIT, DEFAULT_VALUE_LIMIT, GREATEST_VALUE_LIMIT, LEAST_VALUE_LIMIT};
 use std::alloc::Global;
 
-/// The value limits of the connections that are fed.
+/// The value limits to try.
 const LIMITS: [usize; 3] = [LEAST_VALUE_LIMIT, DEFAULT_VALUE_LIMIT, GREATEST_VALUE_LIMIT];
 
 /// A window that no row fills.
 const MANY: usize = 4_096;
 
-/// Every command's moment; what is held doesn't depend on it.
+/// The Unix time of every command; it doesn't matter here.
 const MOMENT: u64 = 1_000;
 
 /// How a connection is fed.
 #[derive(Clone, Copy)]
 struct Feeding {
-    /// The most bytes that are fed at once.
+    /// Maximum number of bytes fed at once.
     piece: usize,
-    /// The most commands that may be open. None is answered, so that with a window of 1 the bytes behind the first command
-    /// stay unread.
+    /// Maximum number of open commands. None is answered, so with a window of 1 the bytes behind
+    /// the first command stay unread.
     window: usize,
 }
 
-/// Many bytes at once, and a window that nothing fills.
+/// Many bytes at once, and a window that no row fills.
 const FAST: Feeding = Feeding {
     piece: 60_000,
     window: MANY,
@@ -47,20 +47,20 @@ const FEEDINGS: [Feeding; 4] = [
     },
 ];
 
-/// A block with bytes behind it, and how many bytes are held where it is fed fast.
+/// A block with bytes behind it, and the expected number of held bytes when it is fed by `FAST`.
 #[derive(Clone, Copy)]
 struct LongBlock {
     /// The input, escaped as in a row.
     text: &'static [u8],
     /// The value limit of the connection.
     limit: usize,
-    /// At some moment at least `least` bytes are held.
+    /// The peak must be at least this many bytes.
     least: usize,
-    /// At no moment more than `most`.
+    /// The peak must be at most this many bytes.
     most: usize,
 }
 
-/// Blocks as long as each limit, and one that is skipped.
+/// Blocks of each limit's size, and one that is skipped.
 const BLOCKS: [LongBlock; 4] = [
     LongBlock {
         text: b"set a 0 0 1024\r\n{1024*x}\r\n{65000*y}",
@@ -88,7 +88,7 @@ const BLOCKS: [LongBlock; 4] = [
     },
 ];
 
-/// A connection, and the most bytes that it was seen to hold.
+/// A connection, and the peak of its held bytes.
 #[derive(Drop)]
 struct Watched {
     conn: Conn,
@@ -96,26 +96,26 @@ struct Watched {
 }
 
 impl Watched {
-    /// A connection that was told nothing; none where memory runs out.
+    /// A new connection; `None` if memory is refused.
     fn new(alloc: Global, limit: usize, window: usize) -> Option<Watched> {
         let limit = limit.min(GREATEST_VALUE_LIMIT);
         let conn = Conn::new(alloc, 2, limit, window.max(1)).ok()?;
         Some(Watched { conn, most: 0 })
     }
 
-    /// Looks how much is held.
+    /// Updates the peak.
     fn look(&mut self) {
         self.most = self.most.max(self.conn.held());
     }
 
-    /// Feeds a front of the piece, and tells how many bytes that is.
+    /// Feeds a prefix of the piece, and returns its length.
     fn feed(&mut self, piece: &[u8]) -> usize {
         let count = self.conn.feed(piece);
         self.look();
         count
     }
 
-    /// Takes commands until none is opened.
+    /// Parses commands until none is complete.
     fn take_all(&mut self, alloc: Global) {
         for _ in 0..=MANY {
             let taken = self.conn.take(alloc, MOMENT);
@@ -126,8 +126,8 @@ impl Watched {
         }
     }
 
-    /// Feeds at most `size` bytes of the input at once, and takes what can be taken after each; tells how many
-    /// bytes went in until a piece of which none did.
+    /// Feeds the input in pieces of at most `size` bytes, and parses commands after each. Stops at
+    /// a piece of which nothing is taken, and returns the number of bytes taken.
     fn feed_all(&mut self, alloc: Global, input: &[u8], size: usize) -> usize {
         let mut given = 0usize;
         for _ in 0..input.len() {
@@ -146,8 +146,8 @@ impl Watched {
     }
 }
 
-/// The most that a connection held at any moment; none where memory ran out, or where it didn't take the whole
-/// input though the window wasn't full.
+/// The peak of held bytes; `None` if memory was refused, or if the input wasn't taken completely
+/// although the window wasn't full.
 fn most_held(alloc: Global, input: &[u8], limit: usize, feeding: Feeding) -> Option<usize> {
     let mut watched = Watched::new(alloc, limit, feeding.window)?;
     let given = watched.feed_all(alloc, input, feeding.piece);
@@ -157,7 +157,8 @@ fn most_held(alloc: Global, input: &[u8], limit: usize, feeding: Feeding) -> Opt
     Some(watched.most)
 }
 
-/// Whether no connection with this value limit holds more than its bound, however the input is cut.
+/// Whether the peak stays within its bound at this value limit, in whatever pieces the input is
+/// fed.
 fn is_bounded_below(alloc: Global, input: &[u8], limit: usize) -> bool {
     for feeding in FEEDINGS {
         match most_held(alloc, input, limit, feeding) {
@@ -168,7 +169,7 @@ fn is_bounded_below(alloc: Global, input: &[u8], limit: usize) -> bool {
     true
 }
 
-/// Whether no connection holds more than its bound, whatever its value limit.
+/// Whether the peak stays within its bound at each value limit.
 pub fn is_bounded(alloc: Global, input: &[u8]) -> bool {
     for limit in LIMITS {
         if !is_bounded_below(alloc, input, limit) {
@@ -178,7 +179,7 @@ pub fn is_bounded(alloc: Global, input: &[u8]) -> bool {
     true
 }
 
-/// Whether of the block no more than the most, and at some moment at least the least, was held.
+/// Whether the peak of the block is between `least` and `most`.
 fn is_held(alloc: Global, block: LongBlock) -> bool {
     let Ok(input) = unescape(alloc, block.text) else {
         return false;
@@ -191,7 +192,7 @@ fn is_held(alloc: Global, block: LongBlock) -> bool {
     }
 }
 
-/// How many blocks there are, and of how many too many or too few bytes were held.
+/// The number of blocks, and the number of those whose peak is out of range.
 pub fn blocks_held(alloc: Global) -> (u32, u32) {
     let mut blocks = 0u32;
     let mut failed = 0u32;

@@ -1,4 +1,4 @@
-//! A line over memory, which is cut into pieces and may fail.
+//! A line in memory that is cut into pieces and may fail.
 ghost use Rattle.std.specs.Prelude.{◌≡◌, None, IsTrue};
 
 use mc_seat::{Line, LineFault};
@@ -8,15 +8,15 @@ use std::alloc::Global;
 /// How a line is cut, and where it fails.
 #[derive(Clone, Copy)]
 pub struct Cutting {
-    /// The most bytes that are read at once.
+    /// Maximum number of bytes per read.
     pub piece: usize,
-    /// The most bytes that are written at once.
+    /// Maximum number of bytes per write.
     pub portion: usize,
-    /// The place of the read or write that fails, from 0.
+    /// The index of the read or write that fails, from 0.
     pub fails_at: usize,
 }
 
-/// Gives its input in pieces, and keeps what it takes.
+/// Returns its input in pieces, and stores its output.
 #[derive(Drop)]
 pub struct MemoryLine<'a> {
     input: &'a [u8],
@@ -26,12 +26,12 @@ pub struct MemoryLine<'a> {
     calls: usize,
     failed: bool,
     failed_reading: bool,
-    /// The last read found the end of the input.
+    /// The last read returned the end of input.
     ended: bool,
 }
 
 impl<'a> MemoryLine<'a> {
-    /// A line of which nothing was read, and that took nothing.
+    /// A line that was neither read nor written yet.
     pub fn new(alloc: Global, input: &'a [u8], cutting: Cutting) -> MemoryLine<'a> {
         MemoryLine {
             input,
@@ -45,18 +45,18 @@ impl<'a> MemoryLine<'a> {
         }
     }
 
-    /// The bytes that were read of it.
+    /// The bytes read so far.
     pub fn given(&self) -> &'a [u8] {
         let input = self.input;
         input.split_at(self.given.min(input.len())).0
     }
 
-    /// The bytes that it took.
+    /// The bytes written so far.
     pub fn output(&self) -> &[u8] {
         self.output.as_slice()
     }
 
-    /// How many reads and writes there were.
+    /// Number of reads and writes.
     pub fn calls(&self) -> usize {
         self.calls
     }
@@ -66,12 +66,12 @@ impl<'a> MemoryLine<'a> {
         self.failed
     }
 
-    /// Whether it was a read that failed.
+    /// Whether a read failed.
     pub fn has_failed_reading(&self) -> bool {
         self.failed_reading
     }
 
-    /// Counts a call; whether it fails.
+    /// Counts a call. Returns whether it fails.
     fn fails(&mut self) -> bool
         ensures failed { result ≡ self.new.failed }
         ensures stays { IsTrue self.old.failed → IsTrue self.new.failed }

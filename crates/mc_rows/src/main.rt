@@ -1,6 +1,7 @@
-//! Runs the worked rows of data/rows.txt through `serve_one`, by the server's own rules and by memcached's: each whole and
-//! cut into small pieces, its output taken a few bytes at a time or gathered, and with each of its reads and writes failing
-//! in turn. Prints those whose output isn't the row's, and those of whose input a connection held too much.
+//! Runs the worked rows of data/rows.txt through `serve_one`, under the native rules and
+//! memcached's. Each row is run whole, cut into small pieces, with its output taken in small or
+//! gathered writes, and with each read and write failing in turn. Prints the rows with wrong
+//! output, and those whose connection held too many bytes.
 #![tactic(auto)]
 
 mod escape;
@@ -22,16 +23,16 @@ use std::random::RandomSource;
 use std::sync::Wait;
 use std::{fs, io};
 
-/// Bytes a read, enough that nothing of a row's small parts is cut.
+/// Bytes per read for a row that isn't cut.
 const WHOLE: usize = 65_536;
 
-/// A value of at least this many bytes is shared, not copied, while it waits for its line.
+/// Values of at least this size are shared, not copied, while they wait to be written.
 const SHARED: usize = 1_024;
 
 /// No read or write fails.
 const NEVER: usize = usize::MAX;
 
-/// The most bytes that are read at once, and the most that are written at once.
+/// Maximum sizes of a read and of a write, to be tried together.
 const CUTTINGS: [(usize, usize); 7] = [
     (WHOLE, WHOLE),
     (1, WHOLE),
@@ -42,16 +43,17 @@ const CUTTINGS: [(usize, usize); 7] = [
     (1, 1),
 ];
 
-/// How many commands of a line may be open: one, or more than a read brings.
+/// Windows to try: one open command, or more than a read brings.
 const WINDOWS: [usize; 2] = [1, WIDE];
 
 /// A window that no row fills.
 const WIDE: usize = 256;
 
-/// The number of first reads and writes of a line that fail in turn.
+/// Number of first reads and writes of a line that fail in turn.
 const FAILURES: usize = 200;
 
-/// What became of a line that new shards served at the row's moment, by this window; none where the server refuses.
+/// Serves a line by new shards, at the row's time and with this window; `None` if the server
+/// refuses.
 fn served<R: Wait + RandomSource, L: Line>(
     rt: &R,
     alloc: Global,
@@ -76,7 +78,7 @@ fn served<R: Wait + RandomSource, L: Line>(
     serve_one(rt, alloc, line, sizes, &StillClock(row.moment)).ok()
 }
 
-/// Whether a line that is cut so, and doesn't fail, takes this output to the input.
+/// Whether a line that is cut in this way, and doesn't fail, gets this output.
 fn takes<R: Wait + RandomSource>(
     rt: &R,
     alloc: Global,
@@ -93,7 +95,7 @@ fn takes<R: Wait + RandomSource>(
     }
 }
 
-/// Whether the row's output comes however its input and output are cut.
+/// Whether the row's output is right however its input and output are cut.
 fn is_right_cut<R: Wait + RandomSource>(rt: &R, alloc: Global, row: &Row, window: usize) -> bool {
     for (piece, portion) in CUTTINGS {
         let cutting = Cutting {
@@ -116,7 +118,7 @@ fn is_right_cut<R: Wait + RandomSource>(rt: &R, alloc: Global, row: &Row, window
     true
 }
 
-/// Whether the row's output comes where nothing is cut; a short one in a single write.
+/// Whether the row's output is right if nothing is cut; a short one must be a single write.
 fn is_right_whole<R: Wait + RandomSource>(rt: &R, alloc: Global, row: &Row) -> bool {
     let cutting = Cutting {
         piece: WHOLE,
@@ -127,16 +129,16 @@ fn is_right_whole<R: Wait + RandomSource>(rt: &R, alloc: Global, row: &Row) -> b
     let Some(served) = served(rt, alloc, row, WIDE, &mut line) else {
         return false;
     };
-    // One read of the input, one of its end, and one write. A value of 1 KiB or more isn't copied to the text before it: it takes
-    // a write of its own, and so does what comes behind it.
+    // One read of the input, one of its end, and one write. A value of 1 KiB or more isn't copied
+    // behind its header: it takes a write of its own, and so does the text behind it.
     let is_short = row.input.len() <= WHOLE && row.output.len() <= 16_384;
     let shared = row.values_longer_than(SHARED - 1);
     let few = !is_short || line.calls() <= shared.saturating_mul(2).saturating_add(3);
     !served.broke && few && line.output() == row.output.as_slice()
 }
 
-/// Whether a line that failed at one of its calls was told to have failed, and took a beginning of the row's
-/// output: where a read failed, the whole replies to what was read.
+/// Whether a line that failed at one of its calls was reported as failed, and got a prefix of the
+/// row's output. After a failed read, this prefix is the complete replies to what was read.
 fn is_right_failed<R: Wait + RandomSource>(
     rt: &R,
     alloc: Global,
@@ -182,7 +184,7 @@ fn is_right_failing<R: Wait + RandomSource>(
     true
 }
 
-/// What is wrong with a row, if anything is.
+/// What is wrong with a row, if anything.
 fn fault_of<R: Wait + RandomSource>(rt: &R, alloc: Global, row: &Row) -> Option<&'static str> {
     if !is_right_whole(rt, alloc, row) {
         return Some("wrong where nothing is cut");
@@ -201,7 +203,7 @@ fn fault_of<R: Wait + RandomSource>(rt: &R, alloc: Global, row: &Row) -> Option<
     None
 }
 
-/// Tries the rows by a server that follows this profile; how many there are, and how many are wrong.
+/// Runs the rows under this profile. Returns the number of rows, and of wrong ones.
 fn try_rows<R: Print + Wait + RandomSource + Alloc<A = Global>>(
     rt: &R,
     text: &str,

@@ -1,28 +1,28 @@
-//! One row of the file of rows.
+//! A row of the file of rows.
 use crate::escape::{number, unescape};
 use mc_command::Profile;
 use mc_wire::DEFAULT_VALUE_LIMIT;
 use std::alloc::{AllocError, Global};
 
-/// What is sent at one moment to new shards, and what must come back.
+/// Input for new shards at one time, and the expected output.
 #[derive(Drop)]
 pub struct Row {
-    /// Whose rules the server follows.
+    /// The protocol profile of the server.
     pub profile: Profile,
-    /// Every command's moment, in seconds since 1970.
+    /// The Unix time of every command, in seconds.
     pub moment: u64,
-    /// What the items of a shard may cost together, in bytes.
+    /// Memory budget of a shard, in bytes.
     pub bytes: usize,
-    /// How many bytes a value has at most.
+    /// Value limit in bytes.
     pub value: usize,
     pub input: Vec<u8>,
     pub output: Vec<u8>,
 }
 
 impl Row {
-    /// Reads a row of this profile: name, moment, bytes, input and output, parted by tabs, and the output by memcached's
-    /// rules where that is another one. Behind the bytes a value limit may stand, after a `/`. A line that begins with `#`
-    /// is none.
+    /// Parses a row for this profile. Its fields are separated by tabs: name, time, budget, input,
+    /// output, and the output under memcached's rules if that differs. After the budget, a value
+    /// limit may follow a `/`. A line that starts with `#` is a comment.
     pub fn read(alloc: Global, profile: Profile, line: &[u8]) -> Result<Option<Row>, AllocError> {
         if line.is_empty() || line.starts_with(b"#") {
             return Ok(None);
@@ -54,8 +54,9 @@ impl Row {
         }))
     }
 
-    /// How many values of more than this number of bytes the output shows, where these are more than a reply's own words have: a value
-    /// stands on a line of its own, which ends by two bytes. One that holds such an end itself may not be counted.
+    /// Number of values in the output that are longer than this. `bytes` must exceed a reply's
+    /// other lines: a value is on a line of its own and ends by CR LF. A value that
+    /// contains a line end may not be counted.
     pub fn values_longer_than(&self, bytes: usize) -> usize {
         let mut values = 0usize;
         let mut behind_end = 0usize;
@@ -65,7 +66,7 @@ impl Row {
             } else {
                 behind_end.saturating_add(1)
             };
-            // The first of the two bytes stands behind the value.
+            // The first byte of the line end is behind the value.
             if behind_end == bytes.saturating_add(2) {
                 values = values.saturating_add(1);
             }
@@ -74,12 +75,12 @@ impl Row {
     }
 }
 
-/// What stands before the first tab, and what stands behind it.
+/// The text before and after the first tab.
 pub fn split_at_tab(text: &[u8]) -> (&[u8], &[u8]) {
     split_at(text, b'\t')
 }
 
-/// What stands before the first such byte, and what stands behind it.
+/// The text before and after the first such byte.
 fn split_at(text: &[u8], mark: u8) -> (&[u8], &[u8]) {
     match text.iter().position(|byte| *byte == mark) {
         Some(place) => (&text[..place], &text[place + 1..]),

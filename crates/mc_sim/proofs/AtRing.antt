@@ -54,7 +54,7 @@ module _ {X : Type 0} where
   pub with_here : (old : ℕ → ℕ → X) (c t s : ℕ) (x : X) → s ≡ t → with_lane old c t x c s ≡ x
   with_here old c t s x same = ap (λ b. cond b (cond (s == t) x (old c s)) (old c s)) (eq-eqb c c refl) ∙ ap (λ b. cond b x (old c s)) (eq-eqb s t same)
 
-  -- Setting a lane leaves those of the same connection to other shards.
+  -- Setting a lane leaves those of the connection to other shards unchanged.
   pub with_not : (old : ℕ → ℕ → X) (c t s : ℕ) (x : X) → s ≢ t → with_lane old c t x c s ≡ old c s
   with_not old c t s x other = ap (λ b. cond b (cond (s == t) x (old c s)) (old c s)) (eq-eqb c c refl) ∙ ap (λ b. cond b x (old c s)) (ne_eqb s t other)
 
@@ -83,7 +83,7 @@ there_is sizes link shard piece n some here = elim (cases_lt shard sizes.shards)
       absurd (omega (arith, whole, longer, empty, length-append (lane shard (take n all)) (piece ∷ []), length-append (lane shard (take (n + 1) all)) (lane shard (drop (n + 1) all))))
 ]
 
--- A core whose seat and rings changed inside, while its world is the same.
+-- A simulator whose seat and rings changed inside, with an unchanged world.
 pub inside : (sizes : Sizes) (w : World) (old new : Sim) (c number : ℕ) (link : Link) (place after : Seat) → (world : IsWorld sizes old w) → Finds old c number place → IsAt w c number link → new.seats.items ≡ slice_set old.seats.items c after → after.current ≡ place.current →
     IsServing sizes (of_asker number w.log) link after.conn → new.connections.items ≡ old.connections.items → new.log.items ≡ old.log.items → AreWired sizes new.rings world.wires → IsWorld sizes new w
 inside sizes w old new c number link place after world finds at set same serving connections log wired =
@@ -239,7 +239,7 @@ put_back conn mid mid' after shard piece back next same is putting told was =
     let this : slice_get (all_pieces told) told.out ≡ Some (shard, back) = n.0 ∙ ap (λ (p : Piece). Some (shard, p)) (sym is) in
     (n.0, putting (record told { out = told.out + 1; lent = true }) told.out (subst (λ x. IsConn x (record told { out = told.out + 1; lent = true })) (sym same) n.1) refl refl this)
 
--- A core whose rings alone changed inside, while its world is the same.
+-- A simulator whose rings alone changed inside, with an unchanged world.
 pub only_rings : (sizes : Sizes) (w : World) (old new : Sim) → (world : IsWorld sizes old w) → new.seats.items ≡ old.seats.items → new.connections.items ≡ old.connections.items → new.log.items ≡ old.log.items → AreWired sizes new.rings world.wires → IsWorld sizes new w
 only_rings sizes w old new world seats connections log wired = record {
   within = world.within;
@@ -255,7 +255,7 @@ only_rings sizes w old new world seats connections log wired = record {
   mirrors = world.mirrors;
 }
 
--- The seats are the same, and the connection of one changed in what the seat doesn't see.
+-- The seats are unchanged, and the connection of one changed in what the seat doesn't see.
 unseen : (sizes : Sizes) (w : World) (c k : ℕ) (link next : Link) (conn : Conn) (current : Option ℕ) → IsAt w c k link → next.seat ≡ link.seat → (IsServing sizes (of_asker k w.log) link conn → IsServing sizes (of_asker k w.log) next conn) → SeatIs sizes w c conn current → SeatIs sizes (with_link w k next) c conn current
 unseen sizes w c k link next conn None at seat serves is = absurd (is.0 k link at.here at.seat_is)
 unseen sizes w c k link next conn (Some j) at seat serves is =
@@ -278,7 +278,7 @@ replies_wait sizes w old c k link s world at =
 pub more_here : (counts : ℕ → ℕ) (shard t : ℕ) → t ≡ shard → one_more counts shard t ≡ counts t + 1
 more_here counts shard t same = ap (λ b. cond b (counts t + 1) (counts t)) (eq-eqb t shard same)
 
--- A count to which one was added for a shard is the same for every other shard.
+-- A count that grew for one shard is unchanged for every other one.
 pub more_not : (counts : ℕ → ℕ) (shard t : ℕ) → t ≢ shard → one_more counts shard t ≡ counts t
 more_not counts shard t other = ap (λ b. cond b (counts t + 1) (counts t)) (ne_eqb t shard other)
 
@@ -400,7 +400,7 @@ gives_none old new shard give seats connections log sizes w world =
       only_rings sizes w old new world seats connections log g.now,
     )
 
--- what stands at a place that was written
+-- the element at an index that was written
 pub mid_is : (seats : List Seat) (c : ℕ) (place first mid : Seat) → slice_get seats c ≡ Some place → mid ≡ slice_index_or (slice_set seats c first) c mid → mid ≡ first
 mid_is seats c place first mid here is =
     let within = slice_get_within seats c place here in

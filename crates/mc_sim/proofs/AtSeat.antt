@@ -46,14 +46,15 @@ pub record Finds (sim : Sim) (c number : ℕ) (place : Seat) : Type 0 where
   pub here : slice_get sim.seats.items c ≡ Some place
   pub current : place.current ≡ Some number
 
--- A core that differs at one seat, and in what is kept of its connection; its rings and its log are the same.
+-- A simulator that differs at one seat, and in the history of its connection; its rings and its log are
+-- unchanged.
 pub record Differs (old new : Sim) (c : ℕ) (after : Seat) : Type 0 where
   pub seats : new.seats.items ≡ slice_set old.seats.items c after
   pub log : new.log.items ≡ old.log.items
   pub rings : new.rings ≡ old.rings
 
--- A core that differs at one seat stands in the world with its connection's change, where the law still holds, the seat
--- and what is kept show the change, and nothing was sent, given or received.
+-- A simulator that differs at one seat is in the world with the change of its connection, if the law still
+-- holds, seat and connection show the change, and nothing was sent or received.
 pub seat_stays : (sizes : Sizes) (w : World) (old new : Sim) (c number : ℕ) (link next : Link) (place after : Seat) → IsWorld sizes old w → Finds old c number place → IsAt w c number link → next.seat ≡ link.seat →
     Law sizes (with_link w number next) → Differs old new c after → after.current ≡ place.current → IsServing sizes (of_asker number w.log) next after.conn →
     KeptBut sizes (with_link w number next) number next old.connections.items new.connections.items →
@@ -67,14 +68,14 @@ seat_stays sizes w old new c number link next place after world finds at seat la
     (subst (λ rings. AreWired sizes rings world.wires) (sym differs.rings) world.wired)
     (mirrors_stay sizes w world.wires c number link next world.mirrors at seat sent given received)
 
--- A core whose seats, connections, log and rings are the same stands in the same world.
+-- A simulator whose seats, connections, log and rings are unchanged is in the same world.
 pub record IsSame (old new : Sim) : Type 0 where
   pub seats : new.seats.items ≡ old.seats.items
   pub connections : new.connections.items ≡ old.connections.items
   pub log : new.log.items ≡ old.log.items
   pub rings : new.rings ≡ old.rings
 
--- A core whose seats, connections, log and rings stay as they were stands in the world in which it stood.
+-- A simulator whose seats, connections, log and rings are unchanged stays in its world.
 pub world_stays : (sizes : Sizes) (w : World) (old new : Sim) → IsWorld sizes old w → IsSame old new → IsWorld sizes new w
 world_stays sizes w old new world same = record {
   within = world.within;
@@ -170,7 +171,7 @@ broken_before old new c number place kept finds at_kept broken same sizes w worl
       world_stays sizes w old new world same,
     )
 
--- A core whose seat changed inside, while its connection is the same by all lists.
+-- A simulator whose seat changed inside, with a connection that is unchanged by all lists.
 pub seat_again : (sizes : Sizes) (w : World) (old new : Sim) (c number : ℕ) (link : Link) (place after : Seat) → IsWorld sizes old w → Finds old c number place → IsAt w c number link → Differs old new c after → after.current ≡ place.current →
     IsServing sizes (of_asker number w.log) link after.conn → new.connections.items ≡ old.connections.items → IsWorld sizes new w
 seat_again sizes w old new c number link place after world finds at differs same serving connections =
@@ -193,7 +194,7 @@ seat_again sizes w old new c number link place after world finds at differs same
       mirrors = world.mirrors;
     }
 
--- the bytes handed are the same where a command is taken
+-- the bytes written are unchanged if a command is parsed
 taken_bytes : (sizes : Sizes) (w : World) (k : ℕ) (link : Link) (one : Taken) → LinkLaw sizes (of_asker k w.log) link → handed_bytes sizes w k link ≡ handed_bytes sizes w k (record link { taken = link.taken ++ one ∷ [] })
 taken_bytes sizes w k link one law =
     let own = replies_in (of_asker k w.log) in
@@ -268,7 +269,7 @@ takes_none old new c number moment place after finds same differs connections co
       seat_again sizes w old new c number link place after world finds f.1 differs same (record { lent = s.lent; accepted = s.accepted; is = conn (told_of sizes link s.lent s.accepted) s.is; fits = s.fits }) connections,
     )
 
--- A Take is idle where all commands that the bytes spell were taken, and more bytes are needed for another.
+-- A Take is idle if all commands in the input were parsed, and more bytes are needed for another.
 pub takes_all : (old new : Sim) (c number moment : ℕ) (place after : Seat) → Finds old c number place → after.current ≡ place.current → Differs old new c after → new.connections.items ≡ old.connections.items →
     ((told : Told) → IsConn place.conn told → NeedsMore told after.conn) → StepsByEvent old (Take c moment) replied.Idle new
 takes_all old new c number moment place after finds same differs connections conn =
@@ -300,17 +301,17 @@ get_index [] i x below is = absurd (omega (arith, below))
 get_index (y ∷ xs) zero x below is = ap (λ z. Some z) (sym is)
 get_index (y ∷ xs) (suc i) x below is = get_index xs i x (omega (arith, below)) is
 
--- Two readings of the same place within a list give the same element.
+-- Two reads at one index of a list return equal elements.
 pub same_index : {X : Type 0} (xs : List X) (i : ℕ) (x y : X) → i < length xs → x ≡ slice_index_or xs i x → y ≡ slice_index_or xs i y → x ≡ y
 same_index xs i x y below is is' = at_once xs i i x y (get_index xs i x below is) (get_index xs i y below is') refl
 
--- What was found at the seat is what stands there.
+-- The seat that was found is the one at its index.
 pub finds_at : (sim : Sim) (c number : ℕ) (place : Seat) → c < length sim.seats.items → place ≡ slice_index_or sim.seats.items c place → ((x : Seat) × (slice_get sim.seats.items c ≡ Some x) × (x.current ≡ Some number)) → Finds sim c number place
 finds_at sim c number place below is f =
     let here = get_index sim.seats.items c place below is in
     record { here = here; current = ap (λ (x : Seat). x.current) (at_once sim.seats.items c c place f.0 here f.1 refl) ∙ f.2 }
 
--- An event finds the seat that stands at the place, where that seat has this connection.
+-- An event finds the seat at the index, if that seat has this connection.
 pub finds_some : (sim : Sim) (c number : ℕ) (f : (x : Seat) × (slice_get sim.seats.items c ≡ Some x) × (x.current ≡ Some number)) → Finds sim c number f.0
 finds_some sim c number f = record { here = f.1; current = f.2 }
 
@@ -326,14 +327,14 @@ no_seat sim c beyond sizes w world k link at =
     let n = world.seat_count in
     absurd (omega (arith, below, e, n, beyond))
 
--- A seat that has had no connection has none in whatever world the core stands.
+-- A seat that has had no connection has none in any world of the simulator.
 pub no_current : (sim : Sim) (c : ℕ) (place : Seat) → slice_get sim.seats.items c ≡ Some place → place.current ≡ None → HasNone sim c
 unfolding Stands
 no_current sim c place here none sizes w world k link at =
     let is : SeatIs sizes w c place.conn None = subst (λ o. SeatIs sizes w c place.conn o) none (world.each_seat c place here) in
     is.0 k link at.here at.seat_is
 
--- A seat whose connection has a number beyond those kept has none in whatever world the core stands.
+-- A seat whose connection has a number beyond those kept has none in any world of the simulator.
 pub no_kept : (sim : Sim) (c number : ℕ) (place : Seat) → Finds sim c number place → length sim.connections.items ≤ number → HasNone sim c
 unfolding Stands
 no_kept sim c number place finds beyond sizes w world k link at =

@@ -88,7 +88,7 @@ unused_on w c k link next here seat unused j one at_j is = elim (set_cases w.lin
   | inr old ↦ unused j one old.1 is
 ]
 
--- a hand holds the same, where no answer was given
+-- a worker holds the same reply if no answer was sent
 pub hand_on : (w : World) (s k : ℕ) (link next : Link) (hand : Option (ℕ × Shown)) → IsLink w k link → next.seat ≡ link.seat → next.given s ≡ link.given s → HandIs w s hand → HandIs (with_link w k next) s hand
 hand_on w s k link next None here seat given empty = λ j one at_j. elim (set_cases w.links k next j one at_j) [
   | inl this ↦

@@ -47,7 +47,7 @@ shut_of told is (inl broken) = absurd (let e : true ≡ false = sym broken ∙ i
 shut_of told is (inr (inl shut)) = shut
 shut_of told is (inr (inr done)) = absurd (let e : true ≡ false = sym done.0 ∙ is.comes in cc)
 
--- What the connection is after it was asked for a command that it hasn't.
+-- The state of a connection after `take` found no command.
 pub asked : (old new : Conn) (moment : ℕ) (result : Took) → TakeSays old moment result new → (told : Told) → IsConn old told → IsAllTaken told → Refreshed told new
 asked old new moment (took.Opened ticket) says told is all = let o = says told is in absurd (one_more_than_all told o.one all o.next)
 asked old new moment took.NeedMore says told is all = let n = says told is in record { now = n.now; waits = λ unset every place. inr n.waits }

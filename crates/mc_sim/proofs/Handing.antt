@@ -99,7 +99,7 @@ all_front : {X : Type 0} (P : X → Type 0) (xs ys : List X) → AllByRecursion 
 all_front P [] ys all = (tt, all)
 all_front P (x ∷ xs) ys all = let rest = all_front P xs ys all.1 in ((all.0, rest.0), rest.1)
 
--- the same answers make the same history
+-- equal answers make equal histories
 history_same : (shards : ℕ) (one other : List Shown) (number : ℕ) (taken : List Taken) → AgreeOn one other (pieces_from shards number taken) → history_from shards one number taken ≡ history_from shards other number taken
 history_same shards one other number [] agree = refl
 history_same shards one other number (first ∷ taken) agree =
@@ -137,7 +137,8 @@ same_texts sizes own link accepted count law fits within come =
     omega (arith, came, received, given, long)) in
     told.texts ∙ (ap (λ history. map text_done history) (history_same shards accepted (replies_in own) 0 first agree) ∙ sym logged.texts)
 
--- The bytes that the connection was handed before, with those that were waiting, are those that it is handed now.
+-- The bytes that the connection was handed before, with those that were waiting, are those that it is handed
+-- now.
 pub handed_now : (sizes : Sizes) (w : World) (k : ℕ) (link : Link) (conn : Conn) (law : LinkLaw sizes (of_asker k w.log) link) (s : IsServing sizes (of_asker k w.log) link conn) →
     let told = told_of sizes link s.lent s.accepted in
     handed_bytes sizes w k link ++ waiting_text told ≡ handed_bytes sizes w k (record link { handed = length (all_texts told) })

@@ -269,7 +269,7 @@ opens old new c place after kept here free current set connections seat ended br
     } in
     (w', happens, stands)
 
--- What the seat that may begin is in its world, and what its connection is once it was renewed.
+-- The seat in its world, and its connection after a reset, if a new connection may open on it.
 pub frees : (old : Sim) (c : ℕ) (place : Seat) (after : Conn) (renewed : Bool) → slice_get old.seats.items c ≡ Some place → ((told : Told) → IsConn place.conn told → MayBegin told place.current) →
     ((told : Told) → IsConn place.conn told → IsTrue renewed ↔ (IsAtRest told × IsOver told)) → (IsTrue renewed → (told : Told) → IsConn place.conn told → IsConn after (told_nothing told.shards told.rules told.window)) → (renewed ≡ false → after ≡ place.conn) →
     (sizes : Sizes) (w : World) → Stands sizes old w → (IsUnusedSeat w c ⊎ IsRenewable sizes w c) × IsConn after (told_nothing sizes.shards (rules_of sizes) sizes.window)

@@ -56,7 +56,7 @@ longer log entry j s =
     ∙ (ap replies_in (filter-append (λ (e : Entry). e.shard == s) (of_asker j log) (of_asker j (entry ∷ [])))
     ∙ map-append reply_to (on_shard s (of_asker j log)) (on_shard s (of_asker j (entry ∷ []))))
 
--- the first of them are the same
+-- the first of them are unchanged
 first_same : (log : List Entry) (entry : Entry) (j s n : ℕ) → n ≤ length (on_shard s (of_asker j log)) → take n (replies_in (on_shard s (of_asker j (log ++ entry ∷ [])))) ≡ take n (replies_in (on_shard s (of_asker j log)))
 first_same log entry j s n within =
     ap (λ rs. take n rs) (longer log entry j s)
@@ -72,7 +72,7 @@ serving_on sizes log entry j link conn law s =
     let all : received_by link (of_asker j log) ≡ received_by link (of_asker j (log ++ entry ∷ [])) = λ i t. each t i in
     record { lent = s.lent; accepted = s.accepted; is = s.is; fits = subst (λ r. Fits sizes.shards link.taken s.accepted r) all s.fits }
 
--- the bytes handed are the same
+-- the bytes written are unchanged
 run_bytes : (sizes : Sizes) (w : World) (entry : Entry) (j : ℕ) (link : Link) → LinkLaw sizes (of_asker j w.log) link → handed_bytes sizes w j link ≡ handed_bytes sizes (with_entry w entry) j link
 run_bytes sizes w entry j link law =
     let forms = forms_of sizes.shards link.taken in

@@ -1,4 +1,4 @@
--- What each call on the rings says of what waits there, from what it did on one lane.
+-- The effect of each call on the contents of the rings, from its effect on one lane.
 use Rattle.std.proofs.Common.{◌≡◌, ◌↔◌, ℕ, suc, ◌<◌, ◌≤◌, Bool, true, false, not, Option, Some, None, Ok, Err, Result, List, [], ◌∷◌, length, get_or, refl, ap, sym, ◌∙◌, arith, slice_set, IsTrue}
 use Rattle.std.specs.List.{slice_get}
 use Rattle.std.specs.Option.{IfNone, IfSome, is_some, option_map}
@@ -32,7 +32,7 @@ out_of both is = let e : false ≡ true = both.1 is in cc
 in_there : (sizes : Sizes) (laid : Laid) (wires : Wires) (c s : ℕ) → HaveWires sizes laid wires → AreThere sizes c s → AreIn laid c s
 in_there sizes laid wires c s was there = (rw was.seat_count there.0, rw was.shard_count there.1)
 
--- Where the seat and the shard aren't both there, no piece is sent, and the rings hold the same.
+-- If seat or shard doesn't exist, no piece is sent, and the contents of the rings are unchanged.
 pub keeps_out : (laid : Laid) (c s : ℕ) → (AreIn laid c s → ⊥) → (sizes : Sizes) (wires : Wires) → AreWired sizes laid wires → KeepsPiece sizes wires c s laid
 unfolding AreWired
 keeps_out laid c s out sizes wires was = record { full = λ there. absurd (out (in_there sizes laid wires c s was there)); now = was }
@@ -46,23 +46,23 @@ tells_out laid c s out sizes wires was = record {
   now = was;
 }
 
--- Where the seat and the shard aren't both there, no piece is run, and the rings hold the same.
+-- If seat or shard doesn't exist, no piece is run, and the contents of the rings are unchanged.
 pub runs_out : (laid : Laid) (c s : ℕ) → (AreIn laid c s → ⊥) → (sizes : Sizes) (wires : Wires) → AreWired sizes laid wires → RunsNone sizes wires s c laid
 unfolding AreWired
 runs_out laid c s out sizes wires was = record { none = λ there free. absurd (out (in_there sizes laid wires c s was there)); now = was }
 
--- Where the seat and the shard aren't both there, no reply is received, and the rings hold the same.
+-- If seat or shard doesn't exist, no reply is received, and the contents of the rings are unchanged.
 pub receives_out : (laid : Laid) (c s : ℕ) → (AreIn laid c s → ⊥) → (sizes : Sizes) (wires : Wires) → AreWired sizes laid wires → ReceivesNone sizes wires c s laid
 unfolding AreWired
 receives_out laid c s out sizes wires was = record { none = λ there. absurd (out (in_there sizes laid wires c s was there)); now = was }
 
 -- The seat and the shard, where the lane was looked at.
 
--- What is read at the place of a seat whose lane was looked at is the seat that stands there.
+-- The seat that is read after a look at its lane is the one at its index.
 pub seat_read : (old mid : Laid) (c s n m : ℕ) (seat : Ends Near) → LooksAt c s old mid n m → seat ≡ get_or mid.seats c seat → slice_get mid.seats c ≡ Some seat
 seat_read old mid c s n m seat look read = slice_get_read mid.seats (length mid.seats) c seat refl (slice_get_within mid.seats c look.seat_after (seat_after_here old mid c s n m look)) read
 
--- What is read at the place of a worker whose lane was looked at is the worker that stands there.
+-- The worker that is read after a look at its lane is the one at its index.
 pub desk_read : (old mid : Laid) (c s n m : ℕ) (desk : Desk) → LooksAt c s old mid n m → desk ≡ get_or mid.workers s desk → slice_get mid.workers s ≡ Some desk
 desk_read old mid c s n m desk look read = slice_get_read mid.workers (length mid.workers) s desk refl (slice_get_within mid.workers s look.desk_after (desk_after_here old mid c s n m look)) read
 
@@ -228,7 +228,8 @@ runs_held old mid c s n m desk look read told sizes wires was =
     let hand_is = (now.each_worker s desk there).hand_is in
     record { none = λ in_it free. absurd (some_told desk.hand told (hand_is ∙ free)); now = now }
 
--- Where a look finds a piece waiting and the worker's hand is empty, the piece that it runs is the seat's oldest.
+-- Where a look finds a piece waiting and the worker's hand is empty, the piece that it runs is the seat's
+-- oldest.
 pub runs_oldest : (old mid : Laid) (c s n m : ℕ) (desk desk' : Desk) (ran : RanPiece) → LooksAt c s old mid n m → 0 < n → desk ≡ get_or mid.workers s desk → desk.hand ≡ None → RunsPiece desk c ran.ticket ran.part ran.moment desk'
     → (sizes : Sizes) (wires : Wires) → AreWired sizes old wires → RunsOldest sizes wires s c ran (record mid { workers = slice_set mid.workers s desk' })
 unfolding AreWired
@@ -279,7 +280,8 @@ gives_empty laid s desk there none sizes wires was = record {
   now = was;
 }
 
--- A worker with a lane for a seat gives no reply where seat and shard aren't both there: a case that never comes.
+-- A worker with a lane for a seat gives no reply where seat and shard aren't both there: a case that never
+-- comes.
 pub gives_out : (laid : Laid) (c s : ℕ) (desk : Desk) → slice_get laid.workers s ≡ Some desk → c < length desk.ends.lanes → (AreIn laid c s → ⊥) → (sizes : Sizes) (wires : Wires) → AreWired sizes laid wires → GivesNone sizes wires s laid
 unfolding AreWired
 gives_out laid c s desk there lane out sizes wires was =
@@ -304,14 +306,14 @@ gives_full old mid c s n m places desk look places_are full there held sizes wir
       now = now;
     }
 
--- the hand is the same after the look
+-- the reply held is unchanged after the look
 held_after : (old mid : Laid) (c s n m : ℕ) (desk desk_now : Desk) → LooksAt c s old mid n m → slice_get old.workers s ≡ Some desk → slice_get mid.workers s ≡ Some desk_now → desk_now.hand ≡ desk.hand
 held_after old mid c s n m desk desk_now look there there_now =
     let was : look.desk ≡ desk = same_Some look.desk desk (sym look.desk_here ∙ there) in
     let is : desk_now ≡ look.desk_after = same_Some desk_now look.desk_after (sym there_now ∙ desk_after_here old mid c s n m look) in
     ap (λ (desk : Desk). desk.hand) is ∙ ap (λ (desk : Desk). desk.hand) look.rest ∙ ap (λ (desk : Desk). desk.hand) was
 
--- Where a look finds room on the ring, the reply in the hand goes there, behind all others, and the hand is empty.
+-- If a look finds that the ring isn't full, the reply in the hand is appended to it, and the hand is empty.
 pub gives_reply : (old mid : Laid) (c s n m places : ℕ) (before desk desk' : Desk) → LooksAt c s old mid n m → places ≡ mid.places → m < places → slice_get old.workers s ≡ Some before → option_map (λ held. held.0) before.hand ≡ Some c
     → desk ≡ get_or mid.workers s desk → GivesIt desk desk' → (sizes : Sizes) (wires : Wires) → AreWired sizes old wires → GivesReply sizes wires s (record mid { workers = slice_set mid.workers s desk' })
 unfolding AreWired

@@ -19,7 +19,7 @@ use Rattle.mc_sim.specs.Rings.{HaveWires, IsSeatEnds, IsWire, IsWorker, Wires, p
 use Rattle.mc_model.proofs.Lists.{set_cases}
 use Rattle.mc_model.proofs.Alone.{self_equal}
 
--- One lane of a seat or a shard has changed, and is the same lane.
+-- The state of one lane of a seat or a shard has changed, but not which lane it is.
 pub record ChangesAt {Out In : Type 0} (place : ℕ) (old new : Ends (Side Out In)) : Type 0 where
   pub same : AreSameEnds old new
   pub sent : (k : ℕ) → k ≢ place → sent_on new k ≡ sent_on old k
@@ -33,7 +33,7 @@ changes_at says place old new same lane = record {
   received = λ k other. at_lane-other says (λ end. end.past.received) place k old new lane other;
 }
 
--- A change of the end at one place is a change of the end at a place of the same number.
+-- A change of the end at one index is a change of the end at an equal index.
 pub at_place : {End : Type 0} (says : End → End → Type 0) (p q : ℕ) (old new : Ends End) → p ≡ q → AtLane says p old new → AtLane says q old new
 at_place says p q old new same lane = rw (← same) lane
 
@@ -56,7 +56,7 @@ desk_behind workers s j desk desk' x here same at = elim (set_cases workers s de
   | inr other ↦ (x, other.1, same_ends-refl x.ends)
 ]
 
--- Seats and workers stay in their places, with their lanes, where one seat changes and has the same ends.
+-- Seats and workers stay at their indices, with their lanes, if one seat changes and keeps its ends.
 pub laid_seat : (old : Laid) (c : ℕ) (seat seat' : Ends Near) → AreLaid old → slice_get old.seats c ≡ Some seat → AreSameEnds seat seat' → AreLaid (record old { seats = slice_set old.seats c seat' })
 laid_seat old c seat seat' laid here same = record {
   seat_number = λ j x at. let b = seat_behind old.seats c j seat seat' x here same at in b.2.number ∙ laid.seat_number j b.0 b.1;
@@ -65,7 +65,7 @@ laid_seat old c seat seat' laid here same = record {
       lane_kept b.0 x y.ends y.ends b.2 (same_ends-refl y.ends) (laid.each_lane j k b.0 y b.1 at');
 }
 
--- Seats and workers stay in their places, with their lanes, where one worker changes and has the same ends.
+-- Seats and workers stay at their indices, with their lanes, if one worker changes and keeps its ends.
 pub laid_worker : (old : Laid) (s : ℕ) (desk desk' : Desk) → AreLaid old → slice_get old.workers s ≡ Some desk → AreSameEnds desk.ends desk'.ends → AreLaid (record old { workers = slice_set old.workers s desk' })
 laid_worker old s desk desk' laid here same = record {
   seat_number = laid.seat_number;
@@ -105,7 +105,7 @@ with_shard-other old s x k ne = elim (eqb_tells k s) [
   | inr other ↦ rw other.0 refl
 ]
 
--- What waits on all other lanes is the same.
+-- The contents of all other lanes are unchanged.
 pub record SameElse (c s : ℕ) (old new : Wires) : Type 0 where
   pub pieces : (j k : ℕ) → IsOther c s j k → new.pieces j k ≡ old.pieces j k
   pub replies : (j k : ℕ) → IsOther c s j k → new.replies j k ≡ old.replies j k
@@ -124,7 +124,8 @@ worker_same sizes desk hand hand' state state' is same same' = rw (same, same') 
 seat_kept : (sizes : Sizes) (old new : Ends Near) → AreSameEnds old new → IsSeatEnds sizes old → IsSeatEnds sizes new
 seat_kept sizes old new same is = record { counted = same.count ∙ is.counted; holds = rw same.lanes is.holds }
 
--- Where one lane of a seat changed, the rings hold what is said if that lane does, and the same is said of all else.
+-- If one lane of a seat changed, the rings have the stated contents if that lane does, and nothing else
+-- changed.
 pub wired_seat : (sizes : Sizes) (old : Laid) (wires wires' : Wires) (c s : ℕ) (seat seat' : Ends Near) → HaveWires sizes old wires → slice_get old.seats c ≡ Some seat → ChangesAt s seat seat'
     → ((desk : Desk) → slice_get old.workers s ≡ Some desk → IsWire c s seat' desk (wires'.pieces c s) (wires'.replies c s))
     → SameElse c s wires wires' → ((k : ℕ) → wires'.hand k ≡ wires.hand k) → ((k : ℕ) → wires'.state k ≡ wires.state k)
@@ -158,8 +159,8 @@ pub record IsNow (desk : Desk) (hand : Option (ℕ × Shown)) (state : State) : 
   pub hand_is : desk.hand ≡ hand
   pub keeps : Keeps desk.shard state
 
--- Where one lane of a worker changed, the rings hold what is said if that lane and the worker do, and the same is said
--- of all else.
+-- If one lane of a worker changed, the rings have the stated contents if that lane and the worker do, and
+-- nothing else changed.
 pub wired_worker : (sizes : Sizes) (old : Laid) (wires wires' : Wires) (c s : ℕ) (desk desk' : Desk) → HaveWires sizes old wires → slice_get old.workers s ≡ Some desk → ChangesAt c desk.ends desk'.ends
     → IsNow desk' (wires'.hand s) (wires'.state s)
     → ((seat : Ends Near) → slice_get old.seats c ≡ Some seat → IsWire c s seat desk' (wires'.pieces c s) (wires'.replies c s))
@@ -266,11 +267,11 @@ capacity_at ring (x ∷ xs) (suc k) end all here = capacity_at ring xs k end all
 after_here : {End : Type 0} (says : End → End → Type 0) (p q : ℕ) (old new : Ends End) → p ≡ q → (lane : AtLane says p old new) → slice_get new.lanes q ≡ Some lane.after
 after_here says p q old new same lane = rw (← same, lane.set) (get-set_same old.lanes p lane.before lane.after lane.here)
 
--- After a look at a lane, its seat stands at its place as the look left it.
+-- After a look at a lane, its seat is at its index as the look left it.
 pub seat_after_here : (old new : Laid) (c s n m : ℕ) (look : LooksAt c s old new n m) → slice_get new.seats c ≡ Some look.seat_after
 seat_after_here old new c s n m look = ap (λ (laid : Laid). slice_get laid.seats c) look.set ∙ get-set_same old.seats c look.seat look.seat_after look.seat_here
 
--- After a look at a lane, its worker stands at its place as the look left it.
+-- After a look at a lane, its worker is at its index as the look left it.
 pub desk_after_here : (old new : Laid) (c s n m : ℕ) (look : LooksAt c s old new n m) → slice_get new.workers s ≡ Some look.desk_after
 desk_after_here old new c s n m look = ap (λ (laid : Laid). slice_get laid.workers s) look.set ∙ get-set_same old.workers s look.desk look.desk_after look.desk_here
 

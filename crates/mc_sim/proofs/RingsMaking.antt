@@ -12,7 +12,7 @@ use Rattle.mc_worker.specs.Desk.{Desk}
 use Rattle.mc_sim.specs.Rings.{HaveWires, IsStarted, ends_of, new_wires}
 use Rattle.mc_ring.proofs.Lists.{get_map, all_at}
 
--- what follows a list in another stands at the place of its length
+-- the element after a prefix is at the index of the prefix's length
 pub at_end : {A : Type 0} (xs : List A) (y : A) (zs : List A) → slice_get (xs ++ y ∷ zs) (length xs) ≡ Some y
 at_end [] y zs = refl
 at_end (x ∷ xs) y zs = at_end xs y zs
@@ -27,7 +27,7 @@ unused_list read [] k none all = refl
 unused_list read (end ∷ lanes) zero none all = none end all.0
 unused_list read (end ∷ lanes) (suc k) none all = unused_list read lanes k none all.1
 
--- New rings between seats and workers that begin over empty shards hold nothing.
+-- New rings between seats and new workers with empty shards are empty.
 pub new_wired : (sizes : Sizes) (seats : List (Ends Near)) (shards : List (Ends Far)) (workers : List Desk) → AreLanes sizes.seats sizes.shards sizes.ring seats shards → map ends_of workers ≡ shards → AllByRecursion (IsStarted sizes) workers
     → HaveWires sizes (record { seats = seats; workers = workers; places = sizes.ring }) (new_wires sizes)
 new_wired sizes seats shards workers lanes ends started =

@@ -31,7 +31,7 @@ use Rattle.mc_sim.proofs.RingsChange.{Seen, at_place, changes_at, wired_seat, wi
 same_at : {A : Type 0} (xs : List A) (i : ℕ) (x y : A) → slice_get xs i ≡ Some x → slice_get xs i ≡ Some y → x ≡ y
 same_at xs i x y here there = same_Some x y (sym here ∙ there)
 
--- a list that is not empty, and begins another
+-- a list that is not empty and is a prefix of another one
 first_of : {A : Type 0} (xs : List A) (y : A) (ys : List A) → 0 < length xs → IsPrefix xs (y ∷ ys) → (rest : List A) × (xs ≡ y ∷ rest)
 first_of [] y ys some begins = absurd (omega (arith, some))
 first_of (x ∷ xs) y ys some begins = (xs, let e : x ∷ (xs ++ begins.0) ≡ y ∷ ys = begins.1 in ap (λ z. z ∷ xs) (let h : x ≡ y = cc in h))
@@ -190,8 +190,8 @@ ran_wires wires c s rest entry after = record {
   state = with_shard wires.state s after;
 }
 
--- Where a worker ran the oldest piece of a lane, it did so by the protocol's step, the rest wait there, the reply is in
--- its hand, and all else is as it was.
+-- Where a worker ran the oldest piece of a lane, it did so by the protocol's step, the rest wait there, the
+-- reply is in its hand, and all else is as it was.
 pub ran_wired : (sizes : Sizes) (old : Laid) (wires : Wires) (c s : ℕ) (desk desk' : Desk) {ticket : Ticket} {part moment : ℕ} (rest : List Piece) → HaveWires sizes old wires → slice_get old.workers s ≡ Some desk
     → (ran : RunsPiece desk c ticket part moment desk') → wires.pieces c s ≡ ran.entry.piece ∷ rest
     → (after : State) × IsStep (wires.state s) ran.entry.piece.op ran.entry.piece.moment ran.entry.answer after × HaveWires sizes (record old { workers = slice_set old.workers s desk' }) (ran_wires wires c s rest ran.entry after)
@@ -247,8 +247,8 @@ must_give sizes c s seat desk desk' pieces replies n m Nothing reply seen room h
 must_give sizes c s seat desk desk' pieces replies n m Ended reply seen room held turned = absurd (none_or_some desk.hand (c, reply) turned.free held)
 must_give sizes c s seat desk desk' pieces replies n m (Ran ticket part moment) reply seen room held turned = absurd (none_or_some desk.hand (c, reply) turned.free held)
 
--- Where a worker gave the reply in its hand, that reply waits on the ring to its seat, behind all others, the hand is
--- empty, and all else is as it was.
+-- Where a worker gave the reply in its hand, that reply waits on the ring to its seat, behind all others, the
+-- hand is empty, and all else is as it was.
 pub gave_wired : (sizes : Sizes) (old : Laid) (wires : Wires) (c s : ℕ) (desk desk' : Desk) (reply : Shown) → HaveWires sizes old wires → slice_get old.workers s ≡ Some desk → desk.hand ≡ Some (c, reply) → GivesIt desk desk'
     → HaveWires sizes (record old { workers = slice_set old.workers s desk' })
     (record wires { replies = with_lane wires.replies c s (wires.replies c s ++ reply ∷ []); hand = with_shard wires.hand s None })

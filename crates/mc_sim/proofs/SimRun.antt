@@ -57,7 +57,8 @@ runs_next old mid new events i event reply done more within here runs steps memo
     let one = runs_more old mid new (map event_of (take i events)) (event_of event) reply done runs steps memory in
     subst (λ some. Runs old some more new) (sym (map_next events i event within here)) (subst (λ n. Runs old (map event_of (take i events) ++ event_of event ∷ []) n new) (sym count) one)
 
--- A core that ran the first events, each with the memory that it took, and found none for the next stopped there.
+-- A core that ran the first events, each with the memory that it took, and found none for the next stopped
+-- there.
 pub runs_until : (old mid new : Sim) (events : List Asked) (i : ℕ) (event : Asked) (done : ℕ) → i < length events → event ≡ get_or events i event →
     Runs old (map event_of (take i events)) done mid → StepsByEvent mid (event_of event) replied.NoMemory new → Stops old (map event_of events) new
 runs_until old mid new events i event done within here runs steps =

@@ -20,17 +20,17 @@ shows f g (x ∷ xs) [] same each = absurd (omega (arith, same))
 shows f g (x ∷ xs) (y ∷ ys) same each =
     ap (λ z. z ∷ map f xs) (each 0 x y refl refl) ∙ ap (λ zs. g y ∷ zs) (shows f g xs ys (omega (arith, same)) (λ i a b there here. each (suc i) a b there here))
 
--- The connections that a core keeps have, in order, the seats that the world says.
+-- The connections of a simulator have, in order, the seats of the world's connections.
 pub seats_shown : (sizes : Sizes) (sim : Sim) (w : World) → Stands sizes sim w → map (λ (one : Connection). one.seat) sim.connections.items ≡ map (λ (link : Link). link.seat) w.links
 unfolding Stands
 seats_shown sizes sim w world = shows (λ (one : Connection). one.seat) (λ (link : Link). link.seat) sim.connections.items w.links world.count (λ i one link there here. (world.keeps i link one there here).seat)
 
--- The connections that a core keeps are, in order, ended where the world says so.
+-- The connections of a simulator are, in order, ended if the world's are.
 pub ended_shown : (sizes : Sizes) (sim : Sim) (w : World) → Stands sizes sim w → map (λ (one : Connection). one.ended) sim.connections.items ≡ map (λ (link : Link). link.ended) w.links
 unfolding Stands
 ended_shown sizes sim w world = shows (λ (one : Connection). one.ended) (λ (link : Link). link.ended) sim.connections.items w.links world.count (λ i one link there here. (world.keeps i link one there here).ended)
 
--- The connections that a core keeps are, in order, broken where the world says so.
+-- The connections of a simulator are, in order, failed if the world's are.
 pub broken_shown : (sizes : Sizes) (sim : Sim) (w : World) → Stands sizes sim w → map (λ (one : Connection). one.broken) sim.connections.items ≡ map (λ (link : Link). link.broken) w.links
 unfolding Stands
 broken_shown sizes sim w world = shows (λ (one : Connection). one.broken) (λ (link : Link). link.broken) sim.connections.items w.links world.count (λ i one link there here. (world.keeps i link one there here).broken)
@@ -44,12 +44,12 @@ log_shown sizes sim w world = world.log
 pub kept_is : (sim : Sim) (xs : List Connection) (k : ℕ) (kept : Connection) → xs ≡ sim.connections.items → k < length xs → kept ≡ slice_index_or xs k kept → slice_get sim.connections.items k ≡ Some kept
 kept_is sim xs k kept same below is = ap (λ zs. slice_get zs k) (sym same) ∙ get_index xs k kept below is
 
--- The bytes that a core keeps as fed to a connection are those that the world says it was fed.
+-- The simulator's input of a connection is the world's.
 pub fed_shown : (sizes : Sizes) (sim : Sim) (w : World) (k : ℕ) (link : Link) (kept : Connection) → Stands sizes sim w → IsLink w k link → slice_get sim.connections.items k ≡ Some kept → kept.fed.items ≡ link.fed
 unfolding Stands
 fed_shown sizes sim w k link kept world here found = (world.keeps k link kept here found).fed
 
--- The bytes that a core keeps as handed to a connection are those that the world says it was handed.
+-- The simulator's output to a connection is the world's.
 pub handed_shown : (sizes : Sizes) (sim : Sim) (w : World) (k : ℕ) (link : Link) (kept : Connection) → Stands sizes sim w → IsLink w k link → slice_get sim.connections.items k ≡ Some kept → kept.handed.items ≡ handed_bytes sizes w k link
 unfolding Stands
 handed_shown sizes sim w k link kept world here found = (world.keeps k link kept here found).handed
@@ -66,17 +66,17 @@ pub kept_within : (sizes : Sizes) (sim : Sim) (w : World) (k : ℕ) (xs : List C
 unfolding Stands
 kept_within sizes sim w k xs world same within = omega (arith, within, world.count, ap length same)
 
--- as many seats as the sizes say
+-- there are as many seats as in the sizes
 pub seats_counted : (sizes : Sizes) (sim : Sim) (w : World) → Stands sizes sim w → length sim.seats.items ≡ sizes.seats
 unfolding Stands
 seats_counted sizes sim w world = world.seat_count
 
--- the rings hold what the world says
+-- the rings have the world's contents
 pub wires_there : (sizes : Sizes) (sim : Sim) (w : World) → Stands sizes sim w → (wires : Wires) × AreWired sizes sim.rings wires
 unfolding Stands
 wires_there sizes sim w world = (world.wires, world.wired)
 
--- as many shards as the sizes say
+-- there are as many shards as in the sizes
 pub shards_counted : (sizes : Sizes) (laid : Laid) (wires : Wires) → AreWired sizes laid wires → length laid.workers ≡ sizes.shards
 unfolding AreWired
 shards_counted sizes laid wires was = was.shard_count

@@ -1,4 +1,4 @@
--- A core stands in the next world where one connection of its world changed, and the core with it.
+-- A simulator is in the next world if one connection of its world changed, and the simulator with it.
 use Rattle.std.proofs.Common.{◌≡◌, ◌≢◌, ℕ, inl, inr, Option, Some, None, List, length, refl, sym, ap, ◌∙◌, subst, arith, slice_set}
 use Rattle.std.specs.List.{slice_get}
 use Rattle.std.proofs.lemmas.Bool.{cases_eq}
@@ -36,7 +36,7 @@ set_at P xs ys i x y z here is good found =
 set_off : {X : Type 0} (xs ys : List X) (i : ℕ) (y : X) (j : ℕ) (z : X) → ys ≡ slice_set xs i y → j ≢ i → slice_get ys j ≡ Some z → slice_get xs j ≡ Some z
 set_off xs ys i y j z is apart found = sym (get-set_other xs i j y apart) ∙ (ap (λ zs. slice_get zs j) (sym is) ∙ found)
 
--- Where one seat was set, as the world says, the seats are those of before but for that one.
+-- If one seat was set to the world's, the other seats are unchanged.
 pub seats_set : (sizes : Sizes) (w : World) (c : ℕ) (old new : List Seat) (before after : Seat) → slice_get old c ≡ Some before → new ≡ slice_set old c after → SeatIs sizes w c after.conn after.current → SeatsBut sizes w c old new
 seats_set sizes w c old new before after here is good = record {
   count = ap length is ∙ length-slice_set old c after;
@@ -44,7 +44,7 @@ seats_set sizes w c old new before after here is good = record {
   others = λ d seat apart found. set_off old new c after d seat is apart found;
 }
 
--- Where what is kept of one connection was set, as the world says, all that is kept is as before but for that.
+-- If the history of one connection was set to the world's, all other histories are unchanged.
 pub kept_set : (sizes : Sizes) (w : World) (k : ℕ) (link : Link) (old new : List Connection) (before after : Connection) → slice_get old k ≡ Some before → new ≡ slice_set old k after → KeepsLink sizes w k link after → KeptBut sizes w k link old new
 kept_set sizes w k link old new before after here is good = record {
   count = ap length is ∙ length-slice_set old k after;
@@ -52,7 +52,7 @@ kept_set sizes w k link old new before after here is good = record {
   others = λ j kept apart found. set_off old new k after j kept is apart found;
 }
 
--- Where all that is kept stays, and what is kept of one connection is as the world says, all is as before but for that.
+-- If all histories stay, and that of one connection is the world's, the others are unchanged.
 pub kept_same : (sizes : Sizes) (w : World) (k : ℕ) (link : Link) (old new : List Connection) (kept : Connection) → slice_get old k ≡ Some kept → new ≡ old → KeepsLink sizes w k link kept → KeptBut sizes w k link old new
 kept_same sizes w k link old new kept here is good = record {
   count = ap length is;
@@ -72,8 +72,8 @@ seat_on sizes w c k link next d conn (Some j) at seat apart is =
 kept_on : (sizes : Sizes) (w : World) (k : ℕ) (next : Link) (j : ℕ) (link : Link) (kept : Connection) → KeepsLink sizes w j link kept → KeepsLink sizes (with_link w k next) j link kept
 kept_on sizes w k next j link kept h = record { seat = h.seat; ended = h.ended; broken = h.broken; fed = h.fed; handed = h.handed }
 
--- A core stands in the world with the change of one connection, where the law still holds, its seat, what is kept of it
--- and the rings show that change, and the log is the same.
+-- A simulator is in the world with the change of one connection, if the law still holds, its seat, its
+-- connection and the rings show that change, and the log is the same.
 pub world_on : (sizes : Sizes) (w : World) (c k : ℕ) (link next : Link) (old new : Sim) (wires : Wires) → IsWorld sizes old w → IsAt w c k link → next.seat ≡ link.seat → Law sizes (with_link w k next) →
     SeatsBut sizes (with_link w k next) c old.seats.items new.seats.items → KeptBut sizes (with_link w k next) k next old.connections.items new.connections.items →
     new.log.items ≡ old.log.items → AreWired sizes new.rings wires → Mirrors sizes (with_link w k next) wires →

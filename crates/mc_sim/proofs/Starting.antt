@@ -1,4 +1,4 @@
--- A new core stands in the world in which nothing has happened.
+-- A new simulator is in the initial world.
 use Rattle.std.proofs.Common.{◌≡◌, None, Some, [], length, refl, sym, ap, subst}
 use Rattle.std.specs.List.{AllByRecursion}
 use Rattle.mc_sizes.specs.Sizes.{AreWithin}
@@ -10,7 +10,7 @@ use Rattle.mc_sim.specs.Stands.{IsNewSeat, IsWorld, SeatIs, Stands}
 use Rattle.mc_model.proofs.Worlds.{at_begin}
 use Rattle.mc_ring.proofs.Lists.{all_at}
 
--- A new core, of sizes that a server may have, stands in the world in which nothing has happened.
+-- A new simulator of valid sizes is in the initial world.
 pub begins : (sizes : Sizes) (sim : Sim) → AreWithin sizes → length sim.seats.items ≡ sizes.seats → AllByRecursion (IsNewSeat sizes) sim.seats.items → sim.connections.items ≡ [] → sim.log.items ≡ [] → AreWired sizes sim.rings (new_wires sizes) → Stands sizes sim empty_world
 unfolding Stands
 begins sizes sim within counted seats connections log wired =

@@ -1,10 +1,10 @@
--- The events that are asked for, as the schedules name them.
+-- The requested events, by the names of the schedules.
 use Rattle.mc_model.specs.declared.event.Event.{Event as Asked}
 use Rattle.mc_model.specs.declared.event.Event.TheVariants as asked
 use Rattle.mc_model.specs.Events.{Event}
 use Rattle.mc_model.specs.Events.Event.{Open, Feed, Take, Send, Pop, Give, Receive, Hand, End, Break}
 
--- an event as the schedules name it
+-- the event by the name of the schedules
 abbrev pub event_of : Asked → Event
 event_of (asked.Open seat) = Open seat
 event_of (asked.Feed seat bytes) = Feed seat bytes.items

@@ -1,4 +1,4 @@
--- The seats' ends of all lanes and the workers of all shards, each in the place of its number.
+-- The seats' ends of all lanes and the workers of all shards, each at the index of its number.
 use Rattle.std.specs.Prelude.{ℕ, ◌≡◌, ◌<◌, Some, List, length, slice_set}
 use Rattle.std.specs.List.{slice_get}
 use Rattle.mc_ring.specs.Lane.{Near}
@@ -9,16 +9,16 @@ use Rattle.mc_worker.specs.Desk.{Desk}
 pub record Laid : Type 0 where
   pub seats : List (Ends Near)
   pub workers : List Desk
-  -- how many items one ring holds
+  -- the capacity of one ring
   pub places : ℕ
 
--- Each seat and each worker has the number of its place, and there is a lane between each two.
+-- Each seat and each worker is at the index of its number, and there is a lane between each two.
 pub record AreLaid (laid : Laid) : Type 0 where
   pub seat_number : (c : ℕ) (seat : Ends Near) → slice_get laid.seats c ≡ Some seat → seat.number ≡ c
   pub worker_number : (s : ℕ) (desk : Desk) → slice_get laid.workers s ≡ Some desk → desk.ends.number ≡ s
   pub each_lane : (c s : ℕ) (seat : Ends Near) (desk : Desk) → slice_get laid.seats c ≡ Some seat → slice_get laid.workers s ≡ Some desk → IsLane seat desk.ends
 
--- There are such a seat and such a shard.
+-- The seat and the shard exist.
 abbrev pub AreIn : Laid → ℕ → ℕ → Type 0
 AreIn laid seat shard = (seat < length laid.seats) × (shard < length laid.workers)
 

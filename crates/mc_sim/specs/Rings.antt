@@ -1,4 +1,4 @@
--- What is on its way between the seats and the shards, and what the shards hold.
+-- What is in the rings between seats and shards, and the contents of the shards.
 use Rattle.std.specs.Prelude.{ℕ, ◌≡◌, ◌<◌, ◌≤◌, ◌==◌, Bool, true, false, Option, Some, None, List, [], ◌∷◌, ◌++◌, length, map, if◌then◌else◌}
 use Rattle.std.specs.List.{AllByRecursion, slice_get}
 use Rattle.mc_sizes.specs.declared.sizes.Sizes.{Sizes}
@@ -17,18 +17,18 @@ use Rattle.mc_model.specs.Log.{Entry, reply_to}
 use Rattle.mc_worker.specs.Desk.{Desk}
 use Rattle.mc_sim.specs.Laid.{AreLaid, Laid}
 
--- what waits on the lanes, what the workers hold in their hands, and the states of the shards
+-- the contents of the lanes, the replies that workers hold, and the states of the shards
 pub record Wires : Type 0 where
   -- by seat and shard, the pieces that the seat sent and the shard has not taken, the oldest first
   pub pieces : ℕ → ℕ → List Piece
-  -- by seat and shard, the replies that the shard gave and the seat has not received, the oldest first
+  -- by seat and shard, the replies that the shard sent and the seat has not received, the oldest first
   pub replies : ℕ → ℕ → List Shown
-  -- by shard, the reply that its worker has not given yet, and the seat that it is for
+  -- by shard, the reply that its worker has not sent yet, and the seat that it is for
   pub hand : ℕ → Option (ℕ × Shown)
   -- by shard, its state
   pub state : ℕ → State
 
--- where nothing has happened
+-- the initial state
 abbrev pub new_wires : Sizes → Wires
 new_wires sizes = record { pieces = λ c s. []; replies = λ c s. []; hand = λ s. None; state = λ s. empty_shard sizes s }
 
@@ -49,12 +49,12 @@ pub record IsWire (c s : ℕ) (seat : Ends Near) (desk : Desk) (pieces : List Pi
   pub pieces_wait : sent_on seat s ≡ received_on desk.ends c ++ parcels_of pieces
   pub replies_wait : sent_on desk.ends c ≡ received_on seat s ++ replies
 
--- a seat's ends
+-- the ends of a seat
 pub record IsSeatEnds (sizes : Sizes) (seat : Ends Near) : Type 0 where
   pub counted : length seat.lanes ≡ sizes.shards
   pub holds : AllByRecursion (λ lane. lane.capacity ≡ sizes.ring) (lanes_of seat)
 
--- a shard's worker
+-- the worker of a shard
 pub record IsWorker (sizes : Sizes) (desk : Desk) (hand : Option (ℕ × Shown)) (state : State) : Type 0 where
   pub counted : length desk.ends.lanes ≡ sizes.seats
   pub holds : AllByRecursion (λ lane. lane.capacity ≡ sizes.ring) (lanes_of desk.ends)
@@ -73,7 +73,7 @@ pub record HaveWires (sizes : Sizes) (rings : Laid) (wires : Wires) : Type 0 whe
   pub each_worker : (s : ℕ) (desk : Desk) → slice_get rings.workers s ≡ Some desk → IsWorker sizes desk (wires.hand s) (wires.state s)
   pub each_wire : (c s : ℕ) (seat : Ends Near) (desk : Desk) → slice_get rings.seats c ≡ Some seat → slice_get rings.workers s ≡ Some desk → IsWire c s seat desk (wires.pieces c s) (wires.replies c s)
 
--- The rings hold this, and the shards are in these states.
+-- The rings have these contents, and the shards are in these states.
 unfoldable pub AreWired : Sizes → Laid → Wires → Type 0
 AreWired sizes rings wires = HaveWires sizes rings wires
 
@@ -81,18 +81,18 @@ AreWired sizes rings wires = HaveWires sizes rings wires
 abbrev pub ends_of : Desk → Ends Far
 ends_of desk = desk.ends
 
--- A worker over an empty shard, which no seat has sent anything.
+-- A worker with an empty shard, to which no seat has sent anything.
 pub record IsStarted (sizes : Sizes) (desk : Desk) : Type 0 where
   pub marked : length desk.live ≡ length desk.ends.lanes
   pub live : AllByRecursion (λ live. live ≡ true) desk.live
   pub free : desk.hand ≡ None
   pub keeps : Keeps desk.shard (empty_shard sizes desk.ends.number)
 
--- Both are there.
+-- The seat and the shard exist.
 abbrev pub AreThere : Sizes → ℕ → ℕ → Type 0
 AreThere sizes seat shard = (seat < sizes.seats) × (shard < sizes.shards)
 
--- A piece was sent to a shard: its ring had room.
+-- A piece was sent to a shard, whose ring wasn't full.
 pub record SendsPiece (sizes : Sizes) (wires : Wires) (seat shard : ℕ) (piece : Piece) (new : Laid) : Type 0 where
   pub room : length (wires.pieces seat shard) < sizes.ring
   pub now : AreWired sizes new (record wires { pieces = with_lane wires.pieces seat shard (wires.pieces seat shard ++ piece ∷ []) })
@@ -102,7 +102,7 @@ pub record KeepsPiece (sizes : Sizes) (wires : Wires) (seat shard : ℕ) (new : 
   pub full : AreThere sizes seat shard → sizes.ring ≤ length (wires.pieces seat shard)
   pub now : AreWired sizes new wires
 
--- Whether the shard may run a piece of the seat: its worker's hand is empty, and one waits.
+-- Whether the shard may run a piece of the seat: its worker holds no reply, and one waits.
 pub record TellsWaiting (sizes : Sizes) (wires : Wires) (shard seat : ℕ) (waits : Bool) (new : Laid) : Type 0 where
   pub some : waits ≡ true → (wires.hand shard ≡ None) × (0 < length (wires.pieces seat shard))
   pub none : waits ≡ false → AreThere sizes seat shard → wires.hand shard ≡ None → wires.pieces seat shard ≡ []
@@ -127,12 +127,12 @@ pub record RunsOldest (sizes : Sizes) (wires : Wires) (shard seat : ℕ) (ran : 
     state = with_shard wires.state shard after;
   })
 
--- It has run none: its hand is full, or none waits.
+-- It has run none: it holds a reply, or none waits.
 pub record RunsNone (sizes : Sizes) (wires : Wires) (shard seat : ℕ) (new : Laid) : Type 0 where
   pub none : AreThere sizes seat shard → wires.hand shard ≡ None → wires.pieces seat shard ≡ []
   pub now : AreWired sizes new wires
 
--- The reply in the worker's hand went out to its seat.
+-- The reply that the worker held was sent to its seat.
 pub record GivesReply (sizes : Sizes) (wires : Wires) (shard : ℕ) (new : Laid) : Type 0 where
   pub seat : ℕ
   pub reply : Shown
@@ -144,7 +144,7 @@ pub record GivesReply (sizes : Sizes) (wires : Wires) (shard : ℕ) (new : Laid)
     hand = with_shard wires.hand shard None;
   })
 
--- None went out: the hand is empty, or the ring is full.
+-- None was sent: the worker holds none, or the ring is full.
 pub record GivesNone (sizes : Sizes) (wires : Wires) (shard : ℕ) (new : Laid) : Type 0 where
   pub full : shard < sizes.shards → (seat : ℕ) (reply : Shown) → wires.hand shard ≡ Some (seat, reply) → sizes.ring ≤ length (wires.replies seat shard)
   pub now : AreWired sizes new wires

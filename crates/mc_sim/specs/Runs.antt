@@ -1,4 +1,4 @@
--- Lists of events that a simulated core runs, and how many of them were done.
+-- Lists of events that a simulator runs, and how many of them were done.
 use Rattle.std.specs.Prelude.{ℕ, ◌≡◌, ◌≢◌, ◌+◌, List, [], ◌∷◌, ◌++◌}
 use Rattle.mc_sizes.specs.declared.sizes.Sizes.{Sizes}
 use Rattle.mc_sim.specs.declared.sim.Sim.{Sim}
@@ -19,25 +19,26 @@ abbrev pub done_in : (sizes : Sizes) (w : World) (events : List Event) (w' : Wor
 done_in sizes w [] w' led = 0
 done_in sizes w (event ∷ events) w' led = is_done led.0 + done_in sizes led.1 events w' led.3
 
--- Each event of a run found the memory that it took.
+-- No event of a run was refused memory.
 abbrev pub FoundMemory : (sizes : Sizes) (w : World) (events : List Event) (w' : World) → Leads sizes w events w' → Type 0
 FoundMemory sizes w [] w' led = Unit {0}
 FoundMemory sizes w (event ∷ events) w' led = (led.0 ≢ NoMemory) × FoundMemory sizes led.1 events w' led.3
 
--- These events, each of which found its memory, lead from this world to one in which the core stands.
+-- These events, none of which was refused memory, lead from this world to one of the simulator.
 pub record StandsAfter (sizes : Sizes) (w : World) (events : List Event) (new : Sim) : Type 0 where
   pub later : World
   pub led : Leads sizes w events later
   pub memory : FoundMemory sizes w events later led
   pub stands : Stands sizes new later
 
--- From whatever world the core stood in, it stands after all of the events, and done counts those that were done.
+-- From any world of the simulator, the events lead to a world of it, and `done` is the number of events done.
 abbrev pub Runs : Sim → List Event → ℕ → Sim → Type 0
 Runs old events done new =
     (sizes : Sizes) (w : World) → Stands sizes old w →
     (ran : StandsAfter sizes w events new) × (done ≡ done_in sizes w events ran.later ran.led)
 
--- The core ran the events before the first that found no memory, and no more, and stands after these.
+-- The simulator ran exactly the events before the first one that was refused memory, and is in the world
+-- after them.
 abbrev pub Stops : Sim → List Event → Sim → Type 0
 Stops old events new =
     (sizes : Sizes) (w : World) → Stands sizes old w →

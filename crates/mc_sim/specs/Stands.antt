@@ -1,4 +1,4 @@
--- When a simulated core stands as a world says.
+-- The relation between a simulator and a world of the model.
 use Rattle.std.specs.Prelude.{ℕ, ◌≡◌, ◌<◌, Bool, Option, Some, None, List, [], length, map, take, drop}
 use Rattle.std.specs.List.{slice_get}
 use Rattle.mc_sizes.specs.Sizes.{AreWithin, IsFirstOut, rules_of}
@@ -25,7 +25,7 @@ use Rattle.mc_model.specs.Headline.{handed_bytes}
 use Rattle.mc_model.specs.Law.{Law}
 use Rattle.mc_sim.specs.Rings.{AreWired, Wires}
 
--- what a connection was told and told, where it received these replies, in this order
+-- the history of a connection that received these replies, in this order
 abbrev pub told_of : Sizes → Link → Bool → List Shown → Told
 told_of sizes link lent accepted = record { shards = sizes.shards; rules = rules_of sizes; window = sizes.window; fed = link.fed; ended = link.ended; broken = link.broken; taken = link.taken; out = link.sent; lent = lent; accepted = accepted; handed = link.handed }
 
@@ -33,7 +33,7 @@ told_of sizes link lent accepted = record { shards = sizes.shards; rules = rules
 abbrev pub received_by : Link → List Entry → ℕ → List Shown
 received_by link own s = take (link.received s) (replies_in (on_shard s own))
 
--- The seat's part of a connection: it accepted what it received, each reply in its place.
+-- The seat's part of a connection: it accepted what it received, each reply in its slot.
 pub record IsServing (sizes : Sizes) (own : List Entry) (link : Link) (conn : Conn) : Type 0 where
   pub lent : Bool
   pub accepted : List Shown
@@ -49,7 +49,7 @@ SeatIs sizes w seat conn (Some k) = (link : Link) × IsAt w seat k link × IsSer
 abbrev pub IsNewSeat : Sizes → Seat → Type 0
 IsNewSeat sizes seat = (seat.current ≡ None) × IsConn seat.conn (told_nothing sizes.shards (rules_of sizes) sizes.window)
 
--- What is kept of a connection.
+-- The history of a connection.
 pub record KeepsLink (sizes : Sizes) (w : World) (k : ℕ) (link : Link) (kept : Connection) : Type 0 where
   pub seat : kept.seat ≡ link.seat
   pub ended : kept.ended ≡ link.ended
@@ -57,7 +57,7 @@ pub record KeepsLink (sizes : Sizes) (w : World) (k : ℕ) (link : Link) (kept :
   pub fed : kept.fed.items ≡ link.fed
   pub handed : kept.handed.items ≡ handed_bytes sizes w k link
 
--- what is kept of an entry of the log
+-- the log entry of the code, for an entry of the model's log
 abbrev pub line_of : Entry → LogEntry
 line_of entry = record { shard = entry.shard; connection = entry.asker; ticket = entry.piece.ticket; part = entry.piece.part; moment = entry.piece.moment }
 
@@ -65,11 +65,11 @@ line_of entry = record { shard = entry.shard; connection = entry.asker; ticket =
 abbrev pub unrun : Sizes → World → ℕ → ℕ → Link → List Piece
 unrun sizes w k s link = drop (ran w k s) (lane s (take link.sent (pieces sizes.shards link.taken)))
 
--- the replies that a shard gave and the connection has not received
+-- the replies that a shard sent and the connection has not received
 abbrev pub unreceived : World → ℕ → ℕ → Link → List Shown
 unreceived w k s link = drop (link.received s) (take (link.given s) (replies_in (on_shard s (of_asker k w.log))))
 
--- The reply in a worker's hand is the one that is not given yet, for the connection of that seat.
+-- The reply that a worker holds is the one that is not sent yet, for the connection of that seat.
 pub record IsHolding (w : World) (s seat : ℕ) (reply : Shown) : Type 0 where
   pub number : ℕ
   pub link : Link
@@ -81,7 +81,8 @@ abbrev pub HandIs : World → ℕ → Option (ℕ × Shown) → Type 0
 HandIs w s None = IsEmptyHand w s
 HandIs w s (Some held) = IsHolding w s held.0 held.1
 
--- The rings hold what was sent and not run, or given and not received; the shards are where the log leaves them.
+-- The rings hold what was sent and not run, or sent back and not received; the shards are in the states after
+-- the log.
 pub record Mirrors (sizes : Sizes) (w : World) (wires : Wires) : Type 0 where
   pub lanes : (c k : ℕ) (link : Link) → IsAt w c k link → (s : ℕ) → (wires.pieces c s ≡ unrun sizes w k s link) × (wires.replies c s ≡ unreceived w k s link)
   pub unused : (c : ℕ) → IsUnusedSeat w c → (s : ℕ) → (wires.pieces c s ≡ []) × (wires.replies c s ≡ [])
@@ -101,15 +102,16 @@ pub record IsWorld (sizes : Sizes) (sim : Sim) (w : World) : Type 0 where
   pub wired : AreWired sizes sim.rings wires
   pub mirrors : Mirrors sizes w wires
 
--- The core stands as the world says: its lists are the world's, and its connections, rings and shards are what led there.
+-- The simulator is in this world: its lists are the world's, and its connections, rings and shards have the
+-- states that led there.
 unfoldable pub Stands : Sizes → Sim → World → Type 0
 Stands sizes sim w = IsWorld sizes sim w
 
--- The sizes are refused for the first that is out of its limits; of sizes that a server may have memory ran out.
+-- The sizes are refused for the first one that is out of range; for valid sizes, memory was refused.
 abbrev pub IsRefused : Sizes → SimRefusal → Type 0
 IsRefused sizes (Size fault) = IsFirstOut sizes fault
 IsRefused sizes Memory = AreWithin sizes
 
--- From whatever world the core stood in, the event leads it to one, and is answered as the world's events are.
+-- From any world of the simulator, the event leads to a world of it, with the result of the world's event.
 abbrev pub StepsByEvent : Sim → Event → StepReply → Sim → Type 0
 StepsByEvent old event reply new = (sizes : Sizes) (w : World) → Stands sizes old w → (w' : World) × Happens sizes w event reply w' × Stands sizes new w'

@@ -1,5 +1,5 @@
-//! The simulator: connections, rings, workers and shards, the real parts of the server, in one thread, moved by one event at a
-//! time. Each of its steps is an event of the worlds of `mc_model`.
+//! The simulator: the server's real connections, rings, workers and shards in one thread, driven by
+//! one event at a time. Each step is an event of the model in `mc_model`.
 #![tactic(auto)]
 
 mod sim;

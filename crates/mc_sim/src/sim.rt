@@ -1,4 +1,4 @@
-//! The whole core in one thread: connections, shards and the rings between them, moved by one event at a time.
+//! The whole server in one thread: connections, shards and rings, driven by one event at a time.
 ghost use Rattle.std.specs.Prelude.{◌≡◌, ◌<◌, ℕ, length, map, IfErr, IfOk, IfSome, IfNone, OnErr, OnOk, Some};
 ghost use Rattle.std.specs.List.{AllByRecursion, slice_get};
 ghost use Rattle.std.specs.Option.{option_map};
@@ -25,51 +25,52 @@ use std::alloc::{AllocError, Global};
 use std::random::RandomSource;
 use thiserror::Error;
 
-/// Why there is no simulated core.
+/// Why a simulator can't be made.
 #[derive(Clone, Copy, Debug, Error)]
 pub enum SimRefusal {
-    /// A size is out of its limits.
+    /// A size is out of range.
     #[error(transparent)]
     Size(SizeFault),
-    /// Memory ran out.
+    /// Memory was refused.
     #[error("out of memory")]
     Memory,
 }
 
-/// A connection, and what is kept of it. Connections are numbered in the order in which they were opened, from 0.
+/// A connection with its history. Connections are numbered from 0 in the order in which they were
+/// opened.
 #[derive(Drop)]
 pub struct Connection {
     pub seat: usize,
     pub ended: bool,
     pub broken: bool,
-    /// All bytes that it was fed.
+    /// All bytes fed to it.
     fed: Vec<u8>,
-    /// All bytes that it was handed.
+    /// All bytes written to it.
     handed: Vec<u8>,
 }
 
-/// A piece that a shard ran.
+/// An operation that a shard ran.
 #[derive(Clone, Copy, PartialEq, Eq)]
 pub struct LogEntry {
     pub shard: usize,
-    /// The number of the connection that it was for.
+    /// The number of its connection.
     pub connection: usize,
     pub ticket: Ticket,
     pub part: usize,
-    /// When the command was taken, in seconds since 1970.
+    /// When the command was parsed, in seconds since 1970.
     pub moment: u64,
 }
 
-/// A seat, and the number of the connection that it has.
+/// A slot with the number of its connection.
 #[derive(Drop)]
 struct Seat {
     conn: Conn,
     current: Option<usize>,
 }
 
-/// A core of connections, shards and rings, in one thread.
+/// The server in one thread.
 ///
-/// The contracts speak of the world that it stands in: `Stands sizes sim world`.
+/// Contracts relate it to a world of the model: `Stands sizes sim world`.
 pub struct Sim {
     seats: Vec<Seat>,
     connections: Vec<Connection>,
@@ -78,7 +79,7 @@ pub struct Sim {
 }
 
 impl Drop for Sim {
-    /// By hand, so that to let one go is one call for whoever holds it (docs/DECISIONS.md).
+    /// Written by hand, so that its owners drop it by a single call (docs/DECISIONS.md, F20).
     fn drop(self) {
         let Sim {
             seats: _seats,
@@ -90,7 +91,7 @@ impl Drop for Sim {
 }
 
 impl Sim {
-    /// A core of these sizes, in which nothing has happened.
+    /// A server of these sizes in its initial state.
     pub fn new<R: RandomSource>(rt: &R, alloc: Global, sizes: Sizes) -> Result<Sim, SimRefusal>
         ensures ok { IfOk result (λ sim. Stands sizes sim empty_world) }
         ensures within { OnOk result (AreWithin sizes) }
@@ -105,7 +106,7 @@ impl Sim {
         Ok(sim)
     }
 
-    /// A core of sizes that are within their limits.
+    /// A server of sizes that are in range.
     fn make<R: RandomSource>(rt: &R, alloc: Global, sizes: Sizes) -> Result<Sim, AllocError>
         requires { AreWithin sizes }
         ensures { IfOk result (λ sim. Stands sizes sim empty_world) }
@@ -120,14 +121,14 @@ impl Sim {
         })
     }
 
-    /// How many connections it has at a time.
+    /// Number of slots.
     pub fn seats(&self) -> usize
         ensures { (sizes : Sizes) (w : World) → Stands sizes self.now w → result ≡ sizes.seats }
     {
         self.seats.len()
     }
 
-    /// How many shards it has.
+    /// Number of shards.
     pub fn shards(&self) -> usize
         ensures { (sizes : Sizes) (w : World) → Stands sizes self.now w → result ≡ sizes.shards }
     {
@@ -146,7 +147,7 @@ impl Sim {
         &self.connections
     }
 
-    /// All bytes that the connection of this number was fed, where there is one.
+    /// All bytes fed to the connection of this number, if it exists.
     pub fn fed(&self, number: usize) -> Option<&[u8]>
         ensures kept { (sizes : Sizes) (w : World) (link : Link) → Stands sizes self.now w →
             IsLink w number link → option_map (λ bytes. bytes.now) result ≡ Some link.fed }
@@ -157,7 +158,7 @@ impl Sim {
         Some(&kept.fed)
     }
 
-    /// All bytes that the connection of this number was handed, where there is one.
+    /// All bytes written to the connection of this number, if it exists.
     pub fn handed(&self, number: usize) -> Option<&[u8]>
         ensures kept { (sizes : Sizes) (w : World) (link : Link) → Stands sizes self.now w →
             IsLink w number link →
@@ -169,7 +170,7 @@ impl Sim {
         Some(&connection.handed)
     }
 
-    /// What the shards ran, in the order in which they did.
+    /// The log: what the shards ran, in order.
     pub fn log(&self) -> &[LogEntry]
         ensures { (sizes : Sizes) (w : World) → Stands sizes self.now w →
             result.now ≡ map line_of w.log }
@@ -177,7 +178,7 @@ impl Sim {
         &self.log
     }
 
-    /// One event of a connection or a shard.
+    /// Runs one event.
     pub fn step(&mut self, alloc: Global, event: &Event) -> StepReply
         ensures { StepsByEvent self.old (event_of event.now) result self.new }
     {
@@ -195,7 +196,8 @@ impl Sim {
         }
     }
 
-    /// Events one after another, up to the first that finds no memory; how many of them were done.
+    /// Runs events in order, up to the first that is refused memory. Returns the number of events
+    /// done.
     pub fn run(&mut self, alloc: Global, events: &[Event]) -> Result<u64, NoMemory>
         ensures ran { IfOk result (λ done. Runs self.old (map event_of events.now) done self.new) }
         ensures stopped { OnErr result (Stops self.old (map event_of events.now) self.new) }
@@ -211,7 +213,7 @@ impl Sim {
         Ok(done)
     }
 
-    /// The number of the connection that a seat has.
+    /// The number of the slot's connection.
     fn find(&self, seat: usize) -> Option<usize>
         ensures seat { IfSome result (λ number. seat < length self.now.seats.items) }
         ensures kept { IfSome result (λ number. number < length self.now.connections.items) }
@@ -233,7 +235,7 @@ impl Sim {
     }
 }
 
-/// The seats, each with a connection in which nothing has happened.
+/// The slots, each with a new connection.
 fn new_seats(alloc: Global, sizes: Sizes) -> Result<Vec<Seat>, AllocError>
     requires { AreWithin sizes }
     ensures count { IfOk result (λ seats. length seats.items ≡ sizes.seats) }

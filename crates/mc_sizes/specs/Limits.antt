@@ -1,8 +1,8 @@
--- Between which limits the sizes of a server lie, and what they are where nothing else is said, as numbers.
+-- The ranges and defaults of a server's sizes.
 use Rattle.std.specs.Prelude.{◌≡◌, ◌^◌, ◌*◌}
 use Rattle.mc_sizes.specs.declared.TheConstants.{DEFAULT_BUDGET, DEFAULT_RING, DEFAULT_SEATS, DEFAULT_SHARDS, DEFAULT_WINDOW, GREATEST_BUDGET, GREATEST_RING, GREATEST_SEATS, GREATEST_SHARDS, GREATEST_WINDOW, LEAST_BUDGET, LEAST}
 
--- What the constants of the code are. Budgets are in bytes.
+-- The values of the code's constants. Budgets are in bytes.
 pub record LimitsAre : Type 0 where
   pub least : LEAST ≡ 1
   pub greatest_seats : GREATEST_SEATS ≡ 65536

@@ -1,4 +1,4 @@
--- The rules that the sizes of a server give, and the limits between which the sizes lie.
+-- The sizes of a server: the parser's rules that they imply, and their ranges.
 use Rattle.std.specs.Prelude.{ℕ, ◌<◌, ◌≤◌}
 use Rattle.mc_wire.specs.declared.TheConstants.{GREATEST_LINE_LIMIT, GREATEST_VALUE_LIMIT, LEAST_LINE_LIMIT, LEAST_VALUE_LIMIT}
 use Rattle.mc_command.specs.declared.rules.Rules.{Rules}
@@ -7,14 +7,14 @@ use Rattle.mc_sizes.specs.declared.sizes.Sizes.{Sizes}
 use Rattle.mc_sizes.specs.declared.sizes.SizeFault.{SizeFault}
 use Rattle.mc_sizes.specs.declared.sizes.SizeFault.TheVariants.{Bytes, Line, Ring, Seats, Shards, Value, Window}
 
--- the rules by which lines are read
+-- the parser's rules
 abbrev pub rules_of : Sizes → Rules
 rules_of sizes = record { profile = sizes.profile; value_limit = sizes.value; line_limit = sizes.line }
 
 abbrev pub IsFrom : ℕ → ℕ → ℕ → Type 0
 IsFrom least greatest n = (least ≤ n) × (n ≤ greatest)
 
--- The size that a fault names lies within its limits.
+-- The size that an error names is within its range.
 abbrev pub IsWithin : Sizes → SizeFault → Type 0
 IsWithin sizes Seats = IsFrom LEAST GREATEST_SEATS sizes.seats
 IsWithin sizes Shards = IsFrom LEAST GREATEST_SHARDS sizes.shards
@@ -24,7 +24,7 @@ IsWithin sizes Value = IsFrom LEAST_VALUE_LIMIT GREATEST_VALUE_LIMIT sizes.value
 IsWithin sizes Line = IsFrom LEAST_LINE_LIMIT GREATEST_LINE_LIMIT sizes.line
 IsWithin sizes Window = IsFrom LEAST GREATEST_WINDOW sizes.window
 
--- The size that a fault names is the first that doesn't.
+-- The size that an error names is the first one that isn't.
 abbrev pub IsFirstOut : Sizes → SizeFault → Type 0
 IsFirstOut sizes Seats = ¬ IsWithin sizes Seats
 IsFirstOut sizes Shards = IsWithin sizes Seats × ¬ IsWithin sizes Shards
@@ -34,7 +34,7 @@ IsFirstOut sizes Value = IsWithin sizes Seats × IsWithin sizes Shards × IsWith
 IsFirstOut sizes Line = IsWithin sizes Seats × IsWithin sizes Shards × IsWithin sizes Bytes × IsWithin sizes Ring × IsWithin sizes Value × ¬ IsWithin sizes Line
 IsFirstOut sizes Window = IsWithin sizes Seats × IsWithin sizes Shards × IsWithin sizes Bytes × IsWithin sizes Ring × IsWithin sizes Value × IsWithin sizes Line × ¬ IsWithin sizes Window
 
--- The sizes are those that a server may have: each lies within its limits.
+-- Each size is within its range.
 pub record AreWithin (sizes : Sizes) : Type 0 where
   pub seats : IsWithin sizes Seats
   pub shards : IsWithin sizes Shards
@@ -44,25 +44,26 @@ pub record AreWithin (sizes : Sizes) : Type 0 where
   pub line : IsWithin sizes Line
   pub window : IsWithin sizes Window
 
--- There may be lanes between sizes.seats seats and sizes.shards shards, with rings of sizes.ring places.
+-- The sizes allow channels between sizes.seats slots and sizes.shards shards, with rings of capacity
+-- sizes.ring.
 pub record SuitLanes (sizes : Sizes) : Type 0 where
   pub seats : IsWithin sizes Seats
   pub shards : IsWithin sizes Shards
   pub ring : IsWithin sizes Ring
 
--- There may be shards with such a budget, for values so large.
+-- The sizes allow shards with this budget and this value limit.
 pub record SuitShards (sizes : Sizes) : Type 0 where
   pub bytes : IsWithin sizes Bytes
   pub value : sizes.value ≤ GREATEST_VALUE_LIMIT
 
--- Lines may be served over sizes.shards shards, by such limits of values and lines and such a window.
+-- The sizes allow lines over sizes.shards shards, with these limits of values and lines and this window.
 pub record SuitLines (sizes : Sizes) : Type 0 where
   pub shards : 0 < sizes.shards
   pub value : sizes.value ≤ GREATEST_VALUE_LIMIT
   pub line : sizes.line ≤ GREATEST_LINE_LIMIT
   pub window : 0 < sizes.window
 
--- There may be a server of these sizes.
+-- The sizes allow a server.
 pub record MayServe (sizes : Sizes) : Type 0 where
   pub lanes : SuitLanes sizes
   pub shards : SuitShards sizes

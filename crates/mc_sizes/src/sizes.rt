@@ -1,4 +1,4 @@
-//! The sizes of a server.
+//! The sizes of a server and their validation.
 ghost use Rattle.std.specs.Prelude.{◌≡◌, ◌↔◌, IfErr, IsOk};
 ghost use Rattle.mc_sizes.specs.Limits.{LimitsAre};
 ghost use Rattle.mc_sizes.specs.Sizes.{AreWithin, IsFirstOut, rules_of};
@@ -11,29 +11,29 @@ use mc_command::{Profile, Rules};
 use mc_wire::{GREATEST_LINE_LIMIT, GREATEST_VALUE_LIMIT, LEAST_LINE_LIMIT, LEAST_VALUE_LIMIT};
 use thiserror::Error;
 
-/// How large a server is, and whose rules it follows.
+/// The sizes of a server, and the protocol profile that it follows.
 #[derive(Clone, Copy, PartialEq, Eq)]
 pub struct Sizes {
-    /// Whose rules it follows.
+    /// The protocol rules: native, or memcached's (`--drop-in`).
     pub profile: Profile,
-    /// How many connections are served at a time.
+    /// Number of connections that are served at a time.
     pub seats: usize,
-    /// How many shards there are.
+    /// Number of shards.
     pub shards: usize,
-    /// The budget of a shard: what its items may cost together, in bytes.
+    /// Memory budget of each shard, in bytes: an upper bound on the total cost of its items.
     pub bytes: usize,
-    /// How many pieces, or replies, a ring holds at most.
+    /// Capacity of each ring: of pieces in one direction, of replies in the other.
     pub ring: usize,
-    /// How many bytes a value has at most.
+    /// Maximum size of a value, in bytes.
     pub value: usize,
-    /// How many bytes a line has at most, its line feed among them.
+    /// Maximum length of a line in bytes, including its line feed.
     pub line: usize,
-    /// How many commands of a connection may be open: taken, and their replies not handed out.
+    /// Maximum number of open commands of a connection: parsed, and not answered yet.
     pub window: usize,
 }
 
 impl Sizes {
-    /// The rules by which lines are read.
+    /// The parser's rules: profile, value limit and line limit.
     pub fn rules(self) -> Rules
         ensures { result ≡ rules_of self }
     {
@@ -44,7 +44,7 @@ impl Sizes {
         }
     }
 
-    /// Whether a server may have these sizes.
+    /// Checks each size against its range. Reports the first one that is out of range.
     pub fn check(self) -> Result<(), SizeFault>
         ensures within { IsOk result ↔ AreWithin self }
         ensures first { IfErr result (IsFirstOut self) }
@@ -74,7 +74,7 @@ impl Sizes {
     }
 }
 
-/// The size that is out of its limits. Where several are, it is the first of them.
+/// The size that is out of range; the first one if there are several.
 #[derive(Clone, Copy, Debug, Error, PartialEq, Eq)]
 pub enum SizeFault {
     #[error("a server has {least} to {most} seats", least = LEAST, most = GREATEST_SEATS)]
@@ -93,7 +93,7 @@ pub enum SizeFault {
     Window,
 }
 
-/// The limits of this crate, and what the sizes are where nothing else is said, are these numbers.
+/// States the values of this crate's limits and defaults.
 pub fn limits()
     ensures { LimitsAre }
 {}

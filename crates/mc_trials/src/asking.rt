@@ -1,4 +1,5 @@
-//! A line that awaits the reply to each command before it sends the next, and notes when each began and ended.
+//! A line that waits for the reply to each command before it sends the next one, and records when
+//! each began and ended.
 use crate::chooser::Chooser;
 use crate::gates::Come;
 use mc_seat::{Line, LineFault};
@@ -7,12 +8,12 @@ use std::alloc::{AllocError, Global};
 use std::sync::Arc;
 use std::sync::atomic::Ordering;
 
-/// What a line asked and was answered so far.
+/// The commands of a line and their replies so far.
 #[derive(Drop)]
 struct Talk {
     alloc: Global,
     chooser: Chooser,
-    /// How many commands of all lines have begun, and how many have ended: the one clock of all lines.
+    /// Number of commands of all lines that have begun or ended: the common clock.
     moments: Come,
     /// Commands still to be sent.
     left: u64,
@@ -20,16 +21,16 @@ struct Talk {
     command: String,
     /// When it began.
     began: u64,
-    /// What came of its reply.
+    /// The part of its reply received so far.
     reply: Vec<u8>,
-    /// Its reply has not come as a whole.
+    /// Whether its reply is incomplete.
     awaits: bool,
-    /// Each command that has ended: when it began and ended, its words, and those of its reply.
+    /// For each finished command: when it began and ended, its words, and those of its reply.
     history: Vec<u8>,
 }
 
 impl Talk {
-    /// Chooses the next command. It begins before its first byte leaves.
+    /// Chooses the next command. It begins before its first byte is sent.
     fn begin(&mut self) -> Result<(), AllocError> {
         self.command = self.chooser.next()?;
         self.left = self.left.saturating_sub(1);
@@ -38,7 +39,7 @@ impl Talk {
         Ok(())
     }
 
-    /// Takes what comes of a reply. Its command has ended after the last byte came.
+    /// Takes a piece of a reply. The command ends with the last byte of its reply.
     fn hear(&mut self, bytes: &[u8]) -> Result<(), AllocError> {
         self.reply.extend_from_slice(bytes)?;
         if !self.awaits || !self.chooser.is_whole(&self.reply) {
@@ -57,7 +58,8 @@ impl Talk {
         Ok(())
     }
 
-    /// What is sent next: a command, or nothing where all were sent. None where a reply is still awaited, or memory ran out.
+    /// The next bytes to send: a command, or nothing if all were sent. `None` if a reply is still
+    /// awaited, or if memory was refused.
     fn next(&mut self) -> Option<&[u8]> {
         if self.awaits {
             return None;
@@ -70,8 +72,8 @@ impl Talk {
     }
 }
 
-/// A line that sends commands by chance. It tells nothing of the bytes that it gave and took. One that is read where it is owed a
-/// reply has failed.
+/// A line that sends random commands. It has no history for contracts. Reading from it while a
+/// reply is due makes it fail.
 #[derive(Drop)]
 pub struct Asking {
     talk: Talk,
@@ -80,7 +82,7 @@ pub struct Asking {
 }
 
 impl Asking {
-    /// A line that sends `left` commands, as they are chosen.
+    /// A line that sends `left` commands from this chooser.
     pub fn new(
         alloc: Global,
         chooser: Chooser,
@@ -105,7 +107,8 @@ impl Asking {
         })
     }
 
-    /// Each command that has ended, in a row of its own: when it began and ended, its words, a bar and those of its reply.
+    /// The finished commands, one row each: when it began and ended, its words, a bar and the words
+    /// of its reply.
     pub fn into_history(self) -> Vec<u8> {
         self.talk.history
     }
@@ -154,7 +157,7 @@ impl Line for Asking {
     }
 }
 
-/// Adds the words of a text, each with a space behind it.
+/// Appends the words of a text, each followed by a space.
 fn add_words(words: &mut Vec<u8>, text: &[u8]) -> Result<(), AllocError> {
     for byte in text {
         match byte {

@@ -1,15 +1,15 @@
-//! Which command a line sends next: by chance, on few keys that all lines share.
+//! Random commands for a line, on a few keys that all lines share.
 use crate::text::split_line;
 use mc_wire::{number_u64, words};
 use std::alloc::{AllocError, Global};
 
-/// The number of keys that are registers; those behind them are counters.
+/// Number of keys that are registers; the remaining ones are counters.
 const REGISTERS: usize = 10;
 
-/// The number of keys.
+/// Number of keys.
 const KEYS: usize = 16;
 
-/// What is asked of a key.
+/// A kind of command on a key.
 #[derive(Clone, Copy, Debug, PartialEq, Eq)]
 enum KeyCommand {
     Get,
@@ -25,21 +25,21 @@ enum KeyCommand {
 #[derive(Drop)]
 pub struct Chooser {
     alloc: Global,
-    /// The line's number. No line stores a value that another one stores.
+    /// The line's number. No two lines store the same value.
     line: u64,
-    /// How many values it has made.
+    /// Number of values made.
     values: u64,
-    /// The state of the generator of chances.
+    /// State of the random number generator.
     state: u64,
-    /// The cas unique that the line saw last, of each key.
+    /// The cas unique last seen of each key.
     uniques: [Option<u64>; KEYS],
-    /// What was chosen last, and its key.
+    /// The kind of the last command, and its key.
     kind: KeyCommand,
     key: usize,
 }
 
 impl Chooser {
-    /// What chooses for the line of this number. Another seed is another list of commands.
+    /// A chooser for line number `line`. Each seed gives another list of commands.
     pub fn new(alloc: Global, line: u64, seed: u64) -> Chooser {
         let mut chooser = Chooser {
             alloc,
@@ -56,7 +56,8 @@ impl Chooser {
         chooser
     }
 
-    /// A number below this one, by a linear congruential generator (that of Knuth's MMIX), whose upper bits are taken.
+    /// A random number below this one, from the high bits of a linear congruential generator
+    /// (Knuth's MMIX).
     fn chance(&mut self, below: u64) -> u64 {
         self.state = self
             .state
@@ -65,7 +66,7 @@ impl Chooser {
         (self.state >> 33) % below.max(1)
     }
 
-    /// A value that no line stores twice. Those of counters lie far apart.
+    /// A value that no line stores twice. Those of counters are far apart.
     fn fresh(&mut self) -> Result<String, AllocError> {
         self.values = self.values.wrapping_add(1);
         let stamp = self.line.wrapping_mul(1_000_000).wrapping_add(self.values);
@@ -88,7 +89,7 @@ impl Chooser {
         self.spell()
     }
 
-    /// The command that was chosen, as it is sent. A cas of which no unique was seen is a gets.
+    /// The text of the chosen command. A `cas` without a known unique becomes a `gets`.
     fn spell(&mut self) -> Result<String, AllocError> {
         let key = self.key;
         match self.kind {
@@ -121,7 +122,7 @@ impl Chooser {
         format!(in self.alloc; "{name} linear-{key} 0 0 {count}{unique}\r\n{value}\r\n")
     }
 
-    /// Whether the reply to the command that was chosen last has come as a whole.
+    /// Whether the reply to the last command is complete.
     pub fn is_whole(&self, reply: &[u8]) -> bool {
         match self.kind {
             KeyCommand::Get | KeyCommand::Gets => reply.ends_with(b"END\r\n"),
@@ -129,7 +130,7 @@ impl Chooser {
         }
     }
 
-    /// Keeps the unique that the reply to the command that was chosen last tells.
+    /// Records the unique in the reply to the last command.
     pub fn hears(&mut self, reply: &[u8]) {
         if self.kind != KeyCommand::Gets {
             return;
@@ -140,7 +141,7 @@ impl Chooser {
     }
 }
 
-/// Which of 22 chances is which command on a register.
+/// Maps a random number below 22 to a command on a register.
 fn of_register(chance: u64) -> KeyCommand {
     match chance {
         0..=5 => KeyCommand::Get,
@@ -152,7 +153,7 @@ fn of_register(chance: u64) -> KeyCommand {
     }
 }
 
-/// Which of 22 chances is which command on a counter.
+/// Maps a random number below 22 to a command on a counter.
 fn of_counter(chance: u64) -> KeyCommand {
     match chance {
         0..=6 => KeyCommand::Get,
@@ -163,7 +164,7 @@ fn of_counter(chance: u64) -> KeyCommand {
     }
 }
 
-/// The unique that the reply to a gets of one key tells: the last word of the line VALUE KEY FLAGS BYTES UNIQUE.
+/// The unique in the reply to `gets` of one key: the last word of `VALUE KEY FLAGS BYTES UNIQUE`.
 fn unique_of(reply: &[u8]) -> Option<u64> {
     let (line, _) = split_line(reply);
     number_u64(words(line).nth(4)?).ok()

@@ -6,29 +6,30 @@ use std::sync::Arc;
 use std::sync::atomic::{AtomicU64, Ordering};
 use std::thread;
 
-/// How often at most a shard that waits looks whether the other one has come.
+/// Maximum number of polls of a waiting shard.
 pub const LOOKS: u64 = 1_000_000;
 
-/// How often a shard saw the other one at the gate.
+/// Number of times that a shard saw the other one at the gate.
 pub type Met = Arc<AtomicU64, Global>;
 
-/// What lines and gates count together: how many have come to their first read or to the gate, or the moments of a history.
+/// A counter shared by lines and gates: arrivals at the first read or at the gate, or the clock of
+/// a history.
 pub type Come = Arc<AtomicU64, Global>;
 
-/// Two shards wait at the gate for each other: with each piece a shard counts that it has come, and waits until the other one has
-/// come as often. One that has waited in vain says so, and from then on none waits or meets.
+/// A gate for two shards: with each piece a shard counts its arrival, and waits until the other one
+/// has arrived as often. A shard that times out reports it; from then on none waits or meets.
 #[derive(Drop)]
 pub struct Meeting {
-    /// How often the first shard has come, and the second.
+    /// Number of arrivals of the first and of the second shard.
     come: [AtomicU64; 2],
-    /// How often a shard has waited in vain.
+    /// Number of timeouts.
     missed: AtomicU64,
     met: Met,
     arrived: Come,
 }
 
 impl Meeting {
-    /// A gate to which nobody has come yet. It counts in `met` who saw the other one, and in `arrived` each piece that comes.
+    /// A gate without arrivals. Meetings are counted in `met`, arriving pieces in `arrived`.
     pub fn new(met: &Met, arrived: &Come) -> Result<Meeting, AllocError> {
         Ok(Meeting {
             come: [AtomicU64::new(0), AtomicU64::new(0)],
@@ -38,7 +39,7 @@ impl Meeting {
         })
     }
 
-    /// Whether the other shard has come that often, after at most [`LOOKS`] looks.
+    /// Whether the other shard has arrived that often, after at most [`LOOKS`] polls.
     fn sees(&self, other: &AtomicU64, often: u64) -> bool {
         for _ in 0..LOOKS {
             if self.missed.load(Ordering::SeqCst) > 0 {

@@ -1,4 +1,4 @@
-//! Lines that give nothing before the others, or pieces at the gate, have come.
+//! Lines that return nothing before the other lines, or pieces at the gate, have arrived.
 use crate::gates::{Come, LOOKS};
 use mc_seat::{Line, LineFault};
 use mc_wire::{OutFault, Outlet};
@@ -7,19 +7,19 @@ use std::sync::Arc;
 use std::sync::atomic::{AtomicU64, Ordering};
 use std::thread;
 
-/// A line whose first read waits until `all` have come, itself among them.
+/// A line whose first read waits until `all` have arrived, itself included.
 #[derive(Drop)]
 pub struct Gathered<L> {
     pub line: L,
     come: Come,
     all: u64,
     has_waited: bool,
-    /// As many as it waited for have come.
+    /// Whether all arrived before the timeout.
     pub saw_all: bool,
 }
 
 impl<L: Drop> Gathered<L> {
-    /// A line that waits until `all` have come, itself among them.
+    /// A line that waits until `all` have arrived, itself included.
     pub fn new(line: L, come: &Come, all: u64) -> Result<Gathered<L>, AllocError> {
         Ok(Gathered {
             line,
@@ -50,7 +50,7 @@ impl<L: Line> Line for Gathered<L> {
     }
 }
 
-/// Whether `all` have come, after as many looks as are made.
+/// Whether `all` have arrived, after the maximum number of polls.
 fn have_come(come: &AtomicU64, all: u64) -> bool {
     for _ in 0..LOOKS {
         if come.load(Ordering::SeqCst) >= all {

@@ -1,4 +1,5 @@
-//! The history of lines that ask the same few keys: what each asked and was answered, and when.
+//! The history of lines that use the same few keys: the commands of each, their replies, and their
+//! times.
 use crate::asking::Asking;
 use crate::chooser::Chooser;
 use crate::gates::Come;
@@ -15,7 +16,7 @@ use std::sync::atomic::AtomicU64;
 use std::sync::{Arc, Wait};
 use std::thread::Threads;
 
-/// What was asked: how many lines, shards and commands of each line, and the seed of the chances.
+/// The parameters: number of lines, shards and commands of each line, and the random seed.
 #[derive(Clone, Copy)]
 pub struct Asked {
     lines: u64,
@@ -25,7 +26,7 @@ pub struct Asked {
 }
 
 impl Asked {
-    /// What the words behind the name of the mode ask; none where they aren't such.
+    /// Parses the parameters; `None` if they are invalid.
     pub fn read(words: &[String]) -> Option<Asked> {
         let [lines, shards, commands, seed] = words else {
             return None;
@@ -42,7 +43,8 @@ impl Asked {
 impl<
     R: Threads + Wait + RandomSource + Print + Alloc<A = Global> + Copy + Send + Drop + 'static,
 > Server<R> {
-    /// Serves lines that await each reply, and prints their histories, each behind a line with the number of its line.
+    /// Serves lines that wait for each reply, and prints their histories, each behind a row with
+    /// the line's number.
     pub fn tell_history(&self, asked: Asked) -> io::Result<()> {
         let rt = &self.rt;
         let sizes = Sizes {
@@ -62,7 +64,7 @@ impl<
         Ok(())
     }
 
-    /// The lines, all by one clock.
+    /// The lines, with a common clock.
     fn asking(&self, asked: Asked) -> Result<Vec<Asking>, AllocError> {
         let moments: Come = Arc::new(self.alloc, AtomicU64::new(0))?;
         let mut lines = Vec::new(self.alloc);

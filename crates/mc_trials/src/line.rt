@@ -1,11 +1,11 @@
-//! A line over memory: it gives its input in pieces, takes its output in portions, and may fail.
+//! A line in memory that returns its input in pieces, takes its output in portions, and may fail.
 ghost use Rattle.std.specs.Prelude.{◌≤◌, None, length, take};
 
 use mc_seat::{Line, LineFault};
 use mc_wire::{OutFault, Outlet};
 use std::alloc::{AllocError, Global};
 
-/// Where a line fails, if it does: at the read or the write of this number, from 0.
+/// Where a line fails, if it does: the index of the read or write, from 0.
 #[derive(Clone, Copy, Debug, PartialEq, Eq)]
 pub enum Fault {
     Never,
@@ -16,9 +16,9 @@ pub enum Fault {
 /// How a line is cut, and where it fails.
 #[derive(Clone, Copy)]
 pub struct Cutting {
-    /// The most bytes that are read at once.
+    /// Maximum number of bytes per read.
     pub piece: usize,
-    /// The most bytes that are written at once.
+    /// Maximum number of bytes per write.
     pub portion: usize,
     pub fault: Fault,
 }
@@ -31,21 +31,21 @@ impl Cutting {
         fault: Fault::Never,
     };
 
-    /// One byte is written at once.
+    /// One byte per write.
     pub const ONE_BYTE_A_WRITE: Cutting = Cutting {
         piece: usize::MAX,
         portion: 1,
         fault: Fault::Never,
     };
 
-    /// Seven bytes are read at once.
+    /// Seven bytes per read.
     pub const SEVEN_BYTES_A_READ: Cutting = Cutting {
         piece: 7,
         portion: usize::MAX,
         fault: Fault::Never,
     };
 
-    /// One byte is read at once, and one written.
+    /// One byte per read and write.
     pub const ONE_BYTE_A_CALL: Cutting = Cutting {
         piece: 1,
         portion: 1,
@@ -53,26 +53,27 @@ impl Cutting {
     };
 }
 
-/// A line that keeps what it takes.
+/// A line that stores its output.
 #[derive(Drop)]
 pub struct MemoryLine {
     input: Vec<u8>,
-    /// Where the first reads end; of those behind them only the cutting says how much they give.
+    /// Where the first reads end; only the cutting limits later ones.
     ends: Vec<usize>,
     cutting: Cutting,
-    /// How many bytes of the input were read.
+    /// Number of bytes read.
     given: usize,
     pub output: Vec<u8>,
     reads: usize,
     writes: usize,
     pub failed: bool,
-    /// The last read found the end of the input.
+    /// The last read returned the end of input.
     ended: bool,
     ghost within: { given ≤ length input.items },
 }
 
 impl MemoryLine {
-    /// A line of which nothing was read, with room for `room` bytes of output. The first reads end at these places.
+    /// A line that was not read yet, with space for `room` bytes of output. The first reads end at
+    /// these indices.
     pub fn new(
         alloc: Global,
         input: Vec<u8>,
@@ -93,18 +94,18 @@ impl MemoryLine {
         })
     }
 
-    /// A line with this input, cut so.
+    /// A line with this input and cutting.
     pub fn of(alloc: Global, input: &[u8], cutting: Cutting) -> Result<MemoryLine, AllocError> {
         let input = Vec::from_slice(alloc, input)?;
         MemoryLine::new(alloc, input, Vec::new(alloc), cutting, 0)
     }
 
-    /// The bytes that were read of it.
+    /// The bytes read so far.
     pub fn given(&self) -> &[u8] {
         self.input.as_slice().split_at(self.given).0
     }
 
-    /// How many bytes the next read gives at most.
+    /// Maximum number of bytes of the next read.
     fn most(&self) -> usize {
         match self.ends.get(self.reads) {
             Some(end) if *end > self.given => *end - self.given,

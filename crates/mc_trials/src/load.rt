@@ -1,29 +1,29 @@
-//! The commands of a load, and the replies that they must have.
+//! The commands of a load, and their expected replies.
 use crate::line::{Cutting, MemoryLine};
 use mc_doors::ServedLine;
 use std::alloc::{AllocError, Global};
 
-/// The number of keys that each line has of its own.
+/// Number of keys of each line.
 const KEYS: u64 = 100;
 
-/// Of each `ROUNDS` times that a key is named it is stored the first time, and read the others.
+/// Of every `ROUNDS` commands on a key, the first stores it and the others read it.
 const ROUNDS: u64 = 10;
 
-/// One line's load.
+/// The load of one line.
 #[derive(Drop)]
 pub struct Load {
     alloc: Global,
-    /// Whose load it is.
+    /// The number of the line.
     line: u64,
     input: Vec<u8>,
     /// Where each batch of commands ends.
     ends: Vec<usize>,
-    /// The replies to the commands.
+    /// The expected replies.
     replies: Vec<u8>,
 }
 
 impl Load {
-    /// A load of `commands` commands, of which one read gives a batch.
+    /// A load of `commands` commands, in batches of this size per read.
     pub fn new(alloc: Global, line: u64, commands: u64, batch: u64) -> Result<Load, AllocError> {
         let mut load = Load {
             alloc,
@@ -44,7 +44,8 @@ impl Load {
         Ok(load)
     }
 
-    /// Adds the command of this number: keys are named in turn, and stored anew each tenth time.
+    /// Appends command number `number`: the keys take turns, and each tenth command on a key stores
+    /// it.
     fn add(&mut self, number: u64) -> Result<(), AllocError> {
         let line = self.line;
         let key = number % KEYS;
@@ -66,7 +67,7 @@ impl Load {
         }
     }
 
-    /// The line that sends the load, and the replies that it must have.
+    /// The line that sends the load, and its expected replies.
     pub fn start(self) -> Result<(MemoryLine, Vec<u8>), AllocError> {
         let Load {
             alloc,
@@ -81,7 +82,7 @@ impl Load {
     }
 }
 
-/// The lines of a load, and the replies that each must have.
+/// The lines of a load, and the expected replies of each.
 #[derive(Drop)]
 pub struct Loads {
     pub lines: Vec<MemoryLine>,
@@ -89,7 +90,7 @@ pub struct Loads {
 }
 
 impl Loads {
-    /// The loads of `count` lines, each of `commands` commands, of which one read gives a batch.
+    /// The loads of `count` lines with `commands` commands each, in batches of this size per read.
     pub fn new(alloc: Global, count: u64, commands: u64, batch: u64) -> Result<Loads, AllocError> {
         let mut loads = Loads {
             lines: Vec::new(alloc),
@@ -104,7 +105,7 @@ impl Loads {
     }
 }
 
-/// How many of the lines didn't take just their replies.
+/// Number of lines with wrong replies.
 pub fn wrong_among(served: &[ServedLine<MemoryLine>], replies: &[Vec<u8>]) -> u64 {
     let mut right = 0u64;
     for (one, replies) in served.iter().zip(replies) {

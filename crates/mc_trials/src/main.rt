@@ -1,14 +1,15 @@
-//! Lines over memory that real threads serve.
+//! Trials with real threads, which serve lines in memory.
 //!
-//!     mc_trials                                       runs all trials, and prints which went wrong
-//!     mc_trials threads LINES SHARDS COMMANDS BATCH   serves a load by threads: each line sends COMMANDS commands, of which
-//!                                                     one read gives a batch
-//!     mc_trials alone SHARDS COMMANDS BATCH           serves the load of one line by a single thread, without rings
-//!     mc_trials history LINES SHARDS COMMANDS SEED    lines that await each reply send COMMANDS commands each, on few keys,
-//!                                                     and what each asked and was answered is printed, with when
+//!     mc_trials                                       runs all trials, and prints those that failed
+//!     mc_trials threads LINES SHARDS COMMANDS BATCH   serves a load by threads: each line sends COMMANDS
+//!                                                     commands, in batches of BATCH per read
+//!     mc_trials alone SHARDS COMMANDS BATCH           serves one line by a single thread, without rings
+//!     mc_trials history LINES SHARDS COMMANDS SEED    lines that wait for each reply send COMMANDS random
+//!                                                     commands each, on few keys; prints their histories
 //!
-//! Of a load it prints how many commands were taken, how many lines went wrong, how long it took, and what the system told of
-//! the processor time before and after (proc_pid_stat(5)). `tools/bench/lines.py` makes figures of that.
+//! For a load it prints the number of commands, the number of lines with wrong replies, the elapsed
+//! time, and the processor time before and after (proc_pid_stat(5)). `tools/bench/lines.py` evaluates
+//! this.
 #![tactic(auto)]
 
 mod asking;

@@ -15,10 +15,10 @@ use std::thread::Threads;
 use std::time::Instant;
 use std::{fs, io, time};
 
-/// Where the system tells of the processor time of this program.
+/// The file with the processor time of this program.
 const TOLD: &str = "/proc/self/stat";
 
-/// How large the server of a measured load is, but for its seats and its shards.
+/// The server's sizes in a measurement, except for slots and shards.
 pub const SIZES: Sizes = Sizes {
     profile: Profile::Own,
     seats: 1,
@@ -30,19 +30,19 @@ pub const SIZES: Sizes = Sizes {
     window: 256,
 };
 
-/// What was asked: how many lines, shards, commands of each line, and commands a read.
+/// The parameters: number of lines, shards, commands of each line, and commands per read.
 #[derive(Clone, Copy)]
 struct Asked {
     lines: u64,
     shards: usize,
     commands: u64,
     batch: u64,
-    /// By a single thread, without rings.
+    /// Whether a single thread serves, without rings.
     alone: bool,
 }
 
 impl Asked {
-    /// What the words of the command line ask; none where they aren't such.
+    /// Parses the parameters; `None` if they are invalid.
     fn read(words: &[String]) -> Option<Asked> {
         let (lines, shards, commands, batch, alone) = match words {
             [_, kind, lines, shards, commands, batch] if kind.as_str() == "threads" => {
@@ -63,7 +63,7 @@ impl Asked {
     }
 }
 
-/// The number that the word spells.
+/// Parses a number.
 pub fn number(word: &String) -> Option<u64> {
     number_u64(word.as_bytes()).ok()
 }
@@ -81,7 +81,7 @@ impl<
         + Drop
         + 'static,
 > Server<R> {
-    /// Serves the load that the words ask, and prints what became of it.
+    /// Serves the load with these parameters, and prints the result.
     pub fn measure(&self, words: &[String]) -> io::Result<()> {
         let rt = &self.rt;
         let Some(asked) = Asked::read(words) else {
@@ -109,7 +109,8 @@ impl<
         print!(rt; "before {before}after {after}")
     }
 
-    /// Serves the lines by threads, or the last of them alone, and gives them back; none where the server refuses.
+    /// Serves the lines by threads, or only the last one by a single thread, and returns them;
+    /// `None` if the server refuses.
     fn serve_load(
         &self,
         lines: Vec<MemoryLine>,
@@ -134,7 +135,7 @@ impl<
     }
 }
 
-/// How many commands the lines took together.
+/// Total number of commands of the lines.
 fn commands_of(served: &[ServedLine<MemoryLine>]) -> u64 {
     let mut commands = 0u64;
     for one in served {

@@ -1,15 +1,15 @@
-//! A clock that is a second further at each call.
+//! A clock that advances by a second at each call.
 use mc_seat::Clock;
 use std::alloc::{AllocError, Global};
 use std::boxed::Box;
 use std::sync::atomic::{AtomicU64, Ordering};
 
-/// All copies of it are one clock.
+/// All copies share one clock.
 #[derive(Clone, Copy)]
 pub struct Rising(&'static AtomicU64);
 
 impl Rising {
-    /// A clock that answers this moment first. Its memory stays.
+    /// A clock that starts at this Unix time. Its memory is never freed.
     pub fn new(alloc: Global, moment: u64) -> Result<Rising, AllocError> {
         let next = Box::new(alloc, AtomicU64::new(moment))?;
         Ok(Rising(Box::leak(next)))

@@ -1,4 +1,4 @@
-//! Serves lines over memory, by threads or alone.
+//! Serving lines in memory, by threads or by a single thread.
 use crate::line::MemoryLine;
 use mc_doors::ServedLine;
 use mc_seat::{Clock, Line, Served};
@@ -11,10 +11,10 @@ use std::random::RandomSource;
 use std::sync::Wait;
 use std::thread::Threads;
 
-/// Every command's moment, where no clock says another.
+/// The Unix time of every command, unless there is a clock.
 pub const MOMENT: u64 = 1_000;
 
-/// What serves lines: the runtime and the allocator.
+/// The runtime and the allocator.
 #[derive(Drop)]
 pub struct Server<R> {
     pub rt: R,
@@ -22,8 +22,8 @@ pub struct Server<R> {
 }
 
 impl<R: Threads + Wait + RandomSource + Copy + Send + Drop + 'static> Server<R> {
-    /// Serves the lines by threads, all commands at one moment, and gives them back; none where it refuses, or there can be no
-    /// such server.
+    /// Serves the lines by threads, with one time for all commands, and returns them; `None` if the
+    /// server refuses or can't be made.
     pub fn serve(
         &self,
         lines: Vec<MemoryLine>,
@@ -32,7 +32,8 @@ impl<R: Threads + Wait + RandomSource + Copy + Send + Drop + 'static> Server<R> 
         self.serve_by(lines, sizes, OpenGate, StillClock(MOMENT))
     }
 
-    /// The same, with other lines, and another gate and clock.
+    /// Serves lines of any type, with this gate and clock, and returns them; `None` if the server
+    /// refuses or can't be made.
     pub fn serve_by<
         L: Line + Send + Drop + 'static,
         G: Gate + Send + Sync + Drop + 'static,
@@ -49,7 +50,7 @@ impl<R: Threads + Wait + RandomSource + Copy + Send + Drop + 'static> Server<R> 
         }
     }
 
-    /// Serves the line alone; none where it refuses, or there can be no such server.
+    /// Serves one line by a single thread; `None` if the server refuses or can't be made.
     pub fn serve_alone(&self, line: &mut MemoryLine, sizes: Sizes) -> Option<Served> {
         sizes.check().ok()?;
         serve_one(&self.rt, self.alloc, line, sizes, &StillClock(MOMENT)).ok()

@@ -1,6 +1,7 @@
-//! The lines of a text.
+//! Lines of a text.
 
-/// What stands before the first line end, and what stands behind it; all of the text where there is none.
+/// The text before the first line end, without a carriage return, and the text after it; all of it
+/// if there is no line end.
 pub fn split_line(text: &[u8]) -> (&[u8], &[u8]) {
     match text.iter().position(|byte| *byte == b'\n') {
         Some(end) => {
@@ -12,7 +13,7 @@ pub fn split_line(text: &[u8]) -> (&[u8], &[u8]) {
     }
 }
 
-/// The line without the byte 13 at its end.
+/// The line without a trailing carriage return.
 fn without_return(line: &[u8]) -> &[u8] {
     match line {
         [front @ .., b'\r'] => front,

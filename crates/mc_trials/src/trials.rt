@@ -1,4 +1,4 @@
-//! The trials: what lines must have taken once real threads served them.
+//! The trials: checks of the output of lines that were served by real threads.
 use crate::gates::{Come, Meeting, Met};
 use crate::gathered::Gathered;
 use crate::line::{Cutting, Fault, MemoryLine};
@@ -18,12 +18,12 @@ use std::sync::atomic::{AtomicU64, Ordering};
 use std::sync::{Arc, Wait};
 use std::thread::Threads;
 
-/// What a line sends, and what it must take, whoever sends the same beside it.
+/// The input and the expected output of a line, whatever the lines beside it send.
 #[derive(Clone, Copy)]
 struct Conversation {
     input: &'static [u8],
     output: &'static [u8],
-    /// How many commands are taken.
+    /// Number of commands.
     commands: u64,
 }
 
@@ -50,7 +50,7 @@ const CONVERSATIONS: [Conversation; 4] = [
     },
 ];
 
-/// How many lines, over rings and windows of which sizes, and how they are cut.
+/// A trial's parameters: number of lines, sizes of rings and windows, and how lines are cut.
 #[derive(Clone, Copy)]
 struct Setup {
     lines: usize,
@@ -70,7 +70,7 @@ impl Setup {
     }
 }
 
-/// In which shapes lines are served side by side.
+/// The parameters to try.
 fn shapes() -> [Setup; 8] {
     [
         Setup::new(1, 1, 1, Cutting::NONE),
@@ -84,42 +84,44 @@ fn shapes() -> [Setup; 8] {
     ]
 }
 
-/// What a line sends that fails: no other line names its keys.
+/// The conversation of a line that fails; no other line uses its keys.
 const FAILING: Conversation = Conversation {
     input: b"set x 0 0 3\r\nabc\r\nget x\r\nappend x 0 0 1\r\nd\r\nget x y z\r\nmn\r\n",
     output: b"STORED\r\nVALUE x 0 3\r\nabc\r\nEND\r\nSTORED\r\nVALUE x 0 4\r\nabcd\r\nEND\r\nMN\r\n",
     commands: 5,
 };
 
-/// What a line sends whose item fades away, where each command is a second later than the one before.
+/// The conversation of a line whose item expires; each command is a second later than the previous
+/// one.
 const FADING: Conversation = Conversation {
     input: b"set a 0 3 1\r\nx\r\nget a\r\nget a\r\nget a\r\nquit\r\n",
     output: b"STORED\r\nVALUE a 0 1\r\nx\r\nEND\r\nVALUE a 0 1\r\nx\r\nEND\r\nEND\r\n",
     commands: 5,
 };
 
-/// The reply to a get of keys that nobody stored.
+/// The reply to a get of keys that are not stored.
 const NONE_STORED: &[u8] = b"END\r\n";
 
 /// The replies to an add, without their ends.
 const ADDED: [&[u8]; 2] = [b"STORED", b"NOT_STORED"];
 
-/// A line that fails makes no more reads, and no more writes, than this.
+/// Upper bound of the reads, and of the writes, of a line that fails.
 const MOST_CALLS: usize = 200;
 
-/// How often each of two lines counts up.
+/// Number of increments by each of two lines.
 const COUNTS: u64 = 1_000;
 
-/// How often the shards must meet at the gate.
+/// Number of times that the shards must meet at the gate.
 const MEETINGS: u64 = 100;
 
-/// A line that sends behind another one's piece waits until both lines and the piece at the gate have come.
+/// Number of arrivals for which a line waits before it sends behind another line's piece: both
+/// lines, and the piece at the gate.
 const BOTH_LINES_AND_A_PIECE: u64 = 3;
 
-/// The number of keys of one letter that the longest line has.
+/// Number of keys of one letter on the longest line.
 const MOST_KEYS: usize = 32_766;
 
-/// A server of `shards` shards, with rings and windows of these sizes.
+/// The sizes of a server with this many shards, and with rings and windows of these sizes.
 fn sizes(shards: usize, ring: usize, window: usize) -> Sizes {
     Sizes {
         profile: Profile::Own,
@@ -134,7 +136,7 @@ fn sizes(shards: usize, ring: usize, window: usize) -> Sizes {
 }
 
 impl<R: Threads + Wait + RandomSource + Copy + Send + Drop + 'static> Server<R> {
-    /// The name of each trial, and whether it came out right.
+    /// The name and the result of each trial.
     pub fn trials(&self) -> Result<Vec<(&'static str, bool)>, AllocError> {
         let mut trials = Vec::with_capacity(self.alloc, 12)?;
         trials.push(("lines side by side", self.lines_side_by_side()?))?;
@@ -153,7 +155,7 @@ impl<R: Threads + Wait + RandomSource + Copy + Send + Drop + 'static> Server<R> 
         Ok(trials)
     }
 
-    /// Lines with these inputs, all cut the same.
+    /// Lines with these inputs and one cutting.
     fn lines_of(&self, inputs: &[&[u8]], cutting: Cutting) -> Result<Vec<MemoryLine>, AllocError> {
         let mut lines = Vec::with_capacity(self.alloc, inputs.len())?;
         for input in inputs {
@@ -162,7 +164,8 @@ impl<R: Threads + Wait + RandomSource + Copy + Send + Drop + 'static> Server<R> 
         Ok(lines)
     }
 
-    /// Whether each line has what is its own, however many there are and over whatever shards, rings and windows.
+    /// Whether each line gets its own replies, for various numbers of lines and sizes of shards,
+    /// rings and windows.
     fn lines_side_by_side(&self) -> Result<bool, AllocError> {
         let mut is_right = true;
         for shards in [1, 2, 3, 16] {
@@ -171,7 +174,7 @@ impl<R: Threads + Wait + RandomSource + Copy + Send + Drop + 'static> Server<R> 
         Ok(is_right)
     }
 
-    /// Whether it is so over `shards` shards.
+    /// The check of `lines_side_by_side` over `shards` shards.
     fn lines_over(&self, shards: usize) -> Result<bool, AllocError> {
         let mut is_right = true;
         for shape in shapes() {
@@ -181,7 +184,7 @@ impl<R: Threads + Wait + RandomSource + Copy + Send + Drop + 'static> Server<R> 
         Ok(is_right)
     }
 
-    /// Whether it is so of `count` lines, which are cut so.
+    /// The check of `lines_side_by_side` for `count` lines, cut in this way.
     fn converse(&self, count: usize, sizes: Sizes, cutting: Cutting) -> Result<bool, AllocError> {
         let mut lines = Vec::with_capacity(self.alloc, count)?;
         for number in 0..count {
@@ -194,7 +197,7 @@ impl<R: Threads + Wait + RandomSource + Copy + Send + Drop + 'static> Server<R> 
         }
     }
 
-    /// Whether two lines that count up the same number see each count once between them.
+    /// Whether two lines that increment the same number see each count exactly once between them.
     fn two_lines_count(&self) -> Result<bool, AllocError> {
         let mut input = Vec::from_slice(self.alloc, b"add c 0 0 1\r\n0\r\n")?;
         for _ in 0..COUNTS {
@@ -212,7 +215,8 @@ impl<R: Threads + Wait + RandomSource + Copy + Send + Drop + 'static> Server<R> 
         Ok(is_right)
     }
 
-    /// Whether 2, 3 and 64 lines are all served at once: each waits at its first read until the others are at theirs.
+    /// Whether 2, 3 and 64 lines are all served at once: each waits in its first read until the
+    /// others are in theirs.
     fn lines_at_once(&self) -> Result<bool, AllocError> {
         let mut is_right = true;
         for count in [2, 3, 64] {
@@ -221,7 +225,7 @@ impl<R: Threads + Wait + RandomSource + Copy + Send + Drop + 'static> Server<R> 
         Ok(is_right)
     }
 
-    /// Whether it is so of this many.
+    /// The check of `lines_at_once` for this number of lines.
     fn gather(&self, count: usize) -> Result<bool, AllocError> {
         let come: Come = Arc::new(self.alloc, AtomicU64::new(0))?;
         let all = u64::try_from(count).unwrap_or(u64::MAX);
@@ -243,7 +247,8 @@ impl<R: Threads + Wait + RandomSource + Copy + Send + Drop + 'static> Server<R> 
         Ok(is_right)
     }
 
-    /// Whether both shards were at the gate at once, for each of many pieces, and each line has its replies.
+    /// Whether both shards were at the gate at once, for each of many pieces, and each line has its
+    /// replies.
     fn shards_meet(&self, commands: &[&[u8]]) -> Result<bool, AllocError> {
         let mut lines = Vec::with_capacity(self.alloc, commands.len())?;
         for command in commands {
@@ -254,8 +259,8 @@ impl<R: Threads + Wait + RandomSource + Copy + Send + Drop + 'static> Server<R> 
         Ok(self.meetings(lines, sizes(2, 64, 256), MEETINGS)? == Some(2 * MEETINGS))
     }
 
-    /// Whether a ring holds `ring` pieces and no more: where a shard is held up, a piece for the other shard is sent behind as
-    /// many as the ring holds, and not behind one more.
+    /// Whether a ring holds exactly `ring` pieces. While a shard is blocked, a piece for the other
+    /// shard is sent behind as many pieces as the ring holds, and not behind one more.
     fn rings_hold(&self) -> Result<bool, AllocError> {
         let mut is_right = true;
         for ring in [1, 2, 64] {
@@ -268,8 +273,9 @@ impl<R: Threads + Wait + RandomSource + Copy + Send + Drop + 'static> Server<R> 
         Ok(is_right)
     }
 
-    /// Whether `window` commands of a line are under way at once and no more: where a shard is held up, a piece for the other
-    /// shard is sent where its command is the last that the window has room for, and not where it is the next.
+    /// Whether exactly `window` commands of a line can be open. While a shard is blocked, a piece
+    /// for the other shard is sent if its command is the last one within the window, and not if it
+    /// is the next.
     fn windows_are_wide(&self) -> Result<bool, AllocError> {
         let mut is_right = true;
         for window in [2, 3, 256] {
@@ -282,8 +288,9 @@ impl<R: Threads + Wait + RandomSource + Copy + Send + Drop + 'static> Server<R> 
         Ok(is_right)
     }
 
-    /// Whether the shards meet at the gate where a line asks one of them `before` times, and then the other, while the first is
-    /// held up by what another line asked it; none where the replies aren't what they must be.
+    /// Whether the shards meet at the gate if a line sends `before` pieces to one of them and then
+    /// one to the other. Meanwhile the first is blocked by another line's piece. `None` if the
+    /// replies are wrong.
     fn meets_behind(&self, before: u64, sizes: Sizes) -> Result<Option<bool>, AllocError> {
         let arrived: Come = Arc::new(self.alloc, AtomicU64::new(0))?;
         let met: Met = Arc::new(self.alloc, AtomicU64::new(0))?;
@@ -310,7 +317,8 @@ impl<R: Threads + Wait + RandomSource + Copy + Send + Drop + 'static> Server<R> 
         Ok(is_right.then_some(met.load(Ordering::SeqCst) > 0))
     }
 
-    /// How often a shard saw the other one at the gate; none where a line hasn't `replies` replies that nothing is stored.
+    /// Number of times that a shard saw the other one at the gate; `None` unless each line has
+    /// `replies` replies of a miss.
     fn meetings(
         &self,
         lines: Vec<MemoryLine>,
@@ -335,7 +343,7 @@ impl<R: Threads + Wait + RandomSource + Copy + Send + Drop + 'static> Server<R> 
         })
     }
 
-    /// Whether a line that fails at whatever read or write leaves the other one whole.
+    /// Whether a line that fails at any read or write leaves the other one unaffected.
     fn a_line_fails(&self) -> Result<bool, AllocError> {
         let mut is_right = true;
         for (ring, window) in [(1, 1), (1, 256), (64, 1), (64, 256)] {
@@ -347,7 +355,7 @@ impl<R: Threads + Wait + RandomSource + Copy + Send + Drop + 'static> Server<R> 
         Ok(is_right)
     }
 
-    /// Whether it is so at each of the reads, or at each of the writes, up to the last.
+    /// The check of `a_line_fails` at each read, or at each write, up to the last one.
     fn fails_at_each<F: Fn(usize) -> Fault>(
         &self,
         sizes: Sizes,
@@ -365,7 +373,8 @@ impl<R: Threads + Wait + RandomSource + Copy + Send + Drop + 'static> Server<R> 
         Ok(false)
     }
 
-    /// Whether the line failed that was to fail so; none where it is not as it must be, or the one beside it isn't.
+    /// Whether the line that was to fail did fail; `None` if its output, or that of the line beside
+    /// it, is wrong.
     fn fails_at(&self, sizes: Sizes, fault: Fault) -> Result<Option<bool>, AllocError> {
         let cutting = Cutting {
             piece: 5,
@@ -387,8 +396,8 @@ impl<R: Threads + Wait + RandomSource + Copy + Send + Drop + 'static> Server<R> 
         Ok(Some(first.broke))
     }
 
-    /// Whether the line was told to have failed where it has, and took a beginning of its output: where a read failed, the
-    /// whole replies to what was read.
+    /// Whether a line that failed was reported as failed, and got a prefix of its output. After a
+    /// failed read, this prefix is the complete replies to what was read.
     fn is_right_failed(
         &self,
         served: &ServedLine<MemoryLine>,
@@ -409,7 +418,7 @@ impl<R: Threads + Wait + RandomSource + Copy + Send + Drop + 'static> Server<R> 
         Ok(taken.is_some() && alone.output.as_slice() == line.output.as_slice())
     }
 
-    /// Whether a get of as many keys as a line holds is answered over rings of 1.
+    /// Whether a get with as many keys as a line can hold is answered over rings of capacity 1.
     fn longest_line(&self) -> Result<bool, AllocError> {
         let mut input = Vec::from_slice(self.alloc, b"get")?;
         for _ in 0..MOST_KEYS {
@@ -427,8 +436,8 @@ impl<R: Threads + Wait + RandomSource + Copy + Send + Drop + 'static> Server<R> 
         }
     }
 
-    /// Whether the clock is asked for each command: an item that lives for three seconds is there for the next two, and then it
-    /// is gone.
+    /// Whether the clock is read for each command: an item with three seconds to live is found by
+    /// the next two commands, and has then expired.
     fn moments_rise(&self) -> Result<bool, AllocError> {
         let lines = self.lines_of(&[FADING.input], Cutting::NONE)?;
         let clock = Rising::new(self.alloc, MOMENT)?;
@@ -438,7 +447,7 @@ impl<R: Threads + Wait + RandomSource + Copy + Send + Drop + 'static> Server<R> 
         }
     }
 
-    /// Whether loads come out right, pipelined and one command at a time.
+    /// Whether loads are answered correctly, pipelined and one command at a time.
     fn loads_come_out_right(&self) -> Result<bool, AllocError> {
         let mut is_right = true;
         for (lines, shards, batch) in [(1, 1, 256), (8, 4, 256), (8, 2, 1), (2, 16, 7)] {
@@ -453,7 +462,7 @@ impl<R: Threads + Wait + RandomSource + Copy + Send + Drop + 'static> Server<R> 
     }
 }
 
-/// Adds the text to the others, `times` times.
+/// Appends the text `times` times.
 fn add_times(texts: &mut Vec<u8>, text: &[u8], times: u64) -> Result<(), AllocError> {
     for _ in 0..times {
         texts.extend_from_slice(text)?;
@@ -461,19 +470,19 @@ fn add_times(texts: &mut Vec<u8>, text: &[u8], times: u64) -> Result<(), AllocEr
     Ok(())
 }
 
-/// What the line of this number sends: the lines take turns.
+/// The conversation of the line of this number: the lines take turns.
 fn conversation_of(number: usize) -> Conversation {
     CONVERSATIONS[number % CONVERSATIONS.len()]
 }
 
-/// Whether the line took just the output of the conversation.
+/// Whether the line's output is exactly that of the conversation.
 fn is_right(served: &ServedLine<MemoryLine>, conversation: Conversation) -> bool {
     !served.broke
         && served.commands == conversation.commands
         && served.line.output.as_slice() == conversation.output
 }
 
-/// Whether each line took the output of its conversation.
+/// Whether each line's output is that of its conversation.
 fn are_right(served: &[ServedLine<MemoryLine>]) -> bool {
     let mut are_right = true;
     for (number, one) in served.iter().enumerate() {
@@ -482,7 +491,7 @@ fn are_right(served: &[ServedLine<MemoryLine>]) -> bool {
     are_right
 }
 
-/// Whether one of the two lines has made the number, and each count is told once.
+/// Whether one of the two lines created the number, and each count was returned exactly once.
 fn have_counted(served: &[ServedLine<MemoryLine>]) -> bool {
     let [first, second] = served else {
         return false;
@@ -494,7 +503,7 @@ fn have_counted(served: &[ServedLine<MemoryLine>]) -> bool {
     made_once && !first.broke && !second.broke && are_all_counts(counts, other_counts)
 }
 
-/// Whether two rising lists hold each count once between them.
+/// Whether two ascending lists have each count exactly once between them.
 fn are_all_counts(one: &[u8], other: &[u8]) -> bool {
     let (mut one, mut other) = (one, other);
     for count in 1..=2 * COUNTS {

@@ -3,7 +3,7 @@ use Rattle.std.proofs.Common.{◌≡◌, List, [], ◌∷◌, ◌++◌, length, 
 use Rattle.std.specs.Prelude.{OnOk}
 use Rattle.mc_wake.specs.Zips.{Zips}
 
--- Of these tasks those left are not joined yet; the others are done, if all went well.
+-- Of these tasks, `left` are not joined yet; the others are done, if all went well.
 pub record Joins {A E : Type 0} (does : A → A → Type 0) (tasks done left : List A) (all : Result (Unit {0}) E) : Type 0 where
   pub before : List A
   pub joined : before ++ left ≡ tasks

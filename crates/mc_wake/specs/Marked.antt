@@ -1,11 +1,11 @@
--- The numbers that are marked in a word.
+-- The set bits of a word.
 use Rattle.std.specs.Prelude.{ℕ, ◌≡◌, ◌+◌, ◌-◌, ◌/◌, ◌^◌, ◌<◌, min, Option, Some, None}
 use Rattle.std.specs.Int.{bit_at}
 use Rattle.mc_wake.specs.declared.marked.Marked.{Marked}
 
--- The lowest number that is marked was given, and those above it are left.
+-- The lowest number was returned, and those above it are left.
 pub record IsLowest (old : Marked) (number : ℕ) (new : Marked) : Type 0 where
-  -- its place in the word
+  -- its bit in the word
   pub place : ℕ
   pub number_is : number ≡ min (old.first + place) (2 ^ 64 - 1)
   pub marked : bit_at old.bits place ≡ 1
@@ -13,7 +13,7 @@ pub record IsLowest (old : Marked) (number : ℕ) (new : Marked) : Type 0 where
   pub rest : new.bits ≡ old.bits / 2 ^ (place + 1)
   pub first : new.first ≡ min (number + 1) (2 ^ 64 - 1)
 
--- none is given where none is marked
+-- nothing is returned if no bit is set
 abbrev pub GivesLowest : Marked → Option ℕ → Marked → Type 0
 GivesLowest old None new = old.bits ≡ 0
 GivesLowest old (Some number) new = IsLowest old number new

@@ -1,10 +1,10 @@
--- What contracts see of a thread that sleeps.
+-- What contracts see of a thread's sleeper.
 use Rattle.std.specs.Prelude.{ℕ}
 
 pub record ThreadSize : Type 0 where
-  -- the seats of the server, any of which may call the thread's workers
+  -- number of the server's slots, any of which may notify the thread's shards
   pub callers : ℕ
-  -- the seats that the thread serves
+  -- number of slots that the thread serves
   pub places : ℕ
-  -- the workers that the thread serves
+  -- number of shards that the thread serves
   pub workers : ℕ

@@ -1,7 +1,7 @@
 -- Two lists, element by element.
 use Rattle.std.specs.Prelude.{List, [], ◌∷◌}
 
--- The lists are of one length, and the relation holds of the elements at each place.
+-- The lists have the same length, and the relation holds for the elements at each index.
 abbrev pub Zips : {A B : Type 0} → (A → B → Type 0) → List A → List B → Type 0
 Zips R [] [] = Unit {0}
 Zips R [] (y ∷ ys) = ⊥

@@ -1,4 +1,4 @@
-//! Marks that any thread sets and one thread takes, 64 at a time.
+//! Atomic bit sets: any thread sets bits, one thread takes them, 64 at a time.
 ghost use Rattle.std.specs.Prelude.{◌≡◌, ◌≤◌, ◌-◌, ◌^◌, IfOk};
 ghost use Rattle.std.specs.Int.{div_ceil};
 
@@ -6,10 +6,10 @@ use std::alloc::{AllocError, Global};
 use std::marker::Model;
 use std::sync::atomic::{AtomicU64, Ordering};
 
-/// Marks a word.
+/// Number of bits of a word.
 pub(crate) const WORD: usize = 64;
 
-/// A mark for each number below a bound. Contracts see the number of words.
+/// An atomic bit set over the numbers below a bound. Contracts see its number of words.
 #[derive(Drop)]
 pub(crate) struct Board {
     words: Vec<AtomicU64>,
@@ -24,7 +24,7 @@ impl Model for Board {
 }
 
 impl Board {
-    /// A board for `numbers` numbers, none of which is marked.
+    /// A bit set for `numbers` numbers, all clear.
     pub(crate) fn new(alloc: Global, numbers: usize) -> Result<Board, AllocError>
         ensures { IfOk result (λ board. board ≡ div_ceil numbers 64) }
     {
@@ -36,19 +36,20 @@ impl Board {
         Ok(Board { words })
     }
 
-    /// Marks the number.
+    /// Sets the bit of the number.
     pub(crate) fn mark(&self, number: usize) {
         let Some(word) = self.words.get(number / WORD) else {
             return;
         };
         let bit = 1u64 << (number % WORD);
-        // A mark that is still there is taken after this look at it.
+        // If the bit is still set, the owner will take it after this look; the store can be saved.
         if word.load(Ordering::SeqCst) & bit == 0 {
             word.fetch_or(bit, Ordering::SeqCst);
         }
     }
 
-    /// Takes the marks of the 64 numbers from `64 * word` on. In a word that the board doesn't have each is always marked.
+    /// Takes and clears the bits of the 64 numbers from `64 * word` on. For a word out of range,
+    /// all bits are returned set.
     pub(crate) fn take(&self, word: usize) -> u64
         ensures beyond { self.now ≤ word → result ≡ 2 ^ 64 - 1 }
     {
@@ -61,7 +62,7 @@ impl Board {
         marks.swap(0, Ordering::SeqCst)
     }
 
-    /// Marks all numbers that are marked on the other board, and no more there.
+    /// Moves all set bits of the other set into this one; the other one is then clear.
     pub(crate) fn take_all(&self, other: &Board) {
         for (word, marks) in self.words.iter().enumerate() {
             let more = other.take(word);
@@ -71,7 +72,7 @@ impl Board {
         }
     }
 
-    /// Whether no number is marked.
+    /// Whether no bit is set.
     pub(crate) fn is_empty(&self) -> bool {
         self.words
             .iter()

@@ -1,12 +1,12 @@
-//! A seat as it calls the shards that it has sent something to.
+//! A slot's doorbell: it notifies the shards to which the slot has sent something.
 ghost use Rattle.std.specs.Prelude.{◌≡◌, ◌∷◌, ◌++◌, []};
 
 use crate::wakers::Wakers;
 use http_server::Log;
 use std::marker::Model;
 
-/// Calls shards for one seat. Contracts see the shards that were called since the seat last sent something; it keeps no list of
-/// them.
+/// Notifies shards on behalf of one slot. Contracts see the shards notified since the slot last
+/// sent something; no list is kept at run time.
 #[derive(Drop)]
 pub struct Caller {
     wakers: Wakers,
@@ -23,7 +23,8 @@ impl Model for Caller {
 }
 
 impl Caller {
-    /// The seat of this number has called no shard yet. The wakers are those of the shards.
+    /// A doorbell of slot `seat`, which has notified no shard yet. The wakers are those of the
+    /// shards.
     pub fn new(wakers: Wakers, seat: usize) -> Caller
         ensures { result ≡ [] }
     {
@@ -34,20 +35,21 @@ impl Caller {
         }
     }
 
-    /// The seat has sent something, for which no shard was called yet.
+    /// Records that the slot has sent something for which no shard is notified yet.
     pub fn note_sent(&mut self)
         ensures { self.new ≡ [] }
     {
         self.called = Log::new();
     }
 
-    /// Tells the thread of the shard that the seat sends nothing more to the shard, and wakes it where it sleeps or is about to.
+    /// Notifies the shard's thread that the slot sends nothing more to it, and wakes that thread if
+    /// it sleeps or is about to.
     pub fn call_last(&self, shard: usize) {
         self.wakers.call(shard, self.seat);
     }
 
-    /// Tells the thread of the shard that the seat has sent something to the shard, and wakes it where it sleeps or is about to.
-    /// To be called once for all that was sent together.
+    /// Notifies the shard's thread that the slot has sent something, and wakes that thread if it
+    /// sleeps or is about to. Call it once for everything sent together.
     pub fn call(&mut self, shard: usize)
         ensures { self.new ≡ self.old ++ shard ∷ [] }
     {

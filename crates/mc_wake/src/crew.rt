@@ -1,4 +1,5 @@
-//! Threads are started, told to begin or to leave, and joined.
+//! Thread groups: threads are created, then all start their tasks or none does, and they are
+//! joined.
 ghost use Rattle.std.specs.Prelude.{◌≡◌, [], ◌∷◌, ◌++◌, IfOk, OnOk, OnErr};
 ghost use Rattle.mc_wake.specs.Zips.{Zips};
 
@@ -11,13 +12,13 @@ use std::sync::Wait;
 use std::thread::{Builder, PromisedHandle, Threads};
 use thiserror::Error;
 
-/// Why not all threads began.
+/// Why not all threads started.
 #[derive(Clone, Copy, Debug, Error, PartialEq, Eq)]
 pub enum CrewRefusal {
     /// Memory ran out.
     #[error("out of memory for the threads")]
     Memory,
-    /// A thread could not be started, or left before it began.
+    /// A thread could not be created, or ended before it started its task.
     #[error("not all threads began: ask for fewer, or raise the system's limit of threads")]
     Thread,
 }
@@ -32,13 +33,13 @@ impl From<AllocError> for CrewRefusal {
     }
 }
 
-/// Threads, each with a task, that wait for the word to begin. Contracts see them as the list of their tasks. They must be
-/// told, and joined.
+/// A group of threads, each with a task, that wait for a common start signal. Contracts see the
+/// list of tasks. A group must be started and joined, or dismissed.
 #[derive(Drop)]
 pub struct Crew<T: Task> {
     words: Vec<Sender<Word>>,
     handles: Vec<PromisedHandle<Option<T>, Done<T>>>,
-    /// Room for the tasks that come back, so that none is lost once they are done.
+    /// Space for the results, reserved in advance so that joining can't fail for want of memory.
     room: Vec<T>,
     ghost empty: { room.items ≡ [] },
 }
@@ -52,7 +53,7 @@ impl<T: Task> Model for Crew<T> {
 }
 
 impl<T: Task + Send + 'static> Crew<T> {
-    /// No thread yet, and room for `count` threads.
+    /// An empty group with space for `count` threads.
     pub fn new(alloc: Global, count: usize) -> Result<Crew<T>, AllocError>
         ensures { IfOk result (λ crew. crew ≡ []) }
     {
@@ -63,7 +64,7 @@ impl<T: Task + Send + 'static> Crew<T> {
         })
     }
 
-    /// Starts a thread for the task. It does nothing until it is told to begin.
+    /// Creates a thread for the task. It waits for the start signal.
     pub fn start<R: Threads + Wait + Copy + Send + 'static>(
         &mut self,
         rt: &R,
@@ -77,8 +78,10 @@ impl<T: Task + Send + 'static> Crew<T> {
         self.start_by(rt, alloc, Builder::new(), task)
     }
 
-    /// Starts a thread for the task as the builder says, which may give it another stack. It does nothing until it is told to
-    /// begin. It fails with `Memory`, or with `Thread` where the system has no such thread.
+    /// Creates a thread for the task with this builder, for example with another stack size. It
+    /// waits for the start signal.
+    ///
+    /// Errors: `Memory`, or `Thread` if the system refuses the thread.
     pub fn start_by<R: Threads + Wait + Copy + Send + 'static>(
         &mut self,
         rt: &R,
@@ -91,7 +94,7 @@ impl<T: Task + Send + 'static> Crew<T> {
         ensures err { OnErr result (self.new ≡ self.old) }
     {
         let (say, hear) = bounded(alloc, 1)?;
-        // The room comes first: a thread whose handle found none would never be joined.
+        // Reserved first: a thread whose handle can't be stored would never be joined.
         self.words.reserve(1)?;
         self.handles.reserve(1)?;
         let own = *rt;
@@ -105,7 +108,7 @@ impl<T: Task + Send + 'static> Crew<T> {
         Ok(())
     }
 
-    /// Tells all threads to begin.
+    /// Signals all threads to start their tasks.
     pub fn begin<R: Wait>(&mut self, rt: &R)
         ensures { self.new ≡ self.old }
     {
@@ -114,8 +117,9 @@ impl<T: Task + Send + 'static> Crew<T> {
         }
     }
 
-    /// Joins all threads, and gives back their tasks, in the order in which they were started, each as it was done. The
-    /// threads must have been told to begin. `Thread`: one left before it began.
+    /// Joins all threads and returns their finished tasks, in the order in which the threads were
+    /// created. `begin` must have been called. Fails with `Thread` if a thread ended before it
+    /// started its task.
     pub fn join<R: Threads>(self, rt: &R) -> Result<Vec<T>, CrewRefusal>
         ensures { IfOk result (λ tasks. Zips T.does self tasks.items) }
     {
@@ -140,7 +144,7 @@ impl<T: Task + Send + 'static> Crew<T> {
         Ok(done)
     }
 
-    /// Tells all threads to leave, and joins them. None of them has done anything.
+    /// Signals all threads to end without starting their tasks, and joins them.
     pub fn dismiss<R: Threads + Wait>(self, rt: &R) {
         let Crew {
             words,

@@ -1,9 +1,11 @@
-//! How threads begin together or not at all, wait while there is nothing to do, are woken by others, and are joined.
+//! Threads that start together or not at all, sleep while there is nothing to do, are woken by
+//! others, and are joined.
 //!
-//! A thread serves seats and workers. Whoever pushes something for one of them marks it, and wakes the thread where it sleeps.
-//! A thread that finds nothing looks again at once for a while, and then sleeps: in a parker, or in a poll of the sockets of
-//! its seats. Before it sleeps it says so and looks once more: whoever pushes something after that look finds it said, and
-//! wakes the thread. No clause tells that a thread wakes.
+//! A thread serves connection slots and shards. A producer sets a bit for the slot or shard and
+//! wakes its thread if that sleeps. A thread without work spins for a while and then blocks, in a
+//! parker or in a poll of its sockets. Before it blocks it publishes that it sleeps and looks once
+//! more; a producer that pushes after this look sees the flag and wakes the thread. Contracts do
+//! not state that a thread wakes (liveness); tests cover it.
 #![tactic(auto)]
 
 mod board;

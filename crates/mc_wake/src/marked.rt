@@ -1,20 +1,20 @@
-//! The numbers that are marked in a word.
+//! Iteration over the set bits of a word.
 ghost use Rattle.std.specs.Prelude.{◌≡◌, ◌*◌, ◌-◌, ◌^◌, min};
 ghost use Rattle.std.specs.Iterator.{at_most};
 ghost use Rattle.mc_wake.specs.Marked.{GivesLowest};
 
 use crate::board::WORD;
 
-/// Gives the numbers that are marked in a word, the lowest first.
+/// Iterator over the numbers of the set bits of a word, in ascending order.
 #[derive(Drop)]
 pub struct Marked {
-    /// The number that the lowest bit stands for.
+    /// The number of the lowest bit.
     first: usize,
     bits: u64,
 }
 
 impl Marked {
-    /// The numbers that are marked by the bits of the word of this number, whose lowest stands for `64 * word`.
+    /// The set bits of word number `word`, whose lowest bit has the number `64 * word`.
     pub fn of(word: usize, bits: u64) -> Marked
         ensures first { result.first ≡ min (word * 64) (2 ^ 64 - 1) }
         ensures bits { result.bits ≡ bits }

@@ -1,27 +1,28 @@
-//! How long a thread looks in vain before it sleeps.
+//! Spin policy: how long a thread polls before it sleeps.
 ghost use Rattle.std.specs.Prelude.{◌≡◌, ◌≤◌, ◌<◌};
 
 use std::thread;
 use std::thread::Threads;
 
-/// Busy polls before yielding, where each thread has a core of its own. A poll takes some nanoseconds, to sleep and wake some
-/// microseconds.
+/// Number of busy polls before yielding, if each thread has its own core. A poll takes nanoseconds;
+/// sleeping and waking takes microseconds.
 const LOOKS: usize = 1_000;
 
-/// Yields before sleeping, each with a poll behind it.
+/// Number of yields before sleeping, each followed by a poll.
 const YIELDS: usize = 2;
 
-/// How often a thread looks in vain before it sleeps: at first at once, then after it let other threads run.
+/// How often a thread polls without success before it sleeps: first in a busy loop, then with
+/// yields.
 #[derive(Clone, Copy)]
 pub struct Patience {
-    /// Busy polls before yielding.
+    /// Number of busy polls before yielding.
     pub looks: usize,
-    /// Yields before sleeping, each with a poll behind it.
+    /// Number of yields before sleeping, each followed by a poll.
     pub yields: usize,
 }
 
 impl Patience {
-    /// The patience where `threads` threads share the machine.
+    /// The spin policy if `threads` threads share the machine.
     pub fn among<R: Threads>(rt: &R, threads: usize) -> Patience {
         let cores = match thread::available_parallelism(rt) {
             Ok(cores) => cores.get(),
@@ -33,8 +34,8 @@ impl Patience {
         }
     }
 
-    /// How often a thread looks again at once, where `threads` threads share `cores` cores. With fewer cores than threads it
-    /// never does: it would keep the thread that it waits for from running.
+    /// The number of busy polls if `threads` threads share `cores` cores. Zero if there are fewer
+    /// cores than threads: spinning would delay the thread that it waits for.
     fn looks_of(cores: usize, threads: usize) -> usize
         ensures own { threads ≤ cores → result ≡ LOOKS }
         ensures shared { cores < threads → result ≡ 0 }

@@ -1,4 +1,4 @@
-//! A thread's sleep.
+//! A thread's wait for work: spin, then block in a parker or in a poll of sockets.
 ghost use Rattle.std.specs.Prelude.{◌≡◌, ◌≤◌, ◌-◌, ◌*◌, ◌^◌, IfOk};
 ghost use Rattle.std.specs.Arc.{arc_value};
 ghost use Rattle.std.specs.Int.{div_ceil};
@@ -15,33 +15,34 @@ use std::sync::{Arc, Wait};
 use std::time::Duration;
 use std::{hint, io, thread};
 
-/// Milliseconds that the thread sleeps at most, where seats want to be roused again in a while.
+/// Longest sleep in milliseconds while some slot has asked for a reminder.
 const REMINDER_MILLIS: u64 = 50;
 
-/// The number of looks at the sockets after which they are roused too, however busy the thread is.
+/// Number of polls of the sockets after which reminders are delivered even though the thread is
+/// busy.
 const REMINDER_LOOKS: u32 = 32;
 
-/// The number of turns after which a thread that always finds something to do looks at its sockets.
+/// Number of busy turns after which a thread polls its sockets although it still has work.
 const TURNS: u32 = 4;
 
-/// Where a thread sleeps.
+/// What the thread blocks in.
 #[derive(Drop)]
 enum Bed {
     Memory(Parker),
     Sockets(Sockets),
 }
 
-/// Waits for one thread while there is nothing to do. Contracts see how many seats may call its workers, and how many seats and
-/// workers it has.
+/// Blocks one thread while it has no work. Contracts see how many slots may notify its shards, and
+/// how many slots and shards it serves.
 pub struct Sleeper {
     bed: Bed,
     waker: Arc<Waker, Global>,
     patience: Patience,
-    /// Empty polls since work was last found.
+    /// Polls without work since work was last found.
     vain: usize,
-    /// Polls that found work since the sockets were last looked at.
+    /// Turns with work since the sockets were last polled.
     turns: u32,
-    /// Looks at the sockets since those that want to be roused again were last roused.
+    /// Polls of the sockets since reminders were last delivered.
     looks: u32,
     callers: usize,
     places: usize,
@@ -51,7 +52,7 @@ pub struct Sleeper {
 }
 
 impl Drop for Sleeper {
-    /// By hand, so that to let one go is one call for whoever holds it (docs/DECISIONS.md).
+    /// Written by hand, so that its owners drop it by a single call (docs/DECISIONS.md, F20).
     fn drop(self) {
         let Sleeper {
             bed: _bed,
@@ -77,8 +78,9 @@ impl Model for Sleeper {
 }
 
 impl Sleeper {
-    /// The sleep of a thread whose seats have no sockets, in a parker. Any of the `callers` seats of the server may call
-    /// its workers; it has `places` places, which are its own seats, and `workers` workers. At first each place is roused.
+    /// For a thread whose slots have no sockets; it blocks in a parker. Any of the server's
+    /// `callers` slots may notify its shards. It serves `places` slots and `workers` shards. All
+    /// its slots are marked ready at first.
     pub fn new(
         alloc: Global,
         patience: Patience,
@@ -96,7 +98,8 @@ impl Sleeper {
         Ok(Sleeper::asleep_in(bed, waker, patience, callers, places, workers))
     }
 
-    /// The same of a thread whose seats have sockets: it sleeps in a poll of them.
+    /// For a thread whose slots have sockets; it blocks in a poll of them. The arguments are those
+    /// of `new`. Fails if the system refuses the poll.
     pub fn polling<R: Net>(
         rt: &R,
         alloc: Global,
@@ -114,7 +117,7 @@ impl Sleeper {
         Ok(Sleeper::asleep_in(bed, waker, patience, callers, places, workers))
     }
 
-    /// It sleeps in the bed, until that waker wakes it.
+    /// A sleeper that blocks in `bed` until `waker` wakes it.
     fn asleep_in(
         bed: Bed,
         waker: Arc<Waker, Global>,
@@ -140,28 +143,29 @@ impl Sleeper {
         }
     }
 
-    /// How many seats the thread serves.
+    /// Number of slots that the thread serves.
     pub fn places(&self) -> usize
         ensures { result ≡ self.now.places }
     {
         self.places
     }
 
-    /// How many workers the thread serves.
+    /// Number of shards that the thread serves.
     pub fn workers(&self) -> usize
         ensures { result ≡ self.now.workers }
     {
         self.workers
     }
 
-    /// What wakes the thread.
+    /// A handle that wakes the thread.
     pub(crate) fn waker(&self) -> Result<Arc<Waker, Global>, AllocError> {
         Arc::try_clone(&self.waker)
     }
 
-    /// Takes the marks of those of the 64 seats from `64 * word` on that have called since this was last asked: the bit of value
-    /// 1 is that of the seat `64 * word`. What a seat pushed before it called is found from now on. Seats that the thread wasn't
-    /// made for are always marked: none waits in vain for having too high a number.
+    /// Takes and clears the bits of those of the 64 slots from `64 * word` on that have notified
+    /// this thread's shards. Everything a slot pushed before it notified is visible from now on.
+    /// Slots beyond the number that the thread was made for are always marked, so that none is
+    /// missed.
     #[tactic(auto, using(crate::proofs::Words::words_within))]
     pub fn callers_in(&self, word: usize) -> u64
         ensures unknown { self.now.callers ≤ 64 * word → result ≡ 2 ^ 64 - 1 }
@@ -169,9 +173,9 @@ impl Sleeper {
         self.waker.callers.take(word)
     }
 
-    /// Takes the marks of those of the 64 places from `64 * word` on that were roused since this was last asked: replies were
-    /// given to the seat, or its socket has something, or it wanted to be roused again. Places that the thread doesn't have are
-    /// always marked.
+    /// Takes and clears the bits of the thread's slots that are ready, 64 of them from `64 * word`
+    /// on. A slot is ready if a reply was pushed, its socket has an event, or a reminder is due.
+    /// Numbers that the thread doesn't serve are always marked.
     #[tactic(auto, using(crate::proofs::Words::words_within))]
     pub fn roused_in(&self, word: usize) -> u64
         ensures unknown { self.now.places ≤ 64 * word → result ≡ 2 ^ 64 - 1 }
@@ -179,7 +183,7 @@ impl Sleeper {
         self.waker.roused.take(word)
     }
 
-    /// Takes what was told of the socket of the seat at this place since this was last asked.
+    /// Takes the last event of the socket of the slot at `place`, if there was one.
     pub fn ready(&mut self, place: usize) -> Option<Readiness>
         ensures same { self.new ≡ self.old }
     {
@@ -189,8 +193,8 @@ impl Sleeper {
         }
     }
 
-    /// The thread has found something to do since it was last here. To be said after it has looked at all that was marked, and
-    /// before it looks again.
+    /// Records that work was found since the last call. Call it after all marked slots and shards
+    /// were visited, and before the next look.
     pub fn found(&mut self)
         ensures same { self.new ≡ self.old }
     {
@@ -201,9 +205,8 @@ impl Sleeper {
         }
     }
 
-    /// The thread has found nothing to do since it was last here: it waits a little before it looks again. The longer it finds
-    /// nothing, the longer it waits, and after a last look until it is woken. It must look at all that may be marked between two
-    /// calls.
+    /// Records that no work was found since the last call, and backs off: spins, yields, then
+    /// blocks until woken. Visit everything that may be marked between two calls.
     pub fn wait<R: Wait>(&mut self, rt: &R)
         ensures same { self.new ≡ self.old }
     {
@@ -221,13 +224,13 @@ impl Sleeper {
         self.vain = self.vain.saturating_add(1);
     }
 
-    /// Whether the thread has said that it sleeps, and looks for the last time.
+    /// Whether the thread has published that it sleeps and is at its last look.
     fn is_last_look(&self) -> bool {
         let patience = self.patience.looks.saturating_add(self.patience.yields);
         patience < self.vain
     }
 
-    /// The thread doesn't sleep.
+    /// Publishes that the thread is awake.
     fn rise(&mut self)
         ensures same { self.new ≡ self.old }
     {
@@ -237,7 +240,7 @@ impl Sleeper {
         self.vain = 0;
     }
 
-    /// Sleeps until the thread is woken.
+    /// Blocks until the thread is woken.
     fn sleep<R: Wait>(&mut self, rt: &R)
         ensures same { self.new ≡ self.old }
     {
@@ -248,7 +251,7 @@ impl Sleeper {
         self.rise();
     }
 
-    /// How long it may sleep.
+    /// The longest time to block; `None` for no limit.
     fn at_most(&self) -> Option<Duration> {
         if self.waker.reminders.is_empty() {
             None
@@ -257,7 +260,8 @@ impl Sleeper {
         }
     }
 
-    /// Waits until a socket has something or the thread is woken, or the time is out, where there is one.
+    /// Polls until a socket has an event, the thread is woken, or the timeout ends, if there is
+    /// one.
     fn look(&mut self, timeout: Option<Duration>)
         ensures same { self.new ≡ self.old }
     {

@@ -1,4 +1,4 @@
-//! The sockets of the seats of one thread, and the poll in which the thread sleeps.
+//! The sockets of one thread's slots, and the poll in which the thread blocks.
 
 use crate::board::Board;
 use crate::waker::Alarm;
@@ -9,32 +9,33 @@ use std::io;
 use std::net::Net;
 use std::time::Duration;
 
-/// The token of the thread's own alarm. No place has it.
+/// Token of the thread's own waker. No slot has it.
 const ALARM: Token = Token(usize::MAX);
 
-/// The most events that there is room for at once, beside one for the alarm; others come with the next look.
+/// Maximum number of socket events per poll, beside one for the waker; further events come with the
+/// next poll.
 const MOST_EVENTS: usize = 1_024;
 
-/// What the poll has told of a socket.
+/// What the poll reported of a socket.
 #[derive(Clone, Copy, Debug, PartialEq, Eq)]
 pub enum Readiness {
-    /// It has bytes to give, or room for more.
+    /// It is readable or writable.
     Ready,
-    /// And its input has ended, it has failed, or it has urgent bytes: a read that doesn't fill its room doesn't tell that
-    /// nothing is left.
+    /// Also its input has ended, it has failed, or it has urgent bytes. A short read then doesn't
+    /// mean that nothing is left.
     Closing,
 }
 
-/// The poll, and what it has told since it was last asked.
+/// The poll, and the events that were not taken yet.
 pub(crate) struct Sockets {
     poll: Poll,
     events: Events,
-    /// Of each place.
+    /// The last event of each slot.
     ready: Vec<Option<Readiness>>,
 }
 
 impl Drop for Sockets {
-    /// By hand, so that to let one go is one call for whoever holds it (docs/DECISIONS.md).
+    /// Written by hand, so that its owners drop it by a single call (docs/DECISIONS.md, F20).
     fn drop(self) {
         let Sockets {
             poll: _poll,
@@ -45,7 +46,7 @@ impl Drop for Sockets {
 }
 
 impl Sockets {
-    /// No socket yet, for `places` places.
+    /// A poll without sockets, for `places` slots.
     pub(crate) fn new<R: Net>(rt: &R, alloc: Global, places: usize) -> io::Result<Sockets> {
         let room = places.min(MOST_EVENTS).saturating_add(1);
         Ok(Sockets {
@@ -55,15 +56,15 @@ impl Sockets {
         })
     }
 
-    /// What wakes the thread while it sleeps here, and where the sockets of the places are registered.
+    /// A handle that wakes the thread from this poll, and with which sockets are registered.
     pub(crate) fn alarm(&self) -> io::Result<Alarm> {
         let waker = Waker::new(self.poll.registry(), ALARM)?;
         let registry = self.poll.registry().try_clone()?;
         Ok(Alarm::Sockets { waker, registry })
     }
 
-    /// Waits until a socket has something or the thread is woken, or the time is out, where there is one. The places that it is
-    /// told of are marked as roused. Whether it was told anything.
+    /// Polls until a socket has an event, the thread is woken, or the timeout ends, if there is
+    /// one. Marks the slots with events in `roused`. Returns whether there was any event.
     pub(crate) fn look(&mut self, timeout: Option<Duration>, roused: &Board) -> bool {
         if self.poll.poll(&mut self.events, timeout).is_err() {
             return false;
@@ -78,13 +79,13 @@ impl Sockets {
         !self.events.is_empty()
     }
 
-    /// Takes what was told of the socket of a place.
+    /// Takes the last event of the socket of the slot at `place`.
     pub(crate) fn ready(&mut self, place: usize) -> Option<Readiness> {
         self.ready.get_mut(place)?.take()
     }
 }
 
-/// What is told of a socket by what was, and by an event.
+/// Merges the previous state with a new event; `Closing` is kept.
 fn told(before: Option<Readiness>, event: &Event) -> Readiness {
     let closing = event.is_read_closed() || event.is_error() || event.is_priority();
     if closing || before == Some(Readiness::Closing) {

@@ -1,4 +1,4 @@
-//! What a thread does, and what it promises.
+//! Tasks of threads, and their contracts.
 ghost use Rattle.std.specs.Prelude.{IfSome};
 
 use crossbeam_channel::Receiver;
@@ -6,30 +6,30 @@ use std::snapshot::Snapshot;
 use std::sync::Wait;
 use std::thread::Promise;
 
-/// What one thread does.
+/// A task of one thread.
 pub trait Task: Drop {
-    /// What is required before it begins.
+    /// What must hold before it starts.
     ghost is_ready: { Self → Type 0 };
 
-    /// How the task, once it is done, follows from what it was.
+    /// Relates the finished task to the task before it started.
     ghost does: { Self → Self → Type 0 };
 
-    /// Does it, and gives it back.
+    /// Runs the task and returns it.
     fn work<R: Wait>(self, rt: &R) -> Self
         requires { is_ready self }
         ensures { does self result };
 }
 
-/// What each thread is told once.
+/// The start signal of a thread.
 #[derive(Clone, Copy)]
 pub(crate) enum Word {
-    /// All threads run: it does its task.
+    /// All threads run: start the task.
     Begin,
-    /// Not all threads could be started: it ends at once.
+    /// Not all threads could be created: end at once.
     Leave,
 }
 
-/// What a thread promises: its task is done where it gives it back.
+/// The promise of a thread: the task that it returns is finished.
 #[derive(Drop)]
 pub(crate) struct Done<T: Task>(pub(crate) Snapshot<T>);
 
@@ -37,7 +37,7 @@ impl<T: Task> Promise<Option<T>> for Done<T> {
     ghost kept_by = { λ promise result. IfSome result (λ done. T.does promise.0.value done) };
 }
 
-/// Waits for the word, and does the task where it is to begin.
+/// Waits for the start signal, and runs the task if the signal is `Begin`.
 pub(crate) fn begin<T: Task, R: Wait>(rt: &R, word: Receiver<Word>, task: T) -> Option<T>
     requires { T.is_ready task }
     ensures { IfSome result (λ done. T.does task done) }

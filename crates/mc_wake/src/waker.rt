@@ -1,4 +1,4 @@
-//! What wakes one thread.
+//! Wakes one thread.
 ghost use Rattle.std.specs.Prelude.{◌≡◌, IfOk};
 ghost use Rattle.std.specs.Arc.{arc_value};
 ghost use Rattle.std.specs.Int.{div_ceil};
@@ -12,11 +12,11 @@ use std::io;
 use std::sync::Arc;
 use std::sync::atomic::{AtomicBool, Ordering};
 
-/// What ends the sleep of a thread.
+/// How a blocked thread is woken.
 pub(crate) enum Alarm {
-    /// It sleeps in a parker.
+    /// The thread blocks in a parker.
     Memory(Unparker),
-    /// It sleeps in a poll, with which sockets are registered.
+    /// The thread blocks in a poll, with which sockets are registered.
     Sockets {
         waker: mio::Waker,
         registry: Registry,
@@ -24,7 +24,7 @@ pub(crate) enum Alarm {
 }
 
 impl Drop for Alarm {
-    /// By hand, so that to let one go is one call for whoever holds it (docs/DECISIONS.md).
+    /// Written by hand, so that its owners drop it by a single call (docs/DECISIONS.md, F20).
     fn drop(self) {
         match self {
             Alarm::Memory(_unparker) => {}
@@ -36,22 +36,24 @@ impl Drop for Alarm {
     }
 }
 
-/// Wakes one thread, and tells it why.
+/// Wakes one thread, and records why.
 #[derive(Drop)]
 pub(crate) struct Waker {
     pub(crate) alarm: Alarm,
-    /// The thread sleeps, or looks for the last time before it does.
+    /// The thread blocks, or is at its last look before it does.
     pub(crate) asleep: AtomicBool,
-    /// The seats of the server that have called the thread's workers since it last asked.
+    /// The server's slots that have notified this thread's shards since the thread last took the
+    /// bits.
     pub(crate) callers: Board,
-    /// The places of the thread that were roused since it last asked.
+    /// The thread's slots that became ready since the thread last took the bits.
     pub(crate) roused: Board,
-    /// The places that want to be roused again in a while.
+    /// The thread's slots that have asked for a reminder.
     pub(crate) reminders: Board,
 }
 
 impl Waker {
-    /// By this alarm, of a thread that has `callers` callers and `places` places, each of which is roused.
+    /// A waker with this alarm, for a thread with `callers` callers and `places` slots, all of
+    /// which are marked ready.
     pub(crate) fn new(
         alloc: Global,
         alarm: Alarm,
@@ -75,24 +77,26 @@ impl Waker {
         Ok(Arc::new(alloc, waker)?)
     }
 
-    /// Tells the thread that the seat has pushed something for a worker of it, and wakes it where it sleeps or is about to.
+    /// Records that the slot has pushed something for a shard of this thread, and wakes the thread
+    /// if it sleeps or is about to.
     pub(crate) fn call(&self, seat: usize) {
         self.callers.mark(seat);
         self.wake();
     }
 
-    /// Tells the thread that something was pushed for the seat at this place of it, and wakes it where it sleeps or is about to.
+    /// Records that something was pushed for the thread's slot at `place`, and wakes the thread if
+    /// it sleeps or is about to.
     pub(crate) fn rouse(&self, place: usize) {
         self.roused.mark(place);
         self.wake();
     }
 
-    /// Rouses the places that want to be roused again.
+    /// Marks the slots that asked for a reminder as ready.
     pub(crate) fn remind(&self) {
         self.roused.take_all(&self.reminders);
     }
 
-    /// Has the thread report what the socket has, for the seat at this place.
+    /// Registers a socket with the thread's poll, for the slot at `place`.
     pub(crate) fn register<S: Source>(&self, source: &mut S, place: usize) -> io::Result<()> {
         let Alarm::Sockets { registry, .. } = &self.alarm else {
             return Err(io::Error::from(io::ErrorKind::Unsupported));
@@ -101,7 +105,7 @@ impl Waker {
         registry.register(source, Token(place), interests)
     }
 
-    /// Wakes the thread where it sleeps or is about to, once for each sleep.
+    /// Wakes the thread if it sleeps or is about to, once for each sleep.
     fn wake(&self) {
         if self.asleep.load(Ordering::SeqCst) && self.asleep.swap(false, Ordering::SeqCst) {
             self.ring();
@@ -112,7 +116,7 @@ impl Waker {
         match &self.alarm {
             Alarm::Memory(unparker) => unparker.unpark(),
             Alarm::Sockets { waker, .. } => {
-                // It fails at no waker that was made.
+                // A waker that was made successfully doesn't fail.
                 let _ = waker.wake();
             }
         }

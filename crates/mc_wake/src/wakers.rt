@@ -1,4 +1,4 @@
-//! The wakers of the threads of a server, by its shards and its seats.
+//! The wakers of a server's threads, by shard and by slot.
 use crate::sleeper::Sleeper;
 use crate::waker::Waker;
 use mio::event::Source;
@@ -6,38 +6,40 @@ use std::alloc::{AllocError, Global};
 use std::io;
 use std::sync::Arc;
 
-/// Where a seat is served.
+/// The thread that serves a slot.
 #[derive(Clone, Copy)]
 struct Place {
     thread: usize,
-    /// Its number among the seats of the thread.
+    /// The slot's number among those of its thread.
     place: usize,
 }
 
-/// The threads, and which of them serves each shard and each seat.
+/// The threads, and which of them serves each shard and each slot.
 #[derive(Drop)]
 struct Directory {
     threads: Vec<Arc<Waker, Global>>,
     /// The thread of each shard.
     shards: Vec<usize>,
-    /// The place of each seat.
+    /// The thread and place of each slot.
     seats: Vec<Place>,
 }
 
-/// Wakes the threads of a server, by the numbers of its shards and seats.
+/// Wakes the threads of a server, by the numbers of its shards and slots. Clones share one
+/// directory.
 pub struct Wakers {
     all: Arc<Directory, Global>,
 }
 
 impl Drop for Wakers {
-    /// By hand, so that to let one go is one call for whoever holds it (docs/DECISIONS.md).
+    /// Written by hand, so that its owners drop it by a single call (docs/DECISIONS.md, F20).
     fn drop(self) {
         let Wakers { all: _all } = self;
     }
 }
 
 impl Wakers {
-    /// The wakers of these threads. Shards and seats are numbered from 0, in the order of the threads that serve them.
+    /// The wakers of these threads. Shards and slots are numbered from 0, in the order of the
+    /// threads that serve them.
     pub fn of(alloc: Global, sleepers: &[Sleeper]) -> Result<Wakers, AllocError> {
         let mut all = Directory {
             threads: Vec::with_capacity(alloc, sleepers.len())?,
@@ -52,37 +54,38 @@ impl Wakers {
         })
     }
 
-    /// The same wakers, for one more who pushes.
+    /// Clones the handle, for one more producer. Fails if memory is refused.
     pub fn share(&self) -> Result<Wakers, AllocError> {
         Ok(Wakers {
             all: Arc::try_clone(&self.all)?,
         })
     }
 
-    /// Tells the thread of the shard that the seat has pushed something for the shard's worker, and wakes it where it sleeps or
-    /// is about to. To be called once for all that was pushed together.
+    /// Notifies the shard's thread that slot `seat` has pushed something for the shard, and wakes
+    /// that thread if it sleeps or is about to. Call it once for everything pushed together.
     pub fn call(&self, shard: usize, seat: usize) {
         if let Some(waker) = self.all.of_shard(shard) {
             waker.call(seat);
         }
     }
 
-    /// Tells the thread of the seat that something was pushed for it, and wakes it where it sleeps or is about to. To be called
-    /// once for all that was pushed together.
+    /// Notifies the slot's thread that something was pushed for the slot, and wakes that thread if
+    /// it sleeps or is about to. Call it once for everything pushed together.
     pub fn rouse(&self, seat: usize) {
         if let Some((waker, place)) = self.all.of_seat(seat) {
             waker.rouse(place);
         }
     }
 
-    /// Has the seat roused again in a while, where its thread sleeps in a poll: after some 50 ms, or sooner.
+    /// Marks the slot as ready again within about 50 ms, if its thread blocks in a poll.
     pub fn remind(&self, seat: usize) {
         if let Some((waker, place)) = self.all.of_seat(seat) {
             waker.reminders.mark(place);
         }
     }
 
-    /// Has the seat roused whenever the socket has something, where its thread sleeps in a poll.
+    /// Registers the socket, so that its events mark the slot as ready, if its thread blocks in a
+    /// poll.
     pub fn register<S: Source>(&self, seat: usize, source: &mut S) -> io::Result<()> {
         match self.all.of_seat(seat) {
             Some((waker, place)) => waker.register(source, place),
@@ -92,7 +95,7 @@ impl Wakers {
 }
 
 impl Directory {
-    /// One thread more.
+    /// Adds the slots and shards of one more thread.
     fn add(&mut self, sleeper: &Sleeper) -> Result<(), AllocError> {
         let thread = self.threads.len();
         self.threads.push(sleeper.waker()?)?;
@@ -105,13 +108,13 @@ impl Directory {
         Ok(())
     }
 
-    /// What wakes the thread of a shard.
+    /// The waker of the thread of a shard.
     fn of_shard(&self, shard: usize) -> Option<&Waker> {
         let thread = self.shards.get(shard)?;
         Some(self.threads.get(*thread)?)
     }
 
-    /// What wakes the thread of a seat, and its place there.
+    /// The waker of the thread of a slot, and the slot's place there.
     fn of_seat(&self, seat: usize) -> Option<(&Waker, usize)> {
         let at = self.seats.get(seat)?;
         Some((self.threads.get(at.thread)?, at.place))

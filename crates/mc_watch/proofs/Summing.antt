@@ -25,7 +25,7 @@ folds_on : {P A : Type 0} (R : P → A → P → Type 0) (p : P) (xs : List A) (
 folds_on R p [] q x r is one = (r, subst (λ s. R s x r) (sym is) one, refl)
 folds_on R p (y ∷ ys) q x r steps one = (steps.0, steps.1, folds_on R steps.0 ys q x r steps.2 one)
 
--- steps over what the first of them share go on by a step over what the next one shares
+-- a fold over a prefix of the shared values is extended by a step for the next one
 pub folds_shared : {P X Z : Type 0} (R : P → X → P → Type 0) (p : P) (all : List (Arc (CachePadded X) Z)) (place : ℕ) (q : P) (one : Arc (CachePadded X) Z) (r : P) → place < length all → one ≡ get_or all place one → FoldsTo R p (shared_values (take place all)) q → R q (shared_value one) r → FoldsTo R p (shared_values (take (place + 1) all)) r
 folds_shared R p all place q one r within is steps next =
     subst (λ ys. FoldsTo R p ys r) (sym (shared_next all place one within is)) (folds_on R p (shared_values (take place all)) q (shared_value one) r steps next)
@@ -43,7 +43,7 @@ shown_next told shards place one all totals after within is are each shown =
     subst (λ them. EachIsShown told (shared_values (take (place + 1) shards)) them) (sym are)
     (subst (λ them. EachIsShown told them (all ++ totals ∷ [])) (sym (shared_next shards place one within is)) (shown_more told (shared_values (take place shards)) all (shared_value one) totals each shown))
 
--- the same counts make the same totals
+-- equal counts make equal totals
 pub same_totals : {items bytes evicted items' bytes' evicted' : ℕ} {tally tally' : Tally} → items ≡ items' → bytes ≡ bytes' → evicted ≡ evicted' → tally ≡ tally'
     → totals_counted items bytes evicted tally ≡ totals_counted items' bytes' evicted' tally'
 same_totals {items} {bytes} {evicted} {items'} {bytes'} {evicted'} {tally} items_are bytes_are evicted_are tally_is =

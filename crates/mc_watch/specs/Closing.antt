@@ -1,4 +1,4 @@
--- What is reported of a connection that is served no more.
+-- The event of an ended connection.
 use Rattle.std.specs.Prelude.{ℕ}
 use Rattle.std.specs.declared.net.socket_addr.SocketAddr.{SocketAddr}
 use Rattle.mc_watch.specs.declared.event.ConnectionEvent.TheVariants.{Closed}
@@ -6,7 +6,7 @@ use Rattle.mc_watch.specs.declared.meter.Meter.{Meter}
 use Rattle.mc_watch.specs.declared.reporter.Reporter.{Reporter}
 use Rattle.mc_watch.specs.Reports.{Tells}
 
--- it was reported with its peer and its seat, how many commands it took, and why it ended and how many bytes it moved by its meter
+-- it was reported with its peer and slot, its number of commands, and its reason and bytes from its meter
 abbrev pub TellsClosed : {C : Type 0} → SocketAddr → ℕ → Meter C → ℕ → Reporter → Reporter → Type 0
 TellsClosed peer seat meter commands old new =
     Tells old (Closed peer seat meter.manner commands meter.read meter.written) new

@@ -1,4 +1,4 @@
--- What the threads of a server count, and what is told of it.
+-- The counters of a server's threads, and their totals.
 use Rattle.std.specs.Prelude.{ℕ, ◌≡◌, ◌-◌, Bool, List, [], ◌∷◌, map, length, Option, Some, None, option_map, slice_get, ⊤}
 use Rattle.std.specs.Arc.{arc_value}
 use Rattle.std.specs.Int.{from_bool}
@@ -19,44 +19,44 @@ use Rattle.mc_watch.specs.declared.shard_counts.ShardTotals.{ShardTotals}
 use Rattle.mc_watch.specs.Told.{EachShown}
 use Rattle.mc_watch.specs.Totals.{IsSummed, no_shards, shards_of_both, sum_of}
 
--- what threads share, apart from other values in memory
+-- the value that threads share, padded to a cache line
 abbrev pub shared_value : {X Z : Type 0} → Arc (CachePadded X) Z → X
 shared_value shared = padded_value (arc_value shared)
 
--- what several share
+-- the values that several share
 abbrev pub shared_values : {X Z : Type 0} → List (Arc (CachePadded X) Z) → List X
 shared_values all = map shared_value all
 
--- how many shards show what they hold and were asked
+-- the number of shards with counters
 abbrev pub shard_count : {C : Type 0} → Counts C → ℕ
 shard_count counts = length counts.shards.items
 
--- what each shard shows, by its number
+-- the counters of each shard, by its number
 abbrev pub shards_of : {C : Type 0} → Counts C → List (ShardCounts C)
 shards_of counts = shared_values counts.shards.items
 
--- what each thread counts that serves connections, by its number
+-- the counters of each serving thread, by its number
 abbrev pub threads_of : {C : Type 0} → Counts C → List (SeatCounts C)
 threads_of counts = shared_values counts.threads.items
 
--- what the thread of this number counts, if there is one and it counts
+-- the counters of the thread of this number, if there are any
 abbrev pub thread_of : {C : Type 0} → Option (Counts C) → ℕ → Option (SeatCounts C)
 thread_of None number = None
 thread_of (Some counts) number = option_map shared_value (slice_get counts.threads.items number)
 
--- what the thread counts that accepts connections, if it counts
+-- the counters of the accepting thread, if there are any
 abbrev pub entrance_of : {C : Type 0} → Option (Counts C) → Option (EntranceCounts C)
 entrance_of None = None
 entrance_of (Some counts) = Some (shared_value counts.entrance)
 
--- one counts what the other counts
+-- both have the same counters
 pub record SameCounts {C : Type 0} (one other : Counts C) : Type 0 where
   pub entrance : shared_value one.entrance ≡ shared_value other.entrance
   pub threads : threads_of one ≡ threads_of other
   pub shards : shards_of one ≡ shards_of other
 
 module _ {C : Type 0} (added : C → ℕ → Type 0) where
-  -- one more connection has ended for this reason, where that is counted
+  -- one more connection ended for this reason, if it is counted
   abbrev pub CountsManner : EndCounts C → Manner → Type 0
   CountsManner counts ByClient = ⊤
   CountsManner counts Quit = ⊤
@@ -70,14 +70,14 @@ module _ {C : Type 0} (added : C → ℕ → Type 0) where
   CountsManner counts NoMemory = added counts.refused_memory 1
   CountsManner counts Shutdown = ⊤
 
-  -- A connection has ended for this reason, and was broken or not; of the commands that it took so many were counted before.
+  -- A connection ended for this reason, and failed or not; `counted` of its commands were counted before.
   pub record CountsEnd (counts : SeatCounts C) (counted commands : ℕ) (broke : Bool) (manner : Manner) : Type 0 where
     pub commands_are : added counts.commands (commands - counted)
     pub broken : added counts.broken (from_bool broke)
     pub ends : CountsManner counts.ends manner
     pub ended : added counts.ended 1
 
-  -- a connection that was accepted has ended unserved
+  -- an accepted connection ended unserved
   pub record CountsUnserved (counts : SeatCounts C) : Type 0 where
     pub broken : added counts.broken 1
     pub ended : added counts.ended 1
@@ -91,13 +91,13 @@ abbrev pub no_totals : Totals
 no_totals = record { accepted = 0; failed = 0; ended = 0; broken = 0; commands = 0; read = 0; written = 0; ends = no_ends; shards = no_shards }
 
 module _ {C : Type 0} (told : C → ℕ → Type 0) where
-  -- what the counter told is added
+  -- the value read from the counter is added
   pub record Adds (counter : C) (before after : ℕ) : Type 0 where
     pub count : ℕ
     pub is_told : told counter count
     pub sum : after ≡ sum_of before count
 
-  -- what a thread told of the reasons is added
+  -- the values read from a thread's counters of reasons are added
   pub record AddsEnds (before : EndTotals) (thread : EndCounts C) (after : EndTotals) : Type 0 where
     pub binary : Adds thread.binary before.binary after.binary
     pub http : Adds thread.http before.http after.http
@@ -107,7 +107,7 @@ module _ {C : Type 0} (told : C → ℕ → Type 0) where
     pub failed : Adds thread.failed before.failed after.failed
     pub refused_memory : Adds thread.refused_memory before.refused_memory after.refused_memory
 
-  -- what a thread told that serves connections is added, and what others count stays
+  -- the values read from a serving thread's counters are added; other counts are unchanged
   pub record AddsThread (before : Totals) (thread : SeatCounts C) (after : Totals) : Type 0 where
     pub ended : Adds thread.ended before.ended after.ended
     pub broken : Adds thread.broken before.broken after.broken
@@ -119,25 +119,26 @@ module _ {C : Type 0} (told : C → ℕ → Type 0) where
     pub failed : after.failed ≡ before.failed
     pub shards : after.shards ≡ before.shards
 
-  -- the totals of a shard are what its own counters told, and of all its commands for which no memory was left the sum
+  -- the totals of a shard are the values read from its own counters, and the number of all commands for which
+  -- memory was refused
   pub record AreShown (shard : ShardCounts C) (totals : ShardTotals) : Type 0 where
     pub is_told : EachShown told shard totals
     pub summed : IsSummed totals
 
-  -- the same of each shard, by its number
+  -- the totals of each shard are those of its own counters
   abbrev pub EachIsShown : List (ShardCounts C) → List ShardTotals → Type 0
   EachIsShown [] [] = ⊤
   EachIsShown [] (totals ∷ rest) = ⊥
   EachIsShown (shard ∷ shards) [] = ⊥
   EachIsShown (shard ∷ shards) (totals ∷ rest) = AreShown shard totals × EachIsShown shards rest
 
-  -- what a shard told is added
+  -- the totals of a shard are added
   pub record AddsShard (before : ShardTotals) (shard : ShardCounts C) (after : ShardTotals) : Type 0 where
     pub totals : ShardTotals
     pub are_shown : AreShown shard totals
     pub sum : after ≡ shards_of_both before totals
 
-  -- the totals are what all counters told, each thread and each shard in turn
+  -- the totals are the sum of the values read from all counters, of each thread and each shard in turn
   pub record AreTotals (counts : Counts C) (totals : Totals) : Type 0 where
     pub seats : Totals
     pub threads : FoldsTo AddsThread no_totals (threads_of counts) seats

@@ -1,4 +1,4 @@
--- What is written of an event.
+-- The log texts of events.
 use Rattle.std.specs.Prelude.{ℕ, List, ◌++◌, Option, Some, None, codes, decimal, nat_eq, if◌then◌else◌}
 use Rattle.std.specs.Net.Text.{socket_text}
 use Rattle.mc_watch.specs.declared.event.ConnectionEvent.{ConnectionEvent}
@@ -19,12 +19,12 @@ manner_text WriteFailed = codes "a write failed"
 manner_text NoMemory = codes "no memory was left for its replies"
 manner_text Shutdown = codes "the server ends"
 
--- a number of things, by the word for one of them
+-- a count with its noun
 abbrev pub counted_text : ℕ → List ℕ → List ℕ
 counted_text count one =
     if nat_eq count 1 then codes "1 " ++ one else decimal count ++ (codes " " ++ (one ++ codes "s"))
 
--- the text of an event, but of a failed accept with its fault, for which the system has the words
+-- the text of an event, except for a failed accept with an errno, for which the system has the text
 abbrev pub event_text : ConnectionEvent → Option (List ℕ)
 event_text (Opened peer seat) =
     Some (socket_text peer ++ (codes " on seat " ++ (decimal seat ++ codes ": opened")))

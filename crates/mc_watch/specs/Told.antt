@@ -1,5 +1,5 @@
--- Which counter goes with which number. What a counter holds no clause knows, since threads share it: so these say of each number
--- which counter it was set to, or which told it, whatever counts.
+-- Which counter belongs to which number. No clause knows the value of a counter, since threads share it. So
+-- these relations state for each number which counter was set to it, or returned it.
 use Rattle.std.specs.Prelude.{ℕ}
 use Rattle.mc_watch.specs.declared.shard_counts.CommandCounters.{CommandCounters}
 use Rattle.mc_watch.specs.declared.shard_counts.CommandTotals.{CommandTotals}
@@ -30,6 +30,6 @@ module _ {C : Type 0} (goes : C → ℕ → Type 0) where
     pub decr : EachOfCommand counters.decr totals.decr
     pub flush : EachOfCommand counters.flush totals.flush
 
-  -- the same of what a shard shows
+  -- each counter of a shard, with its published total
   abbrev pub EachShown : ShardCounts C → ShardTotals → Type 0
   EachShown shown totals = EachOfShard shown.counters totals

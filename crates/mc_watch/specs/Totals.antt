@@ -1,4 +1,4 @@
--- What a shard holds and was asked, and several together: the sum of each count. A count stays at the greatest of 64 bits.
+-- The contents and statistics of a shard, and the sums of several; each count saturates at 64 bits.
 use Rattle.std.specs.Prelude.{ℕ, ◌≡◌, ◌+◌, ◌-◌, ◌^◌, [], ◌∷◌, fold, min}
 use Rattle.std.specs.FinMap.{len}
 use Rattle.mc_item.specs.declared.tally.CountedAs.{CountedAs}
@@ -14,7 +14,7 @@ use Rattle.mc_watch.specs.declared.shard_counts.ShardTotals.{ShardTotals}
 abbrev pub sum_of : ℕ → ℕ → ℕ
 sum_of one other = min (one + other) (2 ^ 64 - 1)
 
--- what one kind of command came to, on both
+-- the outcomes of one kind of command, on both shards
 abbrev pub commands_of_both : CommandTotals → CommandTotals → CommandTotals
 commands_of_both one other = record {
   hits = sum_of one.hits other.hits;
@@ -24,7 +24,7 @@ commands_of_both one other = record {
   refused = sum_of one.refused other.refused;
 }
 
--- what both hold and were asked
+-- the contents and statistics of both shards
 abbrev pub shards_of_both : ShardTotals → ShardTotals → ShardTotals
 shards_of_both one other = record {
   items = sum_of one.items other.items;
@@ -41,11 +41,11 @@ shards_of_both one other = record {
   flush = commands_of_both one.flush other.flush;
 }
 
--- no command was asked
+-- no commands
 abbrev pub no_commands : CommandTotals
 no_commands = record { hits = 0; misses = 0; bad_values = 0; no_memory = 0; refused = 0 }
 
--- nothing is held, and nothing was asked
+-- no contents and no commands
 abbrev pub no_shards : ShardTotals
 no_shards = record {
   items = 0;
@@ -62,21 +62,21 @@ no_shards = record {
   flush = no_commands;
 }
 
--- what all kinds of commands came to together
+-- the outcomes of all kinds of commands together
 abbrev pub commands_of_all : ShardTotals → CommandTotals
 commands_of_all totals =
     fold commands_of_both totals.get
     (totals.set ∷ totals.cas ∷ totals.touch ∷ totals.delete ∷ totals.incr ∷ totals.decr ∷ totals.flush ∷ [])
 
--- the same totals, with the number of all commands for which no memory was left
+-- the totals, with the number of all commands for which memory was refused
 abbrev pub with_out_of_memory : ShardTotals → ShardTotals
 with_out_of_memory totals = record totals { out_of_memory = (commands_of_all totals).no_memory }
 
--- the totals tell that number
+-- the totals include that number
 abbrev pub IsSummed : ShardTotals → Type 0
 IsSummed totals = totals.out_of_memory ≡ (commands_of_all totals).no_memory
 
--- what a shard has counted of one kind of command
+-- the statistics of one kind of command in a shard
 abbrev pub commands_counted : Tally → CountedAs → CommandTotals
 commands_counted tally asked = record {
   hits = counted tally asked Hit;
@@ -86,7 +86,7 @@ commands_counted tally asked = record {
   refused = counted tally asked Refused;
 }
 
--- the totals of a shard that holds and has counted so much, but for the commands for which no memory was left
+-- the totals of a shard with these counts, except for the commands for which memory was refused
 abbrev pub totals_counted : (items bytes evicted : ℕ) → Tally → ShardTotals
 totals_counted items bytes evicted tally = record {
   items = items;
@@ -103,7 +103,7 @@ totals_counted items bytes evicted tally = record {
   flush = commands_counted tally Flush;
 }
 
--- what is shown of a shard in this state
+-- the published totals of a shard in this state
 abbrev pub shown_of : State → ShardTotals
 shown_of state =
     with_out_of_memory (totals_counted (len state.items) (costs state.items) state.evicted state.tally)

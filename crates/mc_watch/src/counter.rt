@@ -1,43 +1,44 @@
-//! A number that one thread counts up and any thread reads.
+//! Counters that one thread increments and any thread reads.
 ghost use Rattle.std.specs.Prelude.{⊤};
 
 use std::sync::atomic::{AtomicU64, Ordering};
 
-/// What counts: a number that threads share. Any thread may change it, so no clause knows what it holds. What counts connections
-/// and shards is written for any that counts: so its clauses say which one was handed which number, and which one told it.
+/// A counter that threads share. Since any thread may change it, no contract states its value. Code
+/// is generic over the counter instead, so that contracts can say which counter was given which
+/// number, and which one was read.
 pub trait Count: Drop {
     ghost use Rattle.std.specs.Prelude.{ℕ};
 
-    /// It was handed this number, to be added.
+    /// The number was passed to `add`.
     ghost was_added: { Self → ℕ → Type 0 };
 
-    /// It was set to this number.
+    /// The number was passed to `set`.
     ghost was_set: { Self → ℕ → Type 0 };
 
-    /// It told that it is at this number.
+    /// The number was returned by `get`.
     ghost has_told: { Self → ℕ → Type 0 };
 
-    /// Adds `count`. To be called by one thread alone: what another adds meanwhile is lost.
+    /// Adds `count`. Only one thread may call this: concurrent additions would be lost.
     fn add(&self, count: u64)
         ensures { was_added self.now count };
 
-    /// It is as large as this. To be called by one thread alone.
+    /// Sets the value. Only one thread may call this.
     fn set(&self, count: u64)
         ensures { was_set self.now count };
 
-    /// How many were counted.
+    /// Returns the value.
     fn get(&self) -> u64
         ensures { has_told self.now result };
 }
 
-/// A number that one thread alone counts up, in one word. Any thread reads it, without a lock. After 2^64 - 1 comes 0.
+/// A lock-free counter of 64 bits with one writer; any thread reads it. It wraps after 2^64 - 1.
 #[derive(Drop)]
 pub struct Counter {
     word: AtomicU64,
 }
 
 impl Counter {
-    /// Nothing was counted yet.
+    /// A counter at 0.
     pub fn new() -> Counter {
         Counter {
             word: AtomicU64::new(0),
@@ -45,8 +46,9 @@ impl Counter {
     }
 }
 
-/// What the word holds no clause knows, since any thread may change it: so these hold of any number. A clause that cites them says
-/// nothing of a `Counter`, and something wherever it is proved for anything that counts, as in this crate.
+/// No contract knows the word's value, since any thread may change it, so these relations hold for
+/// any number. A clause that cites them says nothing about `Counter` itself, but it does wherever
+/// it is proved for any `Count`, as in this crate.
 impl Count for Counter {
     ghost was_added = { λ _ _. ⊤ };
 

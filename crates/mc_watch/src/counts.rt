@@ -1,4 +1,4 @@
-//! What the threads of a server count.
+//! Counters of a server's threads.
 ghost use Rattle.std.specs.Prelude.{◌≡◌, ◌-◌, IfOk, length, option_map, slice_get};
 ghost use Rattle.mc_watch.specs.Counts.{AddsEnds, AddsThread, AreTotals, CountsManner, EachIsShown, SameCounts, shard_count, shared_value, shared_values, shards_of};
 
@@ -9,52 +9,52 @@ use crossbeam_utils::CachePadded;
 use std::alloc::{AllocError, Global};
 use std::sync::Arc;
 
-/// Connections that have ended for a reason that an operator may want to look into, by that reason.
+/// Ended connections, by those reasons that an operator may want to look into.
 #[derive(Drop)]
 pub struct EndCounts<C = Counter> {
-    /// They began as memcached's binary protocol does.
+    /// Spoke memcached's binary protocol.
     pub binary: C,
-    /// They began as HTTP does.
+    /// Spoke HTTP.
     pub http: C,
-    /// They began as TLS does.
+    /// Spoke TLS.
     pub tls: C,
-    /// They sent a line that is too long.
+    /// Sent a line longer than the line limit.
     pub line_too_long: C,
-    /// They moved no byte for too long.
+    /// Were idle longer than the idle timeout.
     pub idle: C,
-    /// A read or a write of them failed.
+    /// A read or write failed.
     pub failed: C,
-    /// Memory for their replies was refused.
+    /// Memory for replies was refused.
     pub refused_memory: C,
 }
 
-/// What a thread counts that serves connections.
+/// Counters of a thread that serves connections.
 #[derive(Drop)]
 pub struct SeatCounts<C = Counter> {
-    /// Connections that have ended, those that broke among them.
+    /// Ended connections, including broken ones.
     pub ended: C,
-    /// Connections that broke or were idle for too long.
+    /// Connections that failed or exceeded the idle timeout.
     pub broken: C,
-    /// Commands that were taken.
+    /// Commands parsed.
     pub commands: C,
-    /// Bytes that were read.
+    /// Bytes read.
     pub read: C,
-    /// Bytes that were written.
+    /// Bytes written.
     pub written: C,
-    /// Connections that have ended, by some of the reasons.
+    /// Ended connections by reason.
     pub ends: EndCounts<C>,
 }
 
-/// What the thread counts that accepts connections.
+/// Counters of the accepting thread.
 #[derive(Drop)]
 pub struct EntranceCounts<C = Counter> {
-    /// Connections that were accepted.
+    /// Connections accepted.
     pub accepted: C,
-    /// Accepts that failed.
+    /// Failed accepts.
     pub failed: C,
 }
 
-/// How many connections have ended, by the reasons of `EndCounts`.
+/// Totals of `EndCounts` over all threads.
 #[derive(Clone, Copy, Debug, Default, PartialEq, Eq)]
 pub struct EndTotals {
     pub binary: u64,
@@ -66,30 +66,31 @@ pub struct EndTotals {
     pub refused_memory: u64,
 }
 
-/// What all threads of a server have counted together. It was read counter by counter, while they went on.
+/// Totals of all threads of a server. They are read counter by counter while the threads run, so
+/// they are no consistent snapshot.
 #[derive(Clone, Copy, Debug, Default, PartialEq, Eq)]
 pub struct Totals {
-    /// Connections that were accepted.
+    /// Connections accepted.
     pub accepted: u64,
-    /// Accepts that failed.
+    /// Failed accepts.
     pub failed: u64,
-    /// Connections that have ended, those that broke among them.
+    /// Ended connections, including broken ones.
     pub ended: u64,
-    /// Connections that broke or were idle for too long.
+    /// Connections that failed or exceeded the idle timeout.
     pub broken: u64,
-    /// Commands that were taken.
+    /// Commands parsed.
     pub commands: u64,
-    /// Bytes that were read.
+    /// Bytes read.
     pub read: u64,
-    /// Bytes that were written.
+    /// Bytes written.
     pub written: u64,
-    /// Connections that have ended, by some of the reasons.
+    /// Ended connections by reason.
     pub ends: EndTotals,
-    /// What the shards hold and were asked.
+    /// Contents and commands of the shards.
     pub shards: ShardTotals,
 }
 
-/// What the threads of a server count: each its own, apart from the others in memory.
+/// The counters of a server's threads, each on cache lines of its own.
 pub struct Counts<C = Counter> {
     entrance: Arc<CachePadded<EntranceCounts<C>>, Global>,
     threads: Vec<Arc<CachePadded<SeatCounts<C>>, Global>>,
@@ -97,7 +98,7 @@ pub struct Counts<C = Counter> {
 }
 
 impl<C: Drop> Drop for Counts<C> {
-    /// By hand, so that to let one go is one call for whoever holds it (docs/DECISIONS.md).
+    /// Written by hand, so that its owners drop it by a single call (docs/DECISIONS.md, F20).
     fn drop(self) {
         let Counts {
             entrance: _entrance,
@@ -122,7 +123,8 @@ impl EndCounts<Counter> {
 }
 
 impl<C: Count> EndCounts<C> {
-    /// One more has ended so. Where its client or the server ended it as it should, nothing counts.
+    /// Counts a connection that ended for this reason. An ordinary end by the client or the server
+    /// isn't counted.
     pub fn count(&self, manner: Manner)
         ensures { CountsManner C.was_added self.now manner }
     {
@@ -140,7 +142,7 @@ impl<C: Count> EndCounts<C> {
 }
 
 impl EndTotals {
-    /// Adds what a thread has counted.
+    /// Adds the counters of one thread.
     fn add<C: Count>(&mut self, counts: &EndCounts<C>)
         ensures { AddsEnds C.has_told self.old counts.now self.new }
     {
@@ -172,14 +174,14 @@ impl SeatCounts<Counter> {
 }
 
 impl Totals {
-    /// How many connections are open.
+    /// Number of open connections.
     pub fn open(&self) -> u64
         ensures { result ≡ self.now.accepted - self.now.ended }
     {
         self.accepted.saturating_sub(self.ended)
     }
 
-    /// Adds what a thread has counted that serves connections.
+    /// Adds the counters of one serving thread.
     fn add<C: Count>(&mut self, counts: &SeatCounts<C>)
         ensures { AddsThread C.has_told self.old counts.now self.new }
     {
@@ -193,7 +195,7 @@ impl Totals {
 }
 
 impl Counts<Counter> {
-    /// Nothing was counted yet, by `threads` threads that serve, each with a shard, and the one that accepts.
+    /// Counters at 0, for `threads` serving threads with a shard each, and the accepting thread.
     pub fn new(alloc: Global, threads: usize) -> Result<Counts, AllocError>
         ensures threads { IfOk result (λ counts. length counts.threads.items ≡ threads) }
         ensures shards { IfOk result (λ counts. shard_count counts ≡ threads) }
@@ -216,7 +218,7 @@ impl Counts<Counter> {
 }
 
 impl<C: Count> Counts<C> {
-    /// The same counts, for one more.
+    /// Clones the handle; both share the counters. Fails if memory is refused.
     pub fn share(&self, alloc: Global) -> Result<Counts<C>, AllocError>
         ensures { IfOk result (λ shared. SameCounts shared self.now) }
     {
@@ -227,14 +229,14 @@ impl<C: Count> Counts<C> {
         })
     }
 
-    /// What the thread counts that accepts connections.
+    /// The counters of the accepting thread.
     pub fn entrance(&self) -> Result<Arc<CachePadded<EntranceCounts<C>>, Global>, AllocError>
         ensures { IfOk result (λ counts. shared_value counts ≡ shared_value self.now.entrance) }
     {
         Arc::try_clone(&self.entrance)
     }
 
-    /// What the thread of this number counts; nothing where there is none.
+    /// The counters of serving thread number `thread`, if there is one.
     pub fn thread(
         &self,
         number: usize,
@@ -248,7 +250,7 @@ impl<C: Count> Counts<C> {
         }
     }
 
-    /// What each shard shows, by its number.
+    /// The counters of each shard, by its number.
     pub fn shards(
         &self,
         alloc: Global,
@@ -258,7 +260,7 @@ impl<C: Count> Counts<C> {
         share_each(alloc, &self.shards)
     }
 
-    /// What each shard shows, by its number.
+    /// The totals of each shard, by its number.
     pub fn shard_totals(&self, alloc: Global) -> Result<Vec<ShardTotals>, AllocError>
         ensures { IfOk result
             (λ totals. EachIsShown C.has_told (shards_of self.now) totals.items) }
@@ -266,8 +268,8 @@ impl<C: Count> Counts<C> {
         totals_of_each(alloc, &self.shards)
     }
 
-    /// What all threads have counted so far. The connections that ended are read first, so that no more have ended than were
-    /// accepted.
+    /// The totals of all threads. Ended connections are read first, so that they never exceed the
+    /// accepted ones.
     pub fn totals(&self) -> Totals
         ensures { AreTotals C.has_told self.now result }
     {
@@ -282,7 +284,7 @@ impl<C: Count> Counts<C> {
     }
 }
 
-/// What these counts share, each for one more.
+/// Clones the handle of each element.
 fn share_each<T: Drop>(
     alloc: Global,
     all: &[Arc<CachePadded<T>, Global>],
@@ -296,7 +298,7 @@ fn share_each<T: Drop>(
     Ok(shared)
 }
 
-/// What each of the shards shows.
+/// The totals of each of these shards.
 fn totals_of_each<C: Count>(
     alloc: Global,
     shards: &[Arc<CachePadded<ShardCounts<C>>, Global>],
@@ -311,7 +313,7 @@ fn totals_of_each<C: Count>(
     Ok(totals)
 }
 
-/// What `count` shards show, each of which was asked nothing yet.
+/// Counters at 0 for `count` shards.
 fn new_shards(
     alloc: Global,
     count: usize,

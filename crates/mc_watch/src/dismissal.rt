@@ -1,11 +1,11 @@
-//! How a thread that works beside the server is told to end.
+//! Stop requests for the threads that work beside the server.
 use std::alloc::{AllocError, Global};
 use std::sync::atomic::{AtomicBool, Ordering};
 use std::sync::{Arc, Wait};
 use std::thread::Parker;
 use std::time::Duration;
 
-/// Tells one thread that it is to end.
+/// A stop request for one thread.
 #[derive(Drop)]
 pub struct Dismissal {
     is_said: AtomicBool,
@@ -13,7 +13,7 @@ pub struct Dismissal {
 }
 
 impl Dismissal {
-    /// It was not said yet. It is shared by the thread and who ends it.
+    /// A handle without a request yet, shared by the thread and by whoever stops it.
     pub fn new(alloc: Global) -> Result<Arc<Dismissal, Global>, AllocError> {
         let dismissal = Dismissal {
             is_said: AtomicBool::new(false),
@@ -22,18 +22,19 @@ impl Dismissal {
         Ok(Arc::new(alloc, dismissal)?)
     }
 
-    /// Tells the thread that it is to end, and wakes it where it waits.
+    /// Requests the stop, and wakes the thread if it waits.
     pub fn dismiss(&self) {
         self.is_said.store(true, Ordering::SeqCst);
         self.parker.unpark();
     }
 
-    /// Whether the thread is to end.
+    /// Whether the stop was requested.
     pub fn is_said(&self) -> bool {
         self.is_said.load(Ordering::SeqCst)
     }
 
-    /// The thread waits for this time or less, and not much longer than until it is told to end. Whether it is.
+    /// Waits for `time` at most, or until shortly after a stop is requested. Returns whether it
+    /// was.
     pub fn wait<R: Wait>(&self, rt: &R, time: Duration) -> bool {
         if !self.is_said() {
             self.parker.park_timeout(rt, time);

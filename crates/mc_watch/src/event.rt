@@ -1,65 +1,65 @@
-//! What happens to connections, as it is reported to operators.
+//! Connection events for the log.
 use std::net::SocketAddr;
 use std::{fmt, io};
 
 /// Why a connection ended.
 #[derive(Clone, Copy)]
 pub enum Manner {
-    /// Its client closed its side.
+    /// The client closed its side.
     ByClient,
-    /// Its client sent `quit`.
+    /// The client sent `quit`.
     Quit,
-    /// Its client sent a line that is too long.
+    /// The client sent a line longer than the line limit.
     LineTooLong,
-    /// It began as memcached's binary protocol does.
+    /// It spoke memcached's binary protocol.
     Binary,
-    /// It began as an HTTP request does.
+    /// It spoke HTTP.
     Http,
-    /// It began as TLS does.
+    /// It spoke TLS.
     Tls,
-    /// It moved no byte for too long.
+    /// It was idle longer than the idle timeout.
     Idle,
     /// A read failed.
     ReadFailed,
     /// A write failed.
     WriteFailed,
-    /// Memory for its replies was refused.
+    /// Memory for replies was refused.
     NoMemory,
-    /// The server ends.
+    /// The server shut down.
     Shutdown,
 }
 
-/// What happened.
+/// A connection event.
 #[derive(Clone, Copy)]
 pub enum ConnectionEvent {
-    /// A connection is served from now on.
+    /// A connection was assigned to a slot.
     Opened {
         peer: SocketAddr,
         seat: usize,
     },
-    /// A connection is served no more.
+    /// A connection ended.
     Closed {
         peer: SocketAddr,
         seat: usize,
         manner: Manner,
-        /// How many commands it took.
+        /// Number of commands parsed.
         commands: u64,
-        /// How many bytes were read of it.
+        /// Number of bytes read.
         read: u64,
-        /// How many bytes were written to it.
+        /// Number of bytes written.
         written: u64,
     },
-    /// No connection could be accepted, for the reason of this number, if the system told one.
+    /// An accept failed, with this errno if the system gave one.
     NotAccepted {
         fault: Option<i32>,
     },
-    /// No seat is free: further connections wait to be accepted.
+    /// All slots are in use: further connections wait in the backlog.
     SeatsTaken,
-    /// A seat is free again.
+    /// A slot is free again.
     SeatFree,
 }
 
-/// A number of things, by the word for one of them.
+/// A count with its noun, for printing: `1 command`, `2 commands`.
 #[derive(Clone, Copy)]
 struct Counted {
     count: u64,

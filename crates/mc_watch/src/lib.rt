@@ -1,5 +1,6 @@
-//! What is watched of connections for who runs the server: whether one moves bytes, how much went over all of them, and a line
-//! for each that comes and goes. The threads that serve tell it without a lock and wait for nobody.
+//! Telemetry of connections for the operator: byte and command counters, the idle timer, and a log
+//! line for each connection that opens or ends. The serving threads report without a lock and never
+//! wait.
 #![tactic(auto)]
 
 mod counter;

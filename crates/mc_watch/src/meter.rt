@@ -1,4 +1,4 @@
-//! What a connection measures of itself.
+//! Measurements of one connection.
 ghost use Rattle.std.specs.Prelude.{◌≡◌, ◌+◌, ◌-◌, ◌^◌, None, IfSome, min};
 ghost use Rattle.mc_watch.specs.Counts.{shared_value};
 ghost use Rattle.mc_watch.specs.Pulse.{MayBeIdle, MayBeat};
@@ -14,25 +14,26 @@ use crossbeam_utils::CachePadded;
 use std::alloc::Global;
 use std::sync::Arc;
 
-/// Counts the bytes and the commands of one connection, knows whether it is to end, and keeps why it did.
+/// Counts the bytes and commands of one connection, decides whether it must end, and records why it
+/// ended.
 #[derive(Drop)]
 pub struct Meter<C = Counter> {
     read: u64,
     written: u64,
-    /// Commands that were counted.
+    /// Commands already added to the thread's counters.
     commands: u64,
-    /// Why it ended, once it has: by `quit` where nothing else was noted.
+    /// Why it ended: `Quit` unless something else was noted.
     manner: Manner,
-    /// What its thread counts, if it counts.
+    /// The counters of its thread, if telemetry is on.
     counts: Option<Arc<CachePadded<SeatCounts<C>>, Global>>,
-    /// If there is an idle timeout.
+    /// The idle timer, if there is an idle timeout.
     pulse: Option<Pulse<C>>,
-    /// How far the server is with its end, where it may be asked to end.
+    /// The stage of the server's shutdown, if it can be asked to shut down.
     shutdown: Option<Shutdown<C>>,
 }
 
 impl<C: Count> Meter<C> {
-    /// Of a connection that nobody watches.
+    /// A meter without counters, idle timeout and shutdown.
     pub fn unwatched() -> Meter<C>
         ensures { result ≡
             record {
@@ -48,7 +49,7 @@ impl<C: Count> Meter<C> {
         Meter::begin(None, None, None)
     }
 
-    /// Of a connection that begins. Its thread counts there, if it counts.
+    /// A meter of a new connection, with the counters of its thread, if telemetry is on.
     pub fn begin(
         counts: Option<Arc<CachePadded<SeatCounts<C>>, Global>>,
         pulse: Option<Pulse<C>>,
@@ -76,7 +77,7 @@ impl<C: Count> Meter<C> {
         }
     }
 
-    /// Notes that `count` bytes were read of it; none where its input has ended.
+    /// Records that `count` bytes were read; 0 at the end of input. Resets the idle timer.
     pub fn note_read(&mut self, count: usize)
         ensures noted { self.new ≡
             record self.old {
@@ -95,7 +96,7 @@ impl<C: Count> Meter<C> {
         self.beat();
     }
 
-    /// Notes that `count` bytes were written to it.
+    /// Records that `count` bytes were written. Resets the idle timer.
     pub fn note_written(&mut self, count: usize)
         ensures noted { self.new ≡
             record self.old {
@@ -114,7 +115,7 @@ impl<C: Count> Meter<C> {
         self.beat();
     }
 
-    /// Notes how many commands it has taken so far: those that were not counted yet are counted.
+    /// Records the total number of commands parsed so far, and counts the new ones.
     pub fn note_commands(&mut self, commands: u64)
         ensures noted { self.new ≡ record self.old { commands = commands } }
         ensures counted { IfSome self.old.counts
@@ -126,7 +127,7 @@ impl<C: Count> Meter<C> {
         self.commands = commands;
     }
 
-    /// Notes why it ends.
+    /// Records why the connection ends.
     pub fn note_end(&mut self, manner: Manner)
         ensures { self.new ≡ record self.old { manner = manner } }
     {
@@ -142,9 +143,9 @@ impl<C: Count> Meter<C> {
         }
     }
 
-    /// Whether it moved no byte for longer than it may.
+    /// Whether the connection was idle for longer than the idle timeout.
     pub fn is_idle(&self) -> bool
-        // One of which nobody asks that never is.
+        // Never idle without a timeout.
         ensures { MayBeIdle C.has_told self.now.pulse result }
     {
         match &self.pulse {
@@ -153,7 +154,8 @@ impl<C: Count> Meter<C> {
         }
     }
 
-    /// Whether it is to end once nothing comes, since the server ends.
+    /// Whether the connection must end as soon as no input is pending, because the server shuts
+    /// down.
     pub fn is_draining(&self) -> bool
         ensures { MayBePast C.has_told 1 self.now.shutdown result }
     {
@@ -163,7 +165,7 @@ impl<C: Count> Meter<C> {
         shutdown.is_draining()
     }
 
-    /// Whether it is to end at once, since the server ends.
+    /// Whether the connection must end at once, because the time for a clean shutdown is over.
     pub fn is_cut(&self) -> bool
         ensures { MayBePast C.has_told 2 self.now.shutdown result }
     {
@@ -173,28 +175,28 @@ impl<C: Count> Meter<C> {
         shutdown.is_cut()
     }
 
-    /// Why it ended.
+    /// Why the connection ended.
     pub fn manner(&self) -> Manner
         ensures { result ≡ self.now.manner }
     {
         self.manner
     }
 
-    /// How many commands of it were counted.
+    /// Number of commands counted.
     pub fn commands(&self) -> u64
         ensures { result ≡ self.now.commands }
     {
         self.commands
     }
 
-    /// How many bytes were read of it.
+    /// Number of bytes read.
     pub fn read(&self) -> u64
         ensures { result ≡ self.now.read }
     {
         self.read
     }
 
-    /// How many bytes were written to it.
+    /// Number of bytes written.
     pub fn written(&self) -> u64
         ensures { result ≡ self.now.written }
     {

@@ -1,4 +1,4 @@
-//! Whether a connection moves bytes, by a clock of whole seconds that costs no call of the system.
+//! The idle timer of connections, on a coarse clock that needs no system call.
 ghost use Rattle.std.specs.Prelude.{◌≡◌, ◌-◌, ◌<◌, ◌↔◌, IfOk, IsTrue};
 ghost use Rattle.mc_watch.specs.Pulse.{Beats, IsIdle, clock_of};
 
@@ -6,23 +6,23 @@ use crate::counter::{Count, Counter};
 use std::alloc::{AllocError, Global};
 use std::sync::Arc;
 
-/// The seconds since the server began, as one thread tells them to all others.
+/// Seconds since the server started. One thread updates them; all others read them.
 #[derive(Drop)]
 pub struct Seconds<C = Counter> {
     passed: Arc<C, Global>,
 }
 
-/// When a connection last moved a byte, and how long it may move none.
+/// The idle timer of a connection: when it last moved a byte, and the timeout.
 #[derive(Drop)]
 pub struct Pulse<C = Counter> {
     seconds: Seconds<C>,
     last: u64,
-    /// In seconds.
+    /// The timeout in seconds.
     limit: u64,
 }
 
 impl Seconds<Counter> {
-    /// None has passed.
+    /// A clock at 0 seconds.
     pub fn new(alloc: Global) -> Result<Seconds, AllocError> {
         Ok(Seconds {
             passed: Arc::new(alloc, Counter::new())?,
@@ -31,7 +31,7 @@ impl Seconds<Counter> {
 }
 
 impl<C: Count> Seconds<C> {
-    /// The same seconds, for one more.
+    /// Clones the handle; both share the clock. Fails if memory is refused.
     pub fn share(&self) -> Result<Seconds<C>, AllocError>
         ensures { IfOk result (λ shared. clock_of shared ≡ clock_of self.now) }
     {
@@ -40,14 +40,14 @@ impl<C: Count> Seconds<C> {
         })
     }
 
-    /// Tells that `passed` seconds have passed.
+    /// Sets the clock to `passed` seconds.
     pub fn tell(&self, passed: u64)
         ensures { C.was_set (clock_of self.now) passed }
     {
         self.passed.set(passed);
     }
 
-    /// How many have passed.
+    /// Returns the seconds passed.
     pub fn passed(&self) -> u64
         ensures { C.has_told (clock_of self.now) result }
     {
@@ -56,7 +56,7 @@ impl<C: Count> Seconds<C> {
 }
 
 impl<C: Count> Pulse<C> {
-    /// Of a connection that begins now, and that may be idle for `limit` seconds.
+    /// The timer of a connection that starts now, with a timeout of `limit` seconds.
     pub fn begin(seconds: Seconds<C>, limit: u64) -> Pulse<C>
         ensures limit { result.limit ≡ limit }
         ensures clock { clock_of result.seconds ≡ clock_of seconds }
@@ -70,14 +70,14 @@ impl<C: Count> Pulse<C> {
         }
     }
 
-    /// It moves bytes now.
+    /// Resets the timer.
     pub fn beat(&mut self)
         ensures { Beats C.has_told self.old self.new }
     {
         self.last = self.seconds.passed();
     }
 
-    /// Whether it moved none for more seconds than it may.
+    /// Whether the connection was idle for more seconds than the timeout.
     pub fn is_idle(&self) -> bool
         ensures { IsIdle C.has_told self.now result }
     {
@@ -85,7 +85,7 @@ impl<C: Count> Pulse<C> {
     }
 }
 
-/// Whether more seconds than the limit lie between two moments.
+/// Whether more than `limit` seconds passed from `last` to `now`.
 fn is_past(now: u64, last: u64, limit: u64) -> bool
     ensures { IsTrue result ↔ (limit < now - last) }
 {

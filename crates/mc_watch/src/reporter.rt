@@ -1,4 +1,4 @@
-//! The way of what happens from the threads that serve to one that writes it down.
+//! Queues of connection events from the serving threads to the logging thread.
 ghost use Rattle.std.specs.Prelude.{◌≡◌, None, IfOk, length};
 ghost use Rattle.mc_watch.specs.Reports.{AreHeard, Tells};
 
@@ -10,41 +10,41 @@ use std::io::Eprint;
 use std::sync::Wait;
 use std::time::Duration;
 
-/// The most events of one reporter that wait.
+/// Capacity of one reporter's queue, in events. Further events are dropped.
 const ROOM: usize = 512;
 
-/// Milliseconds from one look for what happened to the next.
+/// Polling interval of the logging thread, in milliseconds.
 const LOOK_MILLIS: u64 = 20;
 
-/// What is told at a time.
+/// An entry of a queue.
 #[derive(Clone, Copy)]
 struct Record {
     event: ConnectionEvent,
-    /// Events before it that found no room.
+    /// Number of events dropped before this one because the queue was full.
     dropped: u64,
 }
 
-/// Where one thread tells what happens. It never waits: what finds no room is dropped, and counted. Where nobody listens it
-/// tells nothing.
+/// The sending end of one thread. It never blocks: if its queue is full, the event is dropped and
+/// counted. Without a logging thread, it does nothing.
 #[derive(Drop)]
 pub struct Reporter {
     queue: Option<Producer<Record>>,
     dropped: u64,
 }
 
-/// What was told by all reporters.
+/// The receiving ends of all reporters.
 pub struct Reports {
     queues: Vec<Consumer<Record>>,
 }
 
 impl Drop for Reports {
-    /// By hand, so that to let one go is one call for whoever holds it (docs/DECISIONS.md).
+    /// Written by hand, so that its owners drop it by a single call (docs/DECISIONS.md, F20).
     fn drop(self) {
         let Reports { queues: _queues } = self;
     }
 }
 
-/// A number of reporters, and what reads all that they tell.
+/// Makes `count` reporters, and the receiver of all their events.
 pub fn reporters(alloc: Global, count: usize) -> Result<(Vec<Reporter>, Reports), AllocError>
     ensures reporters { IfOk result (λ both. length both.0.items ≡ count) }
     ensures reports { IfOk result (λ both. AreHeard both.0.items both.1.queues.items) }
@@ -63,7 +63,7 @@ pub fn reporters(alloc: Global, count: usize) -> Result<(Vec<Reporter>, Reports)
 }
 
 impl Reporter {
-    /// One to which nobody listens.
+    /// A reporter without a receiver; it discards events.
     pub fn unheard() -> Reporter
         ensures unheard { result.queue ≡ None }
         ensures dropped { result.dropped ≡ 0 }
@@ -74,7 +74,7 @@ impl Reporter {
         }
     }
 
-    /// Tells what happened.
+    /// Queues an event, or drops and counts it if the queue is full.
     pub fn tell(&mut self, event: ConnectionEvent)
         ensures { Tells self.old event self.new }
     {
@@ -93,12 +93,12 @@ impl Reporter {
 }
 
 impl Reports {
-    /// Writes each event to standard error, a line each with this text before it, until it is told to end and all was written.
-    /// Those of one reporter come in their order.
+    /// Writes each event to standard error as a line with this prefix, until a stop is requested
+    /// and the queues are empty. Events of one reporter are written in order.
     pub fn write_all<R: Eprint + Wait>(self, rt: &R, prefix: &str, dismissal: &Dismissal) {
         let mut reports = self;
         for _ in rt.forever() {
-            // Looked at first: what was told before is written then.
+            // Read before the queues: everything reported before the stop request is still written.
             let is_last = dismissal.is_said();
             let wrote = reports.write_some(rt, prefix);
             if is_last && !wrote {
@@ -111,7 +111,7 @@ impl Reports {
         unreachable!()
     }
 
-    /// Writes what was told, and tells whether there was anything.
+    /// Writes the queued events of all reporters. Returns whether there were any.
     fn write_some<R: Eprint>(&mut self, rt: &R, prefix: &str) -> bool {
         let mut wrote = false;
         for queue in &mut self.queues {
@@ -121,7 +121,7 @@ impl Reports {
     }
 }
 
-/// Writes what one reporter told, as much as may wait, and tells whether there was anything.
+/// Writes the queued events of one reporter, at most a full queue. Returns whether there were any.
 fn write_each<R: Eprint>(rt: &R, prefix: &str, queue: &mut Consumer<Record>) -> bool {
     let mut wrote = false;
     for _ in 0..ROOM {
@@ -134,7 +134,7 @@ fn write_each<R: Eprint>(rt: &R, prefix: &str, queue: &mut Consumer<Record>) -> 
     wrote
 }
 
-/// Writes one event. Where standard error takes nothing, nobody reads it.
+/// Writes one event. Errors of standard error are ignored.
 fn write<R: Eprint>(rt: &R, prefix: &str, report: Record) {
     let event = report.event;
     if report.dropped > 0 {

@@ -1,4 +1,4 @@
-//! What a shard holds and what it was asked, where any thread can read it.
+//! Contents and command statistics of a shard, readable by any thread.
 ghost use Rattle.std.specs.Prelude.{◌≡◌};
 ghost use Rattle.std.specs.List.{FoldsTo};
 ghost use Rattle.mc_store.specs.Shard.{IsShard};
@@ -14,30 +14,30 @@ use mc_store::Shard;
 use std::alloc::Global;
 use std::sync::Arc;
 
-/// How often a command of one kind came to what.
+/// Number of commands of one kind, by outcome.
 #[derive(Clone, Copy, Debug, Default, PartialEq, Eq)]
 pub struct CommandTotals {
-    /// The item was there, or was stored.
+    /// The item was found or stored.
     pub hits: u64,
-    /// No item was there, or it was not stored for that.
+    /// The item was not found, or was not stored because of that.
     pub misses: u64,
-    /// The item had another unique.
+    /// The cas unique differed.
     pub bad_values: u64,
-    /// No memory was left.
+    /// Memory was refused.
     pub no_memory: u64,
-    /// The value was too large, or no number.
+    /// The value was too large or not a number.
     pub refused: u64,
 }
 
-/// What shards hold together, and what they were asked, by memcached's names of commands.
+/// Contents and command statistics of all shards, by memcached's command names.
 #[derive(Clone, Copy, Debug, Default, PartialEq, Eq)]
 pub struct ShardTotals {
     pub items: u64,
-    /// What the items cost, in bytes.
+    /// Total cost of the items, in bytes.
     pub bytes: u64,
-    /// Items that went to make room for others.
+    /// Items evicted.
     pub evicted: u64,
-    /// Commands for which no memory was left, of all kinds.
+    /// Commands for which memory was refused, of all kinds.
     pub out_of_memory: u64,
     pub get: CommandTotals,
     pub set: CommandTotals,
@@ -49,7 +49,7 @@ pub struct ShardTotals {
     pub flush: CommandTotals,
 }
 
-/// What counts the commands of one kind, each by what it came to.
+/// Counters of one kind of command, by outcome.
 #[derive(Drop)]
 struct CommandCounters<C> {
     hits: C,
@@ -59,7 +59,7 @@ struct CommandCounters<C> {
     refused: C,
 }
 
-/// What counts for a shard.
+/// Counters of one shard.
 #[derive(Drop)]
 struct ShardCounters<C> {
     items: C,
@@ -75,14 +75,14 @@ struct ShardCounters<C> {
     flush: CommandCounters<C>,
 }
 
-/// What the thread of a shard shows of it. One thread writes it, any reads it, number by number.
+/// The published state of a shard: its thread writes it, any thread reads it, one number at a time.
 #[derive(Drop)]
 pub struct ShardCounts<C = Counter> {
     counters: ShardCounters<C>,
 }
 
 impl CommandTotals {
-    /// What a shard has counted of one kind of command.
+    /// Statistics of one kind of command in a shard's tally.
     fn of(tally: &Tally, asked: CountedAs) -> CommandTotals
         ensures { result ≡ commands_counted tally.now asked }
     {
@@ -110,7 +110,7 @@ impl CommandTotals {
 }
 
 impl ShardTotals {
-    /// What a shard holds and has counted.
+    /// Contents and statistics of a shard.
     fn of(shard: &Shard) -> ShardTotals
         ensures { (state : State) → IsShard shard.now state → result ≡ shown_of state }
     {
@@ -119,7 +119,7 @@ impl ShardTotals {
         ShardTotals::counted(items, bytes, shard.evicted(), &shard.tally()).with_out_of_memory()
     }
 
-    /// The totals of a shard that holds and has counted so much, but for the commands for which no memory was left.
+    /// Totals of a shard with these counts. `out_of_memory` is left at 0.
     fn counted(items: u64, bytes: u64, evicted: u64, tally: &Tally) -> ShardTotals
         ensures { result ≡ totals_counted items bytes evicted tally.now }
     {
@@ -159,7 +159,7 @@ impl ShardTotals {
         }
     }
 
-    /// The sum of these and of what each of the shards shows.
+    /// Adds the totals of each of these shards.
     pub(crate) fn and_each<C: Count>(
         self,
         shards: &[Arc<CachePadded<ShardCounts<C>>, Global>],
@@ -173,7 +173,7 @@ impl ShardTotals {
         totals
     }
 
-    /// All commands of all kinds together.
+    /// The sum over all kinds of commands.
     pub fn all(&self) -> CommandTotals
         ensures { result ≡ commands_of_all self.now }
     {
@@ -182,7 +182,7 @@ impl ShardTotals {
         changed.and(self.flush)
     }
 
-    /// The same, and for how many of the commands no memory was left.
+    /// Sets `out_of_memory` to the sum over all kinds of commands.
     fn with_out_of_memory(self) -> ShardTotals
         ensures { result ≡ with_out_of_memory self }
     {
@@ -206,7 +206,7 @@ impl CommandCounters<Counter> {
 }
 
 impl<C: Count> CommandCounters<C> {
-    /// What each of them tells, under its name.
+    /// Reads each counter into the field of its name.
     fn read(&self) -> CommandTotals
         ensures { EachOfCommand C.has_told self.now result }
     {
@@ -219,7 +219,7 @@ impl<C: Count> CommandCounters<C> {
         }
     }
 
-    /// Each of them is set to the count of its name.
+    /// Sets each counter to the field of its name.
     fn write(&self, totals: &CommandTotals)
         ensures { EachOfCommand C.was_set self.now totals.now }
     {
@@ -232,7 +232,7 @@ impl<C: Count> CommandCounters<C> {
 }
 
 impl<C: Count> ShardCounters<C> {
-    /// What each of them tells, under its name.
+    /// Reads each counter into the field of its name.
     fn read(&self) -> ShardTotals
         ensures { EachOfShard C.has_told self.now result }
     {
@@ -252,7 +252,7 @@ impl<C: Count> ShardCounters<C> {
         }
     }
 
-    /// Each of them is set to the count of its name.
+    /// Sets each counter to the field of its name.
     fn write(&self, totals: &ShardTotals)
         ensures { EachOfShard C.was_set self.now totals.now }
     {
@@ -271,7 +271,7 @@ impl<C: Count> ShardCounters<C> {
 }
 
 impl ShardCounts<Counter> {
-    /// Of a shard that was asked nothing yet.
+    /// Counters of a new, empty shard.
     pub fn new() -> ShardCounts {
         ShardCounts {
             counters: ShardCounters {
@@ -292,7 +292,7 @@ impl ShardCounts<Counter> {
 }
 
 impl<C: Count> ShardCounts<C> {
-    /// Shows what the shard holds and has counted. To be called by the thread of the shard alone.
+    /// Publishes the shard's contents and statistics. Only the shard's thread may call this.
     pub fn show(&self, shard: &Shard)
         ensures { (state : State) → IsShard shard.now state →
             EachShown C.was_set self.now (shown_of state) }
@@ -300,7 +300,7 @@ impl<C: Count> ShardCounts<C> {
         self.counters.write(&ShardTotals::of(shard));
     }
 
-    /// What was shown last.
+    /// The totals published last.
     pub fn totals(&self) -> ShardTotals
         ensures told { EachShown C.has_told self.now result }
         ensures summed { IsSummed result }

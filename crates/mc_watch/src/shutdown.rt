@@ -1,4 +1,4 @@
-//! How a server that is to end says so to all its connections.
+//! The shutdown stages of a server, shared with its connections.
 ghost use Rattle.std.specs.Prelude.{◌≡◌, IfOk};
 ghost use Rattle.mc_watch.specs.Shutdown.{IsPast, stage_of};
 
@@ -7,19 +7,19 @@ use crate::signals::Signals;
 use std::alloc::{AllocError, Global};
 use std::sync::Arc;
 
-/// Stages of a server: connections of which nothing comes end.
+/// First stage: connections without pending input end.
 const DRAINING: u64 = 1;
 
-/// All connections end.
+/// Second stage: all connections end at once.
 const CUT: u64 = 2;
 
-/// How far a server is with its end, as one thread says it to all others: it serves, it drains, or it cuts its connections off.
+/// The shutdown stage, set by one thread and read by all others: serving, draining or cut off.
 #[derive(Drop)]
 pub struct Shutdown<C = Counter> {
     stage: Arc<C, Global>,
 }
 
-/// When a server is to end, and how long its connections may take for that.
+/// The shutdown stage, and the time that connections have for a clean end.
 #[derive(Drop)]
 pub struct Drain<C = Counter> {
     pub shutdown: Shutdown<C>,
@@ -29,7 +29,7 @@ pub struct Drain<C = Counter> {
 }
 
 impl Shutdown<Counter> {
-    /// Of a server that serves.
+    /// The stage of a server that serves.
     pub fn new(alloc: Global) -> Result<Shutdown, AllocError> {
         Ok(Shutdown {
             stage: Arc::new(alloc, Counter::new())?,
@@ -38,7 +38,7 @@ impl Shutdown<Counter> {
 }
 
 impl<C: Count> Shutdown<C> {
-    /// The same, for one more.
+    /// Clones the handle; both share the stage. Fails if memory is refused.
     pub fn share(&self) -> Result<Shutdown<C>, AllocError>
         ensures { IfOk result (λ shared. stage_of shared ≡ stage_of self.now) }
     {
@@ -47,28 +47,28 @@ impl<C: Count> Shutdown<C> {
         })
     }
 
-    /// The server drains: each connection ends once nothing comes and its replies are written.
+    /// Starts draining: each connection ends once no input is pending and its replies are written.
     pub fn drain(&self)
         ensures { C.was_set (stage_of self.now) DRAINING }
     {
         self.stage.set(DRAINING);
     }
 
-    /// All connections end at once.
+    /// Ends all connections at once.
     pub fn cut(&self)
         ensures { C.was_set (stage_of self.now) CUT }
     {
         self.stage.set(CUT);
     }
 
-    /// Whether the server is to end.
+    /// Whether the shutdown has started.
     pub fn is_draining(&self) -> bool
         ensures { IsPast C.has_told DRAINING self.now result }
     {
         self.stage.get() >= DRAINING
     }
 
-    /// Whether all connections end at once.
+    /// Whether all connections must end at once.
     pub fn is_cut(&self) -> bool
         ensures { IsPast C.has_told CUT self.now result }
     {

@@ -1,26 +1,27 @@
-//! Signals that wait: whoever starts the program may have blocked them, and then they end nothing by themselves.
+//! Pending signals. A parent may start the program with signals blocked; they then stay pending and
+//! end nothing by themselves.
 use std::alloc::Global;
 use std::fs::File;
 use std::io;
 use std::io::{Read, Seek, SeekFrom};
 use std::rt::Files;
 
-/// SIGINT and SIGTERM, which ask a program to end, as bits of a set of signals (proc(5), /proc/pid/status).
+/// SIGINT and SIGTERM, as bits of a signal set (proc(5), /proc/pid/status).
 const ENDING: u64 = (1 << 1) | (1 << 14);
 
-/// The lines of the sets of signals: those that are blocked, and those that wait for the process.
+/// Names of the lines of blocked signals and of signals pending for the process.
 const BLOCKED: &str = "SigBlk:";
 
 const PENDING: &str = "ShdPnd:";
 
-/// What the system says of the process's signals. The file stays open, and is read from its start whenever it is asked.
+/// The status file of the process. It stays open, and is read from its start each time.
 pub struct Signals {
     alloc: Global,
     status: File,
 }
 
 impl Drop for Signals {
-    /// By hand, so that to let one go is one call for whoever holds it (docs/DECISIONS.md).
+    /// Written by hand, so that its owners drop it by a single call (docs/DECISIONS.md, F20).
     fn drop(self) {
         let Signals {
             alloc: _alloc,
@@ -30,7 +31,8 @@ impl Drop for Signals {
 }
 
 impl Signals {
-    /// Of a process for which SIGTERM or SIGINT is blocked; none where neither is, since such a signal ends it at once.
+    /// Opens the file if SIGTERM or SIGINT is blocked. Otherwise `None`, since such a signal ends
+    /// the process at once.
     pub fn blocked<R: Files<File = File>>(rt: &R, alloc: Global) -> Option<Signals> {
         let status = File::open(rt, "/proc/self/status").ok()?;
         let signals = Signals { alloc, status };
@@ -41,12 +43,12 @@ impl Signals {
         }
     }
 
-    /// Whether a signal waits that asks the program to end.
+    /// Whether SIGTERM or SIGINT is pending.
     pub fn ask_to_end(&self) -> bool {
         self.has_ending(PENDING)
     }
 
-    /// Whether SIGTERM or SIGINT is in the set of this name; not where it can't be read.
+    /// Whether SIGTERM or SIGINT is in the set of this name; `false` if it can't be read.
     fn has_ending(&self, name: &str) -> bool {
         match self.text() {
             Ok(text) => set_in(text.as_str(), name) & ENDING != 0,
@@ -54,7 +56,7 @@ impl Signals {
         }
     }
 
-    /// The process's status as it is now.
+    /// Reads the current status of the process.
     fn text(&self) -> io::Result<String> {
         let mut text = String::new(self.alloc);
         let mut status = &self.status;
@@ -64,7 +66,7 @@ impl Signals {
     }
 }
 
-/// The set of signals that the line of this name gives; no signal where there is no such line.
+/// The signal set on the line of this name; empty if there is no such line.
 fn set_in(status: &str, name: &str) -> u64 {
     for line in status.lines() {
         if let Some(digits) = line.strip_prefix(name) {

@@ -1,4 +1,4 @@
-//! What is watched of the connections of a server, and of each of its seats.
+//! Telemetry of a server's connections and of each slot.
 ghost use Rattle.std.specs.Prelude.{◌≡◌, ◌∷◌, ◌++◌, ◌<◌, [], None, Some, IfNone, IfOk, IfSome, OnErr, option_map, vec_len};
 ghost use Rattle.mc_watch.specs.Closing.{TellsClosed};
 ghost use Rattle.mc_watch.specs.Counts.{CountsEnd, CountsUnserved, entrance_of, shards_of, shared_value, shared_values, thread_of};
@@ -20,29 +20,29 @@ use std::alloc::{AllocError, Global};
 use std::net::SocketAddr;
 use std::sync::Arc;
 
-/// How long a connection may be idle.
+/// The idle timeout and its clock.
 #[derive(Drop)]
 pub struct IdleLimit<C = Counter> {
-    /// The seconds since the server began.
+    /// Seconds since the server started.
     pub seconds: Seconds<C>,
-    /// The most seconds for which a connection may move no byte.
+    /// Longest time without a byte, in seconds.
     pub limit: u64,
 }
 
-/// What is watched of the connections of a server.
+/// Telemetry of a server's connections.
 pub struct Watch<C = Counter> {
-    /// How long a connection may be idle; none is given up where nothing is said.
+    /// The idle timeout; `None` for no timeout.
     pub idle_limit: Option<IdleLimit<C>>,
-    /// Where the threads count, if they count.
+    /// The counters, if telemetry is on.
     pub counts: Option<Counts<C>>,
-    /// Where the seats tell what happens, each by one of them. Where there are none left a seat tells nothing.
+    /// Reporters of events, one for each slot. A slot without one reports nothing.
     pub reporters: Vec<Reporter>,
-    /// When the server is to end; by nothing but its last connection where nothing is said.
+    /// The shutdown stage; `None` if the server ends only with its last connection.
     pub drain: Option<Drain<C>>,
 }
 
 impl<C: Drop> Drop for Watch<C> {
-    /// By hand, so that to let one go is one call for whoever holds it (docs/DECISIONS.md).
+    /// Written by hand, so that its owners drop it by a single call (docs/DECISIONS.md, F20).
     fn drop(self) {
         let Watch {
             idle_limit: _idle_limit,
@@ -53,19 +53,19 @@ impl<C: Drop> Drop for Watch<C> {
     }
 }
 
-/// What is watched of the connections of one seat.
+/// Telemetry of one slot.
 pub struct SeatWatch<C = Counter> {
     seat: usize,
     counts: Option<Arc<CachePadded<SeatCounts<C>>, Global>>,
     idle_limit: Option<IdleLimit<C>>,
     shutdown: Option<Shutdown<C>>,
     reporter: Reporter,
-    /// Who the last connection came from.
+    /// Address of the last client.
     peer: Option<SocketAddr>,
 }
 
 impl<C: Drop> Drop for SeatWatch<C> {
-    /// By hand, so that to let one go is one call for whoever holds it (docs/DECISIONS.md).
+    /// Written by hand, so that its owners drop it by a single call (docs/DECISIONS.md, F20).
     fn drop(self) {
         let SeatWatch {
             seat: _seat,
@@ -78,14 +78,14 @@ impl<C: Drop> Drop for SeatWatch<C> {
     }
 }
 
-/// What is watched where connections come in.
+/// Telemetry of the accepting thread.
 pub struct EntranceWatch<C = Counter> {
     counts: Option<Arc<CachePadded<EntranceCounts<C>>, Global>>,
     reporter: Reporter,
 }
 
 impl<C: Drop> Drop for EntranceWatch<C> {
-    /// By hand, so that to let one go is one call for whoever holds it (docs/DECISIONS.md).
+    /// Written by hand, so that its owners drop it by a single call (docs/DECISIONS.md, F20).
     fn drop(self) {
         let EntranceWatch {
             counts: _counts,
@@ -95,7 +95,7 @@ impl<C: Drop> Drop for EntranceWatch<C> {
 }
 
 impl<C: Count> IdleLimit<C> {
-    /// The same, for one more.
+    /// Clones the handle; both share the clock. Fails if memory is refused.
     pub fn share(&self) -> Result<IdleLimit<C>, AllocError>
         ensures limit { IfOk result (λ shared. shared.limit ≡ self.now.limit) }
         ensures clock { IfOk result
@@ -109,7 +109,7 @@ impl<C: Count> IdleLimit<C> {
 }
 
 impl<C: Count> Watch<C> {
-    /// Nothing is watched.
+    /// Telemetry that records nothing.
     pub fn nothing(alloc: Global) -> Watch<C>
         ensures timeless { result.idle_limit ≡ None }
         ensures uncounted { result.counts ≡ None }
@@ -124,7 +124,8 @@ impl<C: Count> Watch<C> {
         }
     }
 
-    /// What is watched of a seat, which the thread of this number serves.
+    /// The telemetry of slot `seat`, which thread number `thread` serves. Fails if memory is
+    /// refused.
     pub fn seat(&mut self, seat: usize, thread: usize) -> Result<SeatWatch<C>, AllocError>
         ensures seat { IfOk result (λ watch. watch.seat ≡ seat) }
         ensures nobody { IfOk result (λ watch. watch.peer ≡ None) }
@@ -166,7 +167,7 @@ impl<C: Count> Watch<C> {
         })
     }
 
-    /// Where the shards show what they hold and have counted, by their numbers; none where nobody counts.
+    /// The published counters of the shards, by number; `None` without telemetry.
     pub fn shards(
         &self,
         alloc: Global,
@@ -181,7 +182,7 @@ impl<C: Count> Watch<C> {
         }
     }
 
-    /// What is watched where connections come in.
+    /// The telemetry of the accepting thread. Fails if memory is refused.
     pub fn entrance(&mut self) -> Result<EntranceWatch<C>, AllocError>
         ensures counted { IfOk result
             (λ watch. option_map shared_value watch.counts ≡ entrance_of self.old.counts) }
@@ -205,7 +206,7 @@ impl<C: Count> Watch<C> {
         })
     }
 
-    /// How long connections may be idle, and when the server is to end.
+    /// The idle timeout and the shutdown stage.
     pub fn into_limits(self) -> (Option<IdleLimit<C>>, Option<Drain<C>>)
         ensures idle_limit { result.0 ≡ self.idle_limit }
         ensures drain { result.1 ≡ self.drain }
@@ -219,7 +220,7 @@ impl<C: Count> Watch<C> {
         (idle_limit, drain)
     }
 
-    /// One of the reporters, or one to which nobody listens where there are none left.
+    /// Takes the next reporter; one that discards events if none is left.
     fn reporter(&mut self) -> Reporter
         ensures heard { 0 < vec_len self.old.reporters →
             self.old.reporters.items ≡ self.new.reporters.items ++ result ∷ [] }
@@ -236,15 +237,15 @@ impl<C: Count> Watch<C> {
 }
 
 impl<C: Count> SeatWatch<C> {
-    /// A connection of this peer is served from now on. What it measures of itself.
+    /// Records a new connection of this client, and returns its meter.
     pub fn open(&mut self, peer: SocketAddr) -> Meter<C>
         ensures read { result.read ≡ 0 }
         ensures written { result.written ≡ 0 }
         ensures commands { result.commands ≡ 0 }
-        // Where the server is never asked to end, none ends for that.
+        // Without a shutdown stage, no connection ends for a shutdown.
         ensures stage { IfSome result.shutdown
             (λ shutdown. option_map stage_of self.old.shutdown ≡ Some (stage_of shutdown)) }
-        // Without an idle timeout a connection may be idle forever.
+        // Without an idle timeout, a connection may be idle forever.
         ensures timeless { self.old.idle_limit ≡ None → result.pulse ≡ None }
         ensures limit { IfSome result.pulse
             (λ pulse. pulse_of (Some pulse) ≡ idle_limit_of self.old.idle_limit) }
@@ -263,8 +264,8 @@ impl<C: Count> SeatWatch<C> {
         Meter::begin(self.counts(), self.pulse(), self.shutdown())
     }
 
-    /// The connection is served no more: it took `commands` commands, and broke or not. Its meter has noted why, and which of its
-    /// commands were counted.
+    /// Records the end of a connection: it parsed `commands` commands, and `broke` says whether it
+    /// failed. The reason is the meter's.
     pub fn close(&mut self, meter: &Meter<C>, commands: u64, broke: bool)
         ensures counted { IfSome self.old.counts (λ counts.
             CountsEnd C.was_added (shared_value counts) meter.now.commands commands broke
@@ -292,7 +293,7 @@ impl<C: Count> SeatWatch<C> {
         }
     }
 
-    /// A connection that was accepted can't be served.
+    /// Records that an accepted connection could not be served.
     pub fn turn_away(&mut self)
         ensures counted { IfSome self.old.counts
             (λ counts. CountsUnserved C.was_added (shared_value counts)) }
@@ -329,7 +330,7 @@ impl<C: Count> SeatWatch<C> {
 }
 
 impl<C: Count> EntranceWatch<C> {
-    /// A connection was accepted.
+    /// Records an accepted connection.
     pub fn accepted(&mut self)
         ensures counted { IfSome self.old.counts
             (λ counts. C.was_added (shared_value counts).accepted 1) }
@@ -340,7 +341,7 @@ impl<C: Count> EntranceWatch<C> {
         }
     }
 
-    /// None could be accepted, for the reason of this number, if the system told one.
+    /// Records a failed accept, with its errno if the system gave one.
     pub fn failed(&mut self, fault: Option<i32>)
         ensures counted { IfSome self.old.counts
             (λ counts. C.was_added (shared_value counts).failed 1) }
@@ -353,7 +354,7 @@ impl<C: Count> EntranceWatch<C> {
         self.reporter.tell(ConnectionEvent::NotAccepted { fault });
     }
 
-    /// No seat is free: further connections wait to be accepted.
+    /// Records that all slots are in use: further connections wait in the backlog.
     pub fn all_taken(&mut self)
         ensures told { Tells self.old.reporter SeatsTaken self.new.reporter }
         ensures counts { self.new.counts ≡ self.old.counts }
@@ -361,7 +362,7 @@ impl<C: Count> EntranceWatch<C> {
         self.reporter.tell(ConnectionEvent::SeatsTaken);
     }
 
-    /// A seat is free again.
+    /// Records that a slot is free again.
     pub fn one_free(&mut self)
         ensures told { Tells self.old.reporter SeatFree self.new.reporter }
         ensures counts { self.new.counts ≡ self.old.counts }
@@ -370,7 +371,7 @@ impl<C: Count> EntranceWatch<C> {
     }
 }
 
-/// What is reported of a connection that is served no more.
+/// The event of an ended connection.
 fn closed<C: Count>(
     peer: SocketAddr,
     seat: usize,

@@ -1,4 +1,4 @@
--- What decoding says of a base64 key word.
+-- The result of decoding a base64 key word.
 use Rattle.std.proofs.Common.{◌≡◌, ℕ, ◌<◌, ◌≤◌, ◌+◌, ◌-◌, ◌*◌, ◌/◌, ◌%◌, true, false, cond, Result, List, [], ◌∷◌, length, Some, None, Ok, Err, is_some, nat_lt, nat_eq, refl, sym, ap, ◌∙◌, arith, length-append}
 use Rattle.std.proofs.lemmas.List.{length-replicate}
 use Rattle.std.proofs.lemmas.Bool.Decides.{nat_tests}
@@ -35,7 +35,7 @@ pub decoded_ok : (word bytes : List ℕ) → decode_of standard word ≡ Ok byte
 unfolding base64_bytes decoded_of
 decoded_ok word bytes h = rw h
 
--- A word that decoding refuses stands for no bytes in base64.
+-- A word that decoding refuses is the base64 text of no bytes.
 pub decoded_err : (word : List ℕ) (e : DecodeError) → decode_of standard word ≡ Err e → base64_bytes word ≡ None
 unfolding base64_bytes decoded_of
 decoded_err word e h = rw h

@@ -1,4 +1,4 @@
--- What is left of a word goes on from the value so far.
+-- Parsing the rest of a word continues from the value so far.
 use Rattle.std.proofs.Common.{◌≡◌, ℕ, ◌+◌, ◌*◌, ◌^◌, ◌<◌, ◌≤◌, Bool, true, false, ◌&&◌, cond, List, [], ◌∷◌, length, Option, Some, None, Ok, Err, nat_lt, nat_le, if◌then◌else◌, option_and_then, drop, refl, sym, arith, inl, inr, lit≤, ℤ, pos, neg_ℤ}
 use Rattle.std.proofs.lemmas.Bool.{cases_lt}
 use Rattle.std.specs.List.{list_all}
@@ -71,12 +71,12 @@ narrowed : (f : ℕ → ℤ) (bound n : ℕ) (digits : Bool) → bound ≤ 2 ^ 6
     option_map f (if digits && nat_lt n bound then Some n else None) ≡ option_and_then (λ m. if nat_lt m bound then Some (f m) else None) (if digits && nat_lt n (2 ^ 64) then Some n else None)
 narrowed f bound n digits small = grind (arith, nat_tests)
 
--- A word with a minus in front spells the negative of the number behind it, where signed 64 bits have room.
+-- A word with a minus denotes the negative of the number behind it, if that fits in signed 64 bits.
 pub minus_is : (word digits : List ℕ) → starts_with_minus word ≡ true → digits ≡ drop 1 word → integer_of word ≡ option_and_then negative (number_of (2 ^ 64) digits)
 unfolding number_of
 minus_is word digits minus rest = rw (minus, rest) (narrowed (λ n. neg_ℤ (pos n)) (2 ^ 63 + 1) (digits_value 10 (drop 1 word)) (is_digits (drop 1 word)) (lit≤ tt))
 
--- A word without a minus spells its number, where signed 64 bits have room.
+-- A word without a minus denotes its number, if that fits in signed 64 bits.
 pub plain_is : (word : List ℕ) → starts_with_minus word ≡ false → integer_of word ≡ option_and_then positive (number_of (2 ^ 64) word)
 unfolding number_of
 plain_is word plain = rw plain (narrowed pos (2 ^ 63) (digits_value 10 word) (is_digits word) (lit≤ tt))
@@ -86,7 +86,7 @@ pub unread : (o : Option ℕ) (f : ℕ → Option ℤ) (e : WireFault) (integer 
 unread None f e integer is h = rw is (cc)
 unread (Some n) f e integer is h = absurd cc
 
--- Where the digits spell a number, the word spells what the sign makes of it, or no number where that has no room.
+-- If the digits are a number, the word denotes it with its sign, or nothing if that doesn't fit.
 pub read : (o : Option ℕ) (f : ℕ → Option ℤ) (n : ℕ) (integer : Option ℤ) → integer ≡ option_and_then f o → Ok n ≡ ok_or o NotNumber → ok_or (f n) NotNumber ≡ ok_or integer NotNumber
 read None f n integer is h = absurd cc
 read (Some m) f n integer is h = let same : n ≡ m = cc in rw (is, same)

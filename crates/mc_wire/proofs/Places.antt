@@ -1,5 +1,5 @@
--- The place of a key among two shards is a parity: the hash's basis and prime are odd, so its lowest bit is that of the
--- basis and of each byte, mixed by exclusive or.
+-- The place of a key among two shards is a parity: the hash's basis and prime are odd, so its lowest bit is
+-- that of the basis and of each byte, mixed by exclusive or.
 use Rattle.std.proofs.Common.{◌≡◌, ℕ, ◌*◌, ◌%◌, ◌^◌, List, [], ◌∷◌, refl, sym, ap, ◌∙◌, arith}
 use Rattle.std.specs.Prelude.{fold, bit_xor}
 use Rattle.std.proofs.lemmas.Nat.{xor_mod}
@@ -18,7 +18,8 @@ fold_parity : (bytes : List ℕ) (hash parity : ℕ) → hash % 2 ≡ parity % 2
 fold_parity [] hash parity same = same
 fold_parity (byte ∷ bytes) hash parity same = fold_parity bytes (fnv_step hash byte) (bit_xor parity byte) (step_parity hash parity byte same)
 
--- The shard of a key among two is told by the lowest bits of its bytes: shard 1 where an even number are set, else 0.
+-- The shard of a key among two is determined by the lowest bits of its bytes: shard 1 if an even number of
+-- them are set, else 0.
 pub place_of_two : (key : List ℕ) → parity_of key ≡ place_of key 2
 unfolding fnv_of
 place_of_two key = sym (fold_parity key 2166136261 1 refl)

@@ -1,5 +1,5 @@
--- Worked rows of the definitions, computed: words, numbers, keys and places, with the test vectors of RFC 4648, section 10,
--- and the published vectors of FNV-1a.
+-- Worked rows of the definitions, computed: words, numbers, keys and places, with the test vectors of
+-- RFC 4648, section 10, and FNV-1a's published vectors.
 use Rattle.std.proofs.Common.{◌≡◌, ◌^◌, [], ◌∷◌, length, map, replicate, Some, None, pos, negsuc, codes, refl}
 use Rattle.base64.proofs.OnLiterals.{base64_on_literals}
 use Rattle.base64.specs.Rfc4648.{encode_symbols}

@@ -26,7 +26,7 @@ position_behind p front rest none = rw (first_behind p front rest none, length-a
 pub none_further : (text : List ℕ) (passed : ℕ) → list_any is_space (take passed text) ≡ false → list_any is_space (take 16 (drop passed text)) ≡ false → list_any is_space (take (passed + 16) text) ≡ false
 none_further text passed none more = rw (take-add passed 16 text, list_any-append is_space (take passed text) (take 16 (drop passed text)), none, more)
 
--- The first space stands behind a front that has none.
+-- The first space follows a front without spaces.
 behind_front : (text : List ℕ) (passed : ℕ) → passed ≤ length text → list_any is_space (take passed text) ≡ false → position is_space text ≡ option_map (λ i. passed + i) (position is_space (drop passed text))
 behind_front text passed within none =
     let parts = position_behind is_space (take passed text) (drop passed text) none in

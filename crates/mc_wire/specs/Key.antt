@@ -1,28 +1,28 @@
--- Keys as a word gives them (protocol.txt, Keys), and the shard that each belongs to.
+-- Keys (protocol.txt, Keys), and the shard that owns each.
 use Rattle.std.specs.Prelude.{ℕ, ◌*◌, ◌%◌, ◌^◌, Bool, ◌&&◌, ◌||◌, List, length, fold, bit_xor, Option, Some, None, nat_lt, nat_le, if◌then◌else◌, ◌==◌}
 use Rattle.std.specs.List.{list_all}
 use Rattle.mc_wire.specs.Limits.{key_limit}
 use Rattle.mc_wire.specs.declared.fault.WireFault.{WireFault}
 use Rattle.mc_wire.specs.declared.fault.WireFault.TheVariants.{NoKey, KeyTooLong, KeyByte}
 
--- a byte that may stand in a key word: no control byte, no space and not 127
+-- a byte that is allowed in a key word: no control byte, no space and not 127
 abbrev pub is_key_byte : ℕ → Bool
 is_key_byte byte = (nat_le 33 byte && nat_le byte 126) || nat_le 128 byte
 
--- what hinders a word from being a key, in the order of the tests
+-- why a word isn't a valid key, in the order of the tests
 abbrev pub key_fault : List ℕ → Option WireFault
 key_fault word =
     if length word == 0 then Some NoKey
     else (if nat_lt key_limit (length word) then Some KeyTooLong
     else (if list_all is_key_byte word then None else Some KeyByte))
 
--- the hash FNV-1a of 32 bits: each byte is mixed in, and the prime multiplies the whole
+-- one step of FNV-1a, 32 bits: xor the byte, then multiply by the prime
 abbrev pub fnv_step : ℕ → ℕ → ℕ
 fnv_step hash byte = (bit_xor hash byte * 16777619) % 2 ^ 32
 
 unfoldable pub fnv_of : List ℕ → ℕ
 fnv_of bytes = fold fnv_step 2166136261 bytes
 
--- the shard that a key belongs to, of the given number of shards
+-- the shard that owns a key, by the number of shards
 abbrev pub place_of : List ℕ → ℕ → ℕ
 place_of key shards = fnv_of key % shards

@@ -1,24 +1,24 @@
--- The limits of the protocol and of this server, as numbers.
+-- The limits of the protocol and of this server.
 use Rattle.std.specs.Prelude.{ℕ, ◌≡◌, ◌*◌, ◌^◌}
 use Rattle.mc_wire.specs.declared.TheConstants.{DEFAULT_LINE_LIMIT, DROP_IN_LINE_LIMIT, LEAST_LINE_LIMIT, GREATEST_LINE_LIMIT, DIGIT_LIMIT, KEY_LIMIT, DECODED_KEY_LIMIT, BASE64_LIMIT, OPAQUE_LIMIT, DEFAULT_VALUE_LIMIT, LEAST_VALUE_LIMIT, GREATEST_VALUE_LIMIT, LATEST_MOMENT}
 
--- how many digits a number may have, its leading zeros among them
+-- the maximum number of digits of a number, leading zeros included
 abbrev pub digit_limit : ℕ
 digit_limit = 20
 
--- how many bytes a key may have
+-- the maximum length of a key in bytes
 abbrev pub key_limit : ℕ
 key_limit = 250
 
--- how many bytes a key may have that a word gives in base64
+-- the maximum length in bytes of a key that is sent in base64
 abbrev pub decoded_key_limit : ℕ
 decoded_key_limit = 186
 
--- the latest moment, in seconds since 1970
+-- the latest Unix time in seconds
 abbrev pub latest_moment : ℕ
 latest_moment = 2 ^ 40
 
--- What the constants of the code are. Lengths are in bytes.
+-- The values of the code's constants. Lengths are in bytes.
 pub record LimitsAre : Type 0 where
   pub default_line : DEFAULT_LINE_LIMIT ≡ 2 ^ 16
   pub drop_in_line : DROP_IN_LINE_LIMIT ≡ 2 ^ 20

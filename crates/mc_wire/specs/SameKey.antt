@@ -1,4 +1,4 @@
--- When two keys are one: their bytes are the same.
+-- Equality of keys: they are equal if their bytes are.
 use Rattle.std.specs.Prelude.{ℕ, Bool, List, nat_eq}
 use Rattle.std.specs.Cmp.Lexicographic.{pointwise}
 

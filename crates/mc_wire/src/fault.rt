@@ -1,4 +1,4 @@
-//! What can be wrong with a word, and with an outlet.
+//! Errors of parsing a word and of writing replies.
 ghost use Rattle.std.specs.Prelude.{◌≡◌};
 ghost use Rattle.mc_wire.specs.declared.fault.WireFault.TheVariants.{Memory};
 
@@ -6,10 +6,11 @@ use crate::{DIGIT_LIMIT, KEY_LIMIT};
 use std::alloc::AllocError;
 use thiserror::Error;
 
-/// Why a word is no key or no number. Where several faults fit, the first of this list is told.
+/// Why a word isn't a valid key or number. If several errors apply, the first in this list is
+/// reported.
 #[derive(Clone, Copy, Debug, PartialEq, Eq, Error)]
 pub enum WireFault {
-    /// An empty word was given for a key.
+    /// The key word is empty.
     #[error("a key needs at least one byte")]
     NoKey,
     /// A key word has more than `KEY_LIMIT` bytes.
@@ -24,12 +25,12 @@ pub enum WireFault {
     /// A word is no number, or the number is out of range.
     #[error("a number of at most {max} digits that fits 64 bits is wanted", max = DIGIT_LIMIT)]
     NotNumber,
-    /// No memory was left for the key.
+    /// Memory for the key could not be allocated.
     #[error("no memory is left for the key")]
     Memory,
 }
 
-/// Why an outlet takes no more bytes: it has failed, and stays so.
+/// A write failed. The outlet has failed permanently: it accepts no more bytes.
 #[derive(Clone, Copy, Debug, PartialEq, Eq, Error)]
 #[error("the outlet has failed, and takes no more bytes")]
 pub struct OutFault;

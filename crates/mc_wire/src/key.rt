@@ -1,5 +1,5 @@
-//! Keys (protocol.txt, Keys), their base64 texts (protocol.txt, Meta Commands; RFC 4648, section 4)
-//! and the shard that each belongs to.
+//! Keys (protocol.txt, Keys), their base64 form (protocol.txt, Meta Commands; RFC 4648, section 4)
+//! and the shard that owns each key.
 ghost use Rattle.std.specs.Prelude.{◌≡◌, ◌≢◌, ◌<◌, ◌≤◌, ℕ, List, length, take, Some, None, OnOk, IfOk, IfErr, IsErrOf, OnSome, IfSome, IfNone};
 ghost use Rattle.std.specs.List.{list_all};
 ghost use Rattle.mc_wire.specs.Base64Key.{base64_of, base64_key, base64_fault, IsBase64Of};
@@ -17,34 +17,35 @@ use std::alloc::{AllocError, Global};
 use std::hash::{Hash, Hasher};
 use std::marker::Model;
 
-/// Room in which any text of `KEY_LIMIT` bytes is decoded, in bytes.
+/// Size in bytes of the buffer into which a base64 key word is decoded.
 const DECODE_ROOM: usize = 189;
 
-/// A key of at most this many bytes lies in the `Key` itself, which takes 40 bytes so.
+/// Keys of at most this many bytes are stored inline in `Key`, which therefore has a size of 40
+/// bytes.
 const SHORT_KEY: usize = 38;
 
-/// The hash FNV-1a of 32 bits: what it starts from, and what each byte multiplies it by.
+/// FNV-1a, 32 bits: the offset basis, and the prime by which each step multiplies.
 const FNV_BASIS: u32 = 2_166_136_261;
 
 const FNV_PRIME: u32 = 16_777_619;
 
-/// A key: 1 to `KEY_LIMIT` bytes, of any value where it was read from base64. Contracts see the list
-/// of its bytes.
+/// A key of 1 to `KEY_LIMIT` bytes; any byte values if it was read from base64. Contracts see the
+/// list of its bytes.
 pub struct Key {
     kept: KeptBytes,
 }
 
 impl Drop for Key {
-    /// By hand, so that to let one go is one call for whoever holds it (docs/DECISIONS.md).
+    /// Written by hand, so that its owners drop it by a single call (docs/DECISIONS.md, F20).
     fn drop(self) {
         let Key { kept: _kept } = self;
     }
 }
 
-/// Where the bytes of a key lie.
+/// Storage of a key's bytes.
 #[derive(Drop)]
 enum KeptBytes {
-    /// In the front of the room, so that the key takes no block of memory.
+    /// Inline, at the front of `room`, without a heap allocation.
     Short { len: u8, room: [u8; SHORT_KEY] },
     Long(Vec<u8>),
 }
@@ -104,7 +105,7 @@ impl Hash for Key {
     ghost use Rattle.std.specs.Hash.{same_Alike};
     ghost use Rattle.std.specs.Cmp.Lexicographic.{bytes_decides};
 
-    // All bytes in one write: a hasher takes them by words.
+    // A single write of all bytes, since the hasher processes whole words.
     ghost hash_input = { λ key. key ∷ [] };
 
     ghost respects_eq = { (same_Alike (λ key. key ∷ []) bytes_decides).fed };
@@ -115,8 +116,10 @@ impl Hash for Key {
 }
 
 impl Key {
-    /// Reads a key word: 1 to `KEY_LIMIT` bytes, each from 33 to 126 or from 128 to 255. The faults
-    /// are `NoKey`, `KeyTooLong`, `KeyByte` and `Memory`, tested in this order.
+    /// Parses a key word: 1 to `KEY_LIMIT` bytes, each 33 to 126 or 128 to 255 (protocol.txt,
+    /// Keys).
+    ///
+    /// Errors: `NoKey`, `KeyTooLong`, `KeyByte` or `Memory`, tested in this order.
     pub fn from_word(alloc: Global, word: &[u8]) -> Result<Key, WireFault>
         ensures ok { IfOk result (λ key. (key ≡ word.now) × (key_fault word.now ≡ None)) }
         ensures fault { IfErr result
@@ -130,7 +133,8 @@ impl Key {
         Ok(key)
     }
 
-    /// The key of a word that is known to spell one.
+    /// Makes the key of a word that is already known to be a valid key word. Fails only if memory
+    /// is refused.
     pub fn from_key_word(alloc: Global, word: &[u8]) -> Result<Key, AllocError>
         requires { key_fault word.now ≡ None }
         ensures { IfOk result (λ key. key ≡ word.now) }
@@ -138,9 +142,11 @@ impl Key {
         Key::keep(alloc, word)
     }
 
-    /// Reads a key word in base64: at most `KEY_LIMIT` bytes of the standard alphabet with padding,
-    /// just as encoding would write them, for 1 to `DECODED_KEY_LIMIT` bytes of any value. The faults
-    /// are `NoKey`, `KeyTooLong`, `NotBase64` and `Memory`, tested in this order.
+    /// Parses a key word in base64: at most `KEY_LIMIT` bytes of the standard alphabet with
+    /// canonical padding, for 1 to `DECODED_KEY_LIMIT` bytes of any value (protocol.txt, Meta
+    /// Commands).
+    ///
+    /// Errors: `NoKey`, `KeyTooLong`, `NotBase64` or `Memory`, tested in this order.
     #[tactic(auto, using(crate::proofs::Base64Keys::text_key))]
     pub fn from_base64(alloc: Global, word: &[u8]) -> Result<Key, WireFault>
         ensures ok { IfOk result (λ key. base64_key word.now ≡ Some key) }
@@ -152,7 +158,7 @@ impl Key {
             (λ fault. fault ≢ WireFault.Memory → base64_key word.now ≡ None) }
         ensures memory { IsErrOf result WireFault.Memory → base64_fault word.now ≡ None }
 
-        // Whatever the answer is: a word that is the text of a key gives that key.
+        // Conversely, a word that encodes a key yields that key, whatever the result is.
         ensures whole { (bytes : List ℕ) → IsBase64Of word.now bytes →
             base64_key word.now ≡ Some bytes }
     {
@@ -162,7 +168,7 @@ impl Key {
         if word.len() > KEY_LIMIT {
             return Err(WireFault::KeyTooLong);
         }
-        // Decoded aside first, so that a word that is no base64 asks for no memory.
+        // Decoded on the stack first, so that invalid base64 allocates nothing.
         let mut room = [0; DECODE_ROOM];
         let Some(len) = decode(word, &mut room) else {
             return Err(WireFault::NotBase64);
@@ -171,7 +177,7 @@ impl Key {
         Ok(key)
     }
 
-    /// The key of these bytes. A short one takes no memory.
+    /// Copies the bytes into a key. A short key allocates nothing.
     fn keep(alloc: Global, bytes: &[u8]) -> Result<Key, AllocError>
         requires some { 0 < length bytes.now }
         requires short { length bytes.now ≤ KEY_LIMIT }
@@ -188,8 +194,8 @@ impl Key {
         Ok(Key { kept })
     }
 
-    /// The base64 text of the key, which this writes into the room. Of a key that was read from
-    /// base64 it is the word again. Takes no memory.
+    /// Encodes the key as base64 into `room` and returns the text. For a key that was read from
+    /// base64, this is the original word. Allocates nothing.
     #[tactic(auto, unfolding(crate::specs::Base64Key::base64_of))]
     pub fn to_base64<'a>(&self, room: &'a mut [u8; BASE64_LIMIT]) -> &'a [u8]
         ensures text { result.now ≡ base64_of self.now }
@@ -213,8 +219,8 @@ impl Key {
         }
     }
 
-    /// The shard, of `shards` in all, that the key belongs to: its hash FNV-1a of 32 bits modulo `shards`. Of one or two
-    /// shards it is told without the hash. Takes no memory.
+    /// The number of the shard that owns the key: its FNV-1a hash of 32 bits modulo `shards`. With
+    /// one or two shards the full hash isn't computed. Allocates nothing.
     pub fn place(&self, shards: usize) -> usize
         requires { 0 < shards }
         ensures { result ≡ place_of self.now shards }
@@ -237,8 +243,8 @@ fn fnv(bytes: &[u8]) -> u32
     })
 }
 
-/// The lowest bit of the hash: its basis and its prime are odd, so it takes no product. The loop is compiled to
-/// mix many bytes at once.
+/// The lowest bit of the hash. Basis and prime are odd, so no multiplication is needed, and the
+/// loop is vectorized.
 fn parity(bytes: &[u8]) -> usize
     ensures { result ≡ parity_of bytes.now }
 {
@@ -246,8 +252,8 @@ fn parity(bytes: &[u8]) -> usize
     usize::from(mixed % 2)
 }
 
-/// What hinders a word from being a key (protocol.txt, Keys): `NoKey`, `KeyTooLong` or `KeyByte`, tested in this order. Takes
-/// no memory.
+/// Why a word isn't a valid key (protocol.txt, Keys): `NoKey`, `KeyTooLong` or `KeyByte`, tested in
+/// this order; `None` if it is one. Allocates nothing.
 pub fn key_fault(word: &[u8]) -> Option<WireFault>
     ensures { result ≡ key_fault word.now }
 {
@@ -264,7 +270,7 @@ pub fn key_fault(word: &[u8]) -> Option<WireFault>
     }
 }
 
-/// Whether the bytes are the same. They are compared eight at a time, as numbers.
+/// Whether both slices are equal. Compares eight bytes at a time, as integers.
 fn same_bytes(one: &[u8], other: &[u8]) -> bool
     ensures { result ≡ same_key one.now other.now }
 {
@@ -285,16 +291,15 @@ fn same_bytes(one: &[u8], other: &[u8]) -> bool
     rest == other_rest
 }
 
-/// Eight bytes as one number.
+/// Reads eight bytes as one integer.
 fn read_word(bytes: [u8; 8]) -> u64
     ensures { IsWord bytes result }
 {
     u64::from_le_bytes(bytes)
 }
 
-/// Decodes a base64 text into the front of the room, and gives the number of its bytes, or `None`
-/// where the word is no such text. Padding and the bits behind the last byte must be as encoding
-/// writes them.
+/// Decodes base64 into the front of `room`. Returns the number of bytes, or `None` if the word
+/// isn't canonical base64 (padding and unused bits must be as an encoder writes them).
 fn decode(word: &[u8], room: &mut [u8]) -> Option<usize>
     requires some { 0 < length word.now }
     requires short { length word.now ≤ KEY_LIMIT }
@@ -312,8 +317,8 @@ fn decode(word: &[u8], room: &mut [u8]) -> Option<usize>
     }
 }
 
-/// Whether each byte may stand in a key word. No byte ends the scan, so that it is compiled to test many
-/// bytes at once.
+/// Whether each byte is allowed in a key word. The scan has no early exit, so that it is
+/// vectorized.
 fn is_key_word(word: &[u8]) -> bool
     ensures { result ≡ list_all spec.is_key_byte word.now }
 {
@@ -324,7 +329,7 @@ fn is_key_word(word: &[u8]) -> bool
     good
 }
 
-/// Whether the byte is neither a control byte nor the space nor 127.
+/// Whether the byte is allowed in a key: not a control byte, a space or 127.
 fn is_key_byte(byte: u8) -> bool
     ensures { result ≡ spec.is_key_byte byte }
 {

@@ -1,14 +1,14 @@
-//! Laws of keys and limits, for whoever reads them.
+//! Laws of base64 keys and of the limits, for clients of this crate.
 ghost use Rattle.mc_wire.specs.Base64Key.{Base64IsText};
 ghost use Rattle.mc_wire.specs.Limits.{LimitsAre};
 
-/// A word gives a key in base64 exactly where it is the text of its bytes, just as encoding writes it,
-/// and they are 1 to `DECODED_KEY_LIMIT`.
+/// A word decodes to a key exactly if it is the canonical base64 text of 1 to `DECODED_KEY_LIMIT`
+/// bytes.
 pub fn base64_is_text()
     ensures { Base64IsText }
 {}
 
-/// The limits of this crate are these numbers.
+/// States the values of this crate's limits.
 pub fn limits()
     ensures { LimitsAre }
 {}

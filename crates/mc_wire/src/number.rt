@@ -1,4 +1,4 @@
-//! Numbers, as the words of a line spell them (protocol.txt, Protocol).
+//! Parsing of decimal numbers in a line (protocol.txt, Protocol).
 ghost use Rattle.std.specs.Prelude.{◌≡◌, ◌^◌, true, false, drop, MatchOption};
 ghost use Rattle.std.specs.Option.{ok_or};
 ghost use Rattle.std.specs.Str.Parse.{starts_with_minus};
@@ -9,8 +9,8 @@ ghost use Rattle.mc_wire.specs.internal.Steps as step;
 use crate::DIGIT_LIMIT;
 use crate::fault::WireFault;
 
-/// Reads an unsigned number of 64 bits: 1 to `DIGIT_LIMIT` digits, leading zeros allowed. Any other
-/// word is `NotNumber`. Takes no memory.
+/// Parses an unsigned 64-bit number: 1 to `DIGIT_LIMIT` digits, leading zeros allowed. Any other
+/// word is `NotNumber`. Allocates nothing.
 pub fn number_u64(word: &[u8]) -> Result<u64, WireFault>
     ensures { result ≡ ok_or (number_of (2 ^ 64) word.now) WireFault.NotNumber }
 {
@@ -27,9 +27,9 @@ pub fn number_u64(word: &[u8]) -> Result<u64, WireFault>
     Ok(value)
 }
 
-/// Reads a signed number of 64 bits: an optional `-` and 1 to `DIGIT_LIMIT` digits, leading zeros
-/// allowed. Any other word is `NotNumber`, and so is a number below -2^63 or above 2^63-1. Takes no
-/// memory.
+/// Parses a signed 64-bit number: an optional `-` and 1 to `DIGIT_LIMIT` digits, leading zeros
+/// allowed. Any other word is `NotNumber`, including numbers below -2^63 or above 2^63-1. Allocates
+/// nothing.
 pub fn number_i64(word: &[u8]) -> Result<i64, WireFault>
     ensures { result ≡ ok_or (integer_of word.now) WireFault.NotNumber }
 {
@@ -39,7 +39,8 @@ pub fn number_i64(word: &[u8]) -> Result<i64, WireFault>
     }
 }
 
-/// The number whose digits are those of the value and then this one, where 64 bits have room.
+/// Appends a decimal digit to the value: `10 * value + digit`. `None` if the byte isn't a digit, or
+/// on overflow.
 fn append_digit(value: u64, digit: u8) -> Option<u64>
     ensures { result ≡ with_digit value digit }
 {
@@ -49,7 +50,7 @@ fn append_digit(value: u64, digit: u8) -> Option<u64>
     value.checked_mul(10)?.checked_add(u64::from(digit - b'0'))
 }
 
-/// What stands behind the minus that a word begins with.
+/// The text after a leading minus; `None` if there is no minus.
 fn behind_minus(word: &[u8]) -> Option<&[u8]>
     ensures { MatchOption result (starts_with_minus word.now ≡ false)
         (λ rest. (starts_with_minus word.now ≡ true) × (rest.now ≡ drop 1 word.now)) }
@@ -60,14 +61,14 @@ fn behind_minus(word: &[u8]) -> Option<&[u8]>
     }
 }
 
-/// The number that lies so far below zero.
+/// Negates the magnitude; an error if the result is below -2^63.
 fn negative(size: u64) -> Result<i64, WireFault>
     ensures { result ≡ ok_or (step.negative size) WireFault.NotNumber }
 {
     0i64.checked_sub_unsigned(size).ok_or(WireFault::NotNumber)
 }
 
-/// The number that lies so far above zero.
+/// The magnitude as a signed number; an error if it is above 2^63-1.
 fn positive(size: u64) -> Result<i64, WireFault>
     ensures { result ≡ ok_or (step.positive size) WireFault.NotNumber }
 {

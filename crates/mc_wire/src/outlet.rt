@@ -1,4 +1,4 @@
-//! Where replies go, and how whole texts are written there.
+//! Sinks for replies, and writing whole texts to them.
 ghost use Rattle.std.specs.Prelude.{◌≡◌, ◌<◌, ◌≤◌, OnErr, IfOk, length, take};
 ghost use Rattle.std.specs.Arc.{arc_slice_items};
 ghost use Rattle.std.specs.List.{flat_map};
@@ -7,13 +7,14 @@ ghost use Rattle.mc_wire.specs.Outlet.{Sight, Writes, broke, took};
 use crate::fault::OutFault;
 use std::sync::ArcSlice;
 
-/// Where replies go: a socket, a stream or memory.
+/// A sink for replies: a socket, a stream or memory.
 pub trait Outlet {
-    /// What was read of it, the bytes that it took, and whether it has failed.
+    /// The history for contracts: bytes read from the line, bytes accepted by writes, and whether
+    /// it has failed.
     ghost sight: { Self → Sight };
 
-    /// Takes a beginning of the bytes, and at least one where there is one, and gives how many. At a
-    /// fault it takes none, and has failed.
+    /// Writes a nonempty prefix of `bytes` (nothing if `bytes` is empty) and returns its length. On
+    /// an error nothing is written, and the outlet has failed permanently.
     fn write(&mut self, bytes: &[u8]) -> Result<usize, OutFault>
         ensures within { IfOk result (λ count. count ≤ length bytes.now) }
         ensures some { IfOk result (λ count. 0 < length bytes.now → 0 < count) }
@@ -21,8 +22,8 @@ pub trait Outlet {
             (λ count. sight self.new ≡ took (take count bytes.now) (sight self.old)) }
         ensures err { OnErr result (sight self.new ≡ broke (sight self.old)) };
 
-    /// Writes all bytes of a block that has several owners, as `put_all` does. An outlet that keeps what it is given may
-    /// become one of them in place of copying the bytes.
+    /// Writes all bytes of a shared block, like `put_all`. An outlet that keeps its bytes may keep
+    /// a reference to the block instead of a copy.
     fn put_shared(&mut self, block: &ArcSlice<u8>) -> Result<(), OutFault>
         ensures { Writes (arc_slice_items block.now) result (sight self.old) (sight self.new) }
     {
@@ -34,14 +35,14 @@ pub trait Outlet {
         Ok(())
     }
 
-    /// Whether it keeps blocks that have several owners without copying them.
+    /// Whether `put_shared` keeps references to shared blocks instead of copying them.
     fn shares(&self) -> bool {
         false
     }
 }
 
-/// Writes all the bytes, in as many writes as the outlet asks for. Where the outlet fails, it took a
-/// beginning of them. Takes no memory.
+/// Writes all bytes, with as many calls of `write` as needed. On an error, a prefix was written.
+/// Allocates nothing.
 pub fn put_all<O: Outlet>(out: &mut O, bytes: &[u8]) -> Result<(), OutFault>
     ensures { Writes bytes.now result (O.sight out.old) (O.sight out.new) }
 {
@@ -53,8 +54,8 @@ pub fn put_all<O: Outlet>(out: &mut O, bytes: &[u8]) -> Result<(), OutFault>
     Ok(())
 }
 
-/// Writes these parts, one after another, as one text. Where the outlet fails, it took a beginning
-/// of the whole text. Takes no memory.
+/// Writes the parts one after another. On an error, a prefix of the whole text was written.
+/// Allocates nothing.
 pub fn put_parts<O: Outlet>(out: &mut O, parts: &[&[u8]]) -> Result<(), OutFault>
     ensures { Writes (flat_map (λ part. part.now) parts.now) result (O.sight out.old)
         (O.sight out.new) }

@@ -1,21 +1,21 @@
-//! The words of a line (protocol.txt, Protocol).
+//! Splitting a line into words (protocol.txt, Protocol).
 ghost use Rattle.std.specs.Prelude.{◌≡◌, ◌+◌, ◌<◌, ◌≤◌, false, length, take, drop};
 ghost use Rattle.std.specs.Iterator.{YieldsFirstRef, item_count};
 ghost use Rattle.std.specs.List.{position, list_any};
 ghost use Rattle.mc_wire.specs.Words.{words_of, words_left, is_space};
 ghost use Rattle.mc_wire.specs.internal.Steps.{with_word};
 
-/// Bytes that are searched for a space at once.
+/// Number of bytes that are tested for a space at once.
 const RUN: usize = 16;
 
-/// The words of a text, one after another.
+/// Iterator over the words of a text.
 #[derive(Drop)]
 pub struct WordWalk<'a> {
     rest: &'a [u8],
 }
 
-/// Walks the words of a text: the longest runs of bytes other than the space. Any other byte, a tab
-/// or a `\r` too, belongs to a word. Takes no memory.
+/// Iterates over the words of a text: its maximal runs of bytes other than the space. Tabs and `\r`
+/// are ordinary bytes of a word. Allocates nothing.
 pub fn words(text: &[u8]) -> WordWalk<'_>
     ensures { words_left result ≡ words_of text.now }
 {
@@ -23,7 +23,7 @@ pub fn words(text: &[u8]) -> WordWalk<'_>
 }
 
 impl<'a> WordWalk<'a> {
-    /// The text of the words that the walk has not given yet.
+    /// The remaining text, which the iterator hasn't returned yet.
     pub fn text(&self) -> &'a [u8]
         ensures { words_of result.now ≡ words_left self.now }
     {
@@ -52,7 +52,7 @@ impl<'a> Iterator for WordWalk<'a> {
     }
 }
 
-/// The bytes before the first space, and those after it; all of them where there is none.
+/// Splits the text at the first space, which is dropped. Without a space, the second part is empty.
 fn cut_at_space(text: &[u8]) -> (&[u8], &[u8])
     ensures words { words_of text.now ≡ with_word result.0.now (words_of result.1.now) }
     ensures shorter { 0 < length text.now → length result.1.now < length text.now }
@@ -63,7 +63,8 @@ fn cut_at_space(text: &[u8]) -> (&[u8], &[u8])
     }
 }
 
-/// The index of the first space: a plain scan of what stands behind runs that have none.
+/// The index of the first space. Runs of 16 bytes without a space are skipped first; the rest is
+/// scanned bytewise.
 fn first_space(text: &[u8]) -> Option<usize>
     ensures { result ≡ position is_space text.now }
 {
@@ -74,14 +75,14 @@ fn first_space(text: &[u8]) -> Option<usize>
     }
 }
 
-/// The index of the first space, byte by byte.
+/// The index of the first space, by a bytewise scan.
 fn first_space_plain(text: &[u8]) -> Option<usize>
     ensures { result ≡ position is_space text.now }
 {
     text.iter().position(|byte| *byte == b' ')
 }
 
-/// How many bytes at the front need no plain scan: runs of 16 without a space, as most of a long key.
+/// Number of bytes at the front, in runs of 16, that contain no space and need no bytewise scan.
 fn front_without_space(text: &[u8]) -> usize
     ensures within { result ≤ length text.now }
     ensures none { list_any is_space (take result text.now) ≡ false }
@@ -93,8 +94,8 @@ fn front_without_space(text: &[u8]) -> usize
     passed
 }
 
-/// Whether a space is among the 16 bytes from there. No byte ends the scan, so that it is compiled to
-/// test all of them at once.
+/// Whether a space is among the 16 bytes from index `from` on. The scan has no early exit, so that
+/// it is vectorized.
 fn has_space(text: &[u8], from: usize) -> bool
     requires { from + RUN ≤ length text.now }
     ensures { result ≡ list_any is_space (take RUN (drop from text.now)) }

@@ -1,4 +1,4 @@
--- One flag after another: what each says, and what was gathered so far.
+-- Parsing one flag after another: what each means, and the state so far.
 use Rattle.std.specs.Prelude.{ℕ, ◌≡◌, ◌+◌, ◌==◌, ◌^◌, Bool, true, false, not, List, [], ◌∷◌, ◌++◌, length, Option, Some, None, nat_lt, codes, if◌then◌else◌, Result, Ok, Err, replicate, slice_index_or, slice_set}
 use Rattle.std.specs.Option.{ok_or, option_map}
 use Rattle.std.specs.Str.{byte}
@@ -18,7 +18,7 @@ use Rattle.mc_command.specs.declared.rules.Rules.{Rules}
 use Rattle.mc_command.specs.Field.{then_of}
 use Rattle.mc_command.specs.Meta.{letters_by, is_among, mode_of, direction_of, return_flag}
 
--- what no flags ask, where the reply follows the rules of this profile
+-- the state without flags, for a reply under this profile's rules
 abbrev pub nothing_asked : Profile → FlagsRead
 nothing_asked profile = record {
   flags = record { base64 = false; quiet = false; profile = profile; returned = []; opaque = [] };
@@ -45,7 +45,7 @@ mode_flag other token = Err BadFormat
 abbrev pub opaque_flag : List ℕ → Result Flag Refusal
 opaque_flag token = if nat_lt OPAQUE_LIMIT (length token) then Err OpaqueTooLong else Ok (flag.Opaque token)
 
--- what a flag says beside that it is given back
+-- the meaning of a flag besides being returned
 abbrev pub flag_of : MetaKind → ℕ → List ℕ → Result Flag Refusal
 flag_of name letter token =
     if letter == byte "b" then Ok flag.Base64
@@ -65,7 +65,7 @@ flag_of name letter token =
     else (if letter == byte "F" then ok_or (option_map flag.ClientFlags (number_of (2 ^ 32) token)) BadFormat
     else Ok flag.Bare))))))))))))))
 
--- with what a flag says
+-- the state with the meaning of a flag
 abbrev pub with_flag : FlagsRead → Flag → FlagsRead
 with_flag asked flag.Base64 = record asked { flags = record asked.flags { base64 = true } }
 with_flag asked flag.Quiet = record asked { flags = record asked.flags { quiet = true } }
@@ -85,7 +85,7 @@ with_flag asked (flag.Initial number) = record asked { initial = Some number }
 with_flag asked (flag.ClientFlags flags) = record asked { client_flags = Some flags }
 with_flag asked flag.Bare = asked
 
--- with a flag given back, where there is one
+-- the state with one more returned flag, if there is one
 abbrev pub with_shown : FlagsRead → Option ReturnFlag → FlagsRead
 with_shown asked None = asked
 with_shown asked (Some shown) = record asked { flags = record asked.flags { returned = asked.flags.returned ++ shown ∷ [] } }
@@ -95,16 +95,16 @@ abbrev pub seen_count : List Bool → List ℕ → ℕ
 seen_count seen [] = 0
 seen_count seen (letter ∷ letters) = (if slice_index_or seen letter false then 1 else 0) + seen_count seen letters
 
--- how many letters of flags that are given back were seen
+-- how many letters of returned flags were seen
 unfoldable pub shown_count : List Bool → ℕ
 shown_count seen = seen_count seen (codes "cfhklOst")
 
--- As many flags are given back as letters of such flags were seen.
+-- There are as many returned flags as letters of such flags were seen.
 pub record CountsFlags (reader : FlagReader) : Type 0 where
   pub wide : length reader.seen ≡ 256
   pub shown : length reader.asked.flags.returned ≡ shown_count reader.seen
 
--- with one flag more
+-- the state with one more flag
 abbrev pub with_word : Rules → MetaKind → FlagReader → List ℕ → Result FlagReader Refusal
 with_word rules name reader [] = Err InvalidFlag
 with_word rules name reader (letter ∷ token) =

@@ -1,4 +1,4 @@
--- What the flags of a line ask, those of every command together, and what each command makes of it.
+-- The flags of a line, those of all commands together, and the command that is made of them.
 use Rattle.std.specs.Prelude.{ℕ, ℤ, pos, ◌^◌, List, [], Option, None, unwrap_or, option_and_then, Result, Ok}
 use Rattle.std.specs.Option.{option_map}
 use Rattle.std.specs.Str.{byte}
@@ -21,25 +21,25 @@ use Rattle.mc_command.specs.declared.rules.Rules.{Rules}
 use Rattle.mc_command.specs.Field.{exptime_by}
 use Rattle.mc_command.specs.Meta.{compare_by, compare_refusal, direction_of, flags_of, has_flag, mode_of, token_of, unless, unsigned_token, vivify_of}
 
--- the signed number that a flag's token gives
+-- the signed number in a flag's token
 abbrev pub signed_token : ℕ → List (List ℕ) → Option ℤ
 signed_token letter words = option_and_then integer_of (token_of letter words)
 
--- the exptime, or the seconds, that a token gives
+-- the exptime, or the seconds, in a token
 abbrev pub exptime_in : Rules → Option ℤ → Option ℤ
 exptime_in rules token = option_map (exptime_by rules) token
 
--- the mode that a token gives in `ms`
+-- the mode of `ms` in a token
 abbrev pub mode_in : MetaKind → Option (List ℕ) → Option StoreMode
 mode_in Set token = option_and_then mode_of token
 mode_in other token = None
 
--- the mode that a token gives in `ma`
+-- the mode of `ma` in a token
 abbrev pub direction_in : MetaKind → Option (List ℕ) → Option Direction
 direction_in Arithmetic token = option_and_then direction_of token
 direction_in other token = None
 
--- all that the flags of a line may ask, each by a look-up
+-- all flags of a line, each by a lookup
 abbrev pub asked_of : Rules → MetaKind → List (List ℕ) → FlagsRead
 asked_of rules name words = record {
   flags = flags_of rules.profile words;
@@ -58,7 +58,7 @@ asked_of rules name words = record {
   direction = direction_in name (token_of (byte "M") words);
 }
 
--- what each command makes of them, with the defaults of flags that do not stand there
+-- the command made of the flags, with the defaults of missing ones
 
 abbrev pub get_by : Rules → List ℕ → FlagsRead → MetaGet
 get_by rules key asked = record {

@@ -1,44 +1,44 @@
-//! What a row of a test asks of a shard, as plain data.
+//! Operations of test rows, as plain data.
 use mc_command::{Direction, MetaCount, MetaFetch, MetaRemoval, StoreMode, StoreRequest, Vivify};
 use mc_item::{NoMemory, Op, Value};
 use mc_wire::{GREATEST_VALUE_LIMIT, Key, WireFault};
 use std::alloc::Global;
 
-/// What is asked of the item under a key.
+/// An operation on the item of a key.
 #[derive(Clone, Copy)]
 pub enum Ask {
-    /// `set` for good.
+    /// `set` without an exptime.
     Set(&'static str),
     /// `set` with an exptime.
     SetFor(i64, &'static str),
     /// `set` with the flags 3 and the exptime 30.
     Flagged(&'static str),
-    /// `set` of a given number of bytes `x`.
+    /// `set` of this number of bytes `x`.
     Long(usize),
-    /// The same with an exptime.
+    /// `set` of this number of bytes `x`, with an exptime.
     LongFor(i64, usize),
     Put(StoreMode, &'static str),
     Cas(u64, &'static str),
-    /// The same of a given number of bytes `x`.
+    /// A storage command of this mode, with this number of bytes `x`.
     LongPut(StoreMode, usize),
     Get,
     Gat(i64),
     Count(Direction, u64),
     Delete,
     Touch(i64),
-    /// Of the whole shard, whatever the key.
+    /// `flush_all` of the whole shard, whatever the key.
     Flush(i64),
     Stats,
     ResetStats,
-    /// `mg`, with its flags `T`, `N` and `R`.
+    /// `mg` with its flags `T`, `N` and `R`.
     Mg(Option<i64>, Option<i64>, Option<i64>),
-    /// `ms` with the flags 9 and the exptime 99, with its flag `C`.
+    /// `ms` with flags 9, exptime 99 and its flag `C`.
     Ms(StoreMode, Option<u64>, &'static str),
     /// `ms` with its flag `E`.
     MsAs(u64, &'static str),
-    /// `md`, with its flag `C`, and whether `I` stands.
+    /// `md` with its flag `C`, and whether `I` is set.
     Md(Option<u64>, bool),
-    /// `md` with its flag `E`, and whether `I` stands.
+    /// `md` with its flag `E`, and whether `I` is set.
     MdAs(u64, bool),
     /// `ma` that adds, with its flags `C`, `D`, and `N` with `J`.
     Ma(Option<u64>, u64, Option<Vivify>),
@@ -46,10 +46,10 @@ pub enum Ask {
     MaAs(u64, Option<Vivify>),
 }
 
-/// A moment, a key, what is asked then, and what is shown of the answer.
+/// A Unix time, a key, the operation, and the expected answer as text.
 pub type Row = (u64, &'static str, Ask, &'static str);
 
-/// The text that is asked to be stored.
+/// The text to store.
 fn text_of(ask: Ask) -> &'static str {
     match ask {
         Ask::Set(text)
@@ -103,7 +103,7 @@ fn swapped(key: Key, value: Value, unique: u64) -> Op {
     })
 }
 
-/// `ms` with the flags 9 and the exptime 99.
+/// `ms` with flags 9 and exptime 99.
 fn meta_stored(
     key: Key,
     value: Value,
@@ -122,7 +122,7 @@ fn meta_stored(
     })
 }
 
-/// An operation that stores a value; any other one gives its key back.
+/// An operation that stores a value; for any other one the key is returned.
 fn storing(key: Key, value: Value, ask: Ask) -> Result<Op, Key> {
     match ask {
         Ask::Set(_) | Ask::Long(_) => Ok(stored(key, value, StoreMode::Set, 0, 0)),
@@ -166,7 +166,7 @@ fn meta_counted(
     })
 }
 
-/// An operation that takes no value.
+/// An operation without a value.
 fn reading(key: Key, ask: Ask) -> Op {
     match ask {
         Ask::Gat(exptime) => Op::Fetch {
@@ -198,7 +198,7 @@ fn reading(key: Key, ask: Ask) -> Op {
     }
 }
 
-/// The operation, with its own key and value.
+/// The operation with this key, and with its own value.
 pub fn op_of(alloc: Global, word: &str, ask: Ask) -> Result<Op, WireFault> {
     let key = Key::from_word(alloc, word.as_bytes())?;
     let Ok(value) = value_of(alloc, ask) else {

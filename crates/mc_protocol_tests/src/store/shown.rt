@@ -1,8 +1,8 @@
-//! An answer of a shard as a short text.
+//! The answer of a shard as a short text.
 use mc_item::{Answer, CountedAs, Marks, MetaDone, MetaHit, Stats, Status, Tally, Value};
 use std::alloc::{AllocError, Global};
 
-/// The bytes of a value as text, or its length where it is long.
+/// The bytes of a value as text, or its length if it is long.
 fn text(alloc: Global, value: &Value) -> Result<String, AllocError> {
     if value.len() > 40 {
         return format!(in alloc; "{} bytes", value.len());
@@ -48,7 +48,7 @@ fn done_text(alloc: Global, done: &MetaDone) -> Result<String, AllocError> {
     format!(in alloc; "c{} s{} {left} {}", done.unique, done.size, done.number)
 }
 
-/// The hits and the misses of a kind.
+/// The hits and misses of a kind.
 fn counted_text(
     alloc: Global,
     name: &str,
@@ -100,7 +100,7 @@ fn fetched_text(
     format!(in alloc; "{flags} {unique} {value}")
 }
 
-/// What is shown of the answer.
+/// The answer as text.
 pub fn shown(alloc: Global, answer: &Answer) -> Result<String, AllocError> {
     match answer {
         Answer::Hit {

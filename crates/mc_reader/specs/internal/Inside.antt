@@ -1,4 +1,4 @@
--- What a reader is inside, by its rules, what it was fed and what it gave.
+-- The inside of a reader, by its rules, its input and the commands that it returned.
 use Rattle.std.specs.Prelude.{ℕ, ◌≡◌, ◌+◌, ◌<◌, Bool, List, length, MatchBool}
 use Rattle.std.specs.List.{AllByRecursion}
 use Rattle.mc_reader.specs.declared.reader.Reader.{Reader}
@@ -7,8 +7,8 @@ use Rattle.mc_reader.specs.Spelling.{Given, MayBeGiven, SpellsFront, entries_of,
 use Rattle.mc_reader.specs.internal.State.{Holds}
 use Rattle.mc_command.specs.declared.rules.Rules.{Rules}
 
--- The bytes fed spell the commands given, and what follows them is unread. Where the last of them closes the
--- stream, nothing more is read; else the reader's state is what the unread bytes are.
+-- The input starts with the texts of the commands returned, and what follows them is unread. If the last one
+-- closes the stream, nothing more is read; otherwise the reader's state describes the unread bytes.
 pub record HasGiven (reader : Reader) (rules : Rules) (fed : List ℕ) (ended : Bool) (given : List Given) : Type 0 where
   pub unread : List ℕ
   pub rules_are : reader.rules ≡ rules

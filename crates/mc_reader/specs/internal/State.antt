@@ -1,4 +1,4 @@
--- What the unread bytes of a stream are, by the state of its reader.
+-- The unread bytes of a stream, by the reader's state.
 use Rattle.std.specs.Prelude.{ℕ, ◌≡◌, ◌+◌, ◌<◌, ◌≤◌, Bool, true, false, List, [], ◌∷◌, ◌++◌, length, Option, Some, None, nat_lt}
 use Rattle.mc_command.specs.declared.command.Command.{Command}
 use Rattle.mc_command.specs.declared.refusal.Refusal.{Refusal}
@@ -9,7 +9,7 @@ use Rattle.mc_reader.specs.declared.state.State.TheVariants as state
 use Rattle.mc_reader.specs.Spelling.{Given, IsGiven, HasNoEnd, Spells, line_says}
 use Rattle.mc_command.specs.declared.rules.Rules.{Rules}
 
--- the given number of bytes stands before the first line feed
+-- the given number of bytes is before the first line feed
 pub record IsFirstLine (bytes : List ℕ) (long : ℕ) : Type 0 where
   pub line : List ℕ
   pub rest : List ℕ
@@ -22,7 +22,7 @@ abbrev pub EndsAt : List ℕ → Option ℕ → Type 0
 EndsAt bytes None = HasNoEnd bytes
 EndsAt bytes (Some long) = IsFirstLine bytes long
 
--- The unread bytes spell what is shown, and then come the others.
+-- The unread bytes are the text of this command, followed by the others.
 pub record IsWhole (rules : Rules) (shown : Command) (others unread : List ℕ) : Type 0 where
   pub text : List ℕ
   pub one : Given
@@ -30,7 +30,7 @@ pub record IsWhole (rules : Rules) (shown : Command) (others unread : List ℕ) 
   pub spelled : Spells rules text one.entry
   pub given : IsGiven shown one
 
--- A beginning of the bytes spells something.
+-- A prefix of the bytes denotes a command.
 abbrev pub SpellsSomething : Rules → List ℕ → Type 0
 SpellsSomething rules bytes = (text after : List ℕ) × (entry : Command) × (bytes ≡ text ++ after) × Spells rules text entry
 
@@ -43,7 +43,7 @@ pub record IsInBlock (rules : Rules) (asked : Command) (count : ℕ) (bytes othe
   pub unread_are : unread ≡ line ++ 10 ∷ (bytes ++ others)
   pub behind : length bytes < count + 2 → others ≡ []
 
--- The unread bytes are a line that is refused, all but the last left of the bytes that are skipped, and then the others.
+-- The unread bytes are a refused line, the skipped bytes but for the last `left` ones, and the others.
 pub record IsInSkip (rules : Rules) (discarded : Option (List ℕ)) (refusal : Refusal) (left : ℕ) (others unread : List ℕ) : Type 0 where
   pub line : List ℕ
   pub skipped : List ℕ
@@ -53,24 +53,24 @@ pub record IsInSkip (rules : Rules) (discarded : Option (List ℕ)) (refusal : R
   pub unread_are : unread ≡ line ++ 10 ∷ (skipped ++ others)
   pub behind : 0 < left → others ≡ []
 
--- What is unread, by the state and the bytes of the buffer.
+-- The unread bytes, by the state and the bytes of the buffer.
 abbrev pub Holds : Rules → State → List ℕ → List ℕ → Type 0
 Holds rules (state.Line long) buffer unread = (unread ≡ buffer) × (length buffer ≤ rules.line_limit) × EndsAt buffer long
 Holds rules (state.Block block) buffer unread = IsInBlock rules block.command block.count block.bytes.items buffer unread
 Holds rules (state.Skip skipped) buffer unread = IsInSkip rules skipped.discarded skipped.refusal skipped.left buffer unread
 Holds rules state.Closed buffer unread = ⊥
 
--- a line end that was found stands in the bytes
+-- a line end that was found is within the bytes
 abbrev pub fits_in : Option ℕ → List ℕ → Bool
 fits_in None bytes = true
 fits_in (Some long) bytes = nat_lt long (length bytes)
 
--- the line that was found stands in the buffer
+-- the line that was found is within the buffer
 abbrev pub line_fits : State → List ℕ → Bool
 line_fits (state.Line long) buffer = fits_in long buffer
 line_fits other buffer = true
 
--- More bytes are needed: no line is whole of as many as a line may have, or the bytes behind it have not all come.
+-- More bytes are needed: there is no complete line within the limit, or the bytes behind it are incomplete.
 abbrev pub Waits : ℕ → State → List ℕ → Type 0
 Waits limit (state.Line None) buffer = length buffer < limit
 Waits limit (state.Line (Some long)) buffer = ⊥
@@ -78,19 +78,19 @@ Waits limit (state.Block block) buffer = length block.bytes.items < block.count 
 Waits limit (state.Skip skipped) buffer = 0 < skipped.left
 Waits limit state.Closed buffer = ⊥
 
--- What is awaited is no line that was found already.
+-- The state isn't a line that was found already.
 abbrev pub is_opened : State → Bool
 is_opened (state.Line (Some long)) = false
 is_opened other = true
 
--- All that a state awaits has come, or a line has as many bytes as one may have.
+-- Everything that a state waits for has come, or a line has reached the limit.
 abbrev pub Completes : ℕ → State → List ℕ → Type 0
 Completes limit (state.Line long) buffer = length buffer ≡ limit
 Completes limit (state.Block block) buffer = block.count + 2 ≤ length block.bytes.items
 Completes limit (state.Skip skipped) buffer = skipped.left ≡ 0
 Completes limit state.Closed buffer = ⊥
 
--- how many bytes of a block have come
+-- the number of bytes received of a block
 abbrev pub held_in : State → ℕ
 held_in (state.Block block) = length block.bytes.items
 held_in other = 0

@@ -1,4 +1,4 @@
--- What a walk over the parts of a text has not given yet.
+-- The parts that an iterator has not returned yet.
 use Rattle.std.specs.Prelude.{ℕ, List, []}
 use Rattle.std.specs.Option.{option_map_or}
 use Rattle.mc_replay.specs.Text.{parts_of}

@@ -1,4 +1,4 @@
--- The texts of replies over slots, some of which may be empty still: an empty slot shows nothing.
+-- The texts of replies over slots, some of which may still be empty: an empty slot has no text.
 use Rattle.std.specs.Prelude.{ℕ, ◌%◌, ◌^◌, Bool, true, false, List, [], ◌∷◌, ◌++◌, length, codes, decimal, Option, Some, None, if◌then◌else◌}
 use Rattle.std.specs.List.{concat, flat_map, list_any, sum_by}
 use Rattle.mc_item.specs.declared.answer.Answer.{Answer}
@@ -9,7 +9,7 @@ use Rattle.mc_item.specs.declared.stat.Stat.{Stat}
 use Rattle.mc_item.specs.Stat.{all_stats, row_of}
 use Rattle.mc_reply.specs.Text.{memory_line, fixed_text, answer_line, is_no_memory, item_text, meta_text, release, stat_in, stat_text, told}
 
--- the line of an answer that is the same in every reply; a number's is not
+-- the fixed line of an answer; a number has none
 abbrev pub fixed_line : Answer → List ℕ
 fixed_line (Number number) = []
 fixed_line answer = answer_line answer
@@ -54,7 +54,7 @@ sums_text slots = flat_map (sum_line slots) all_stats
 abbrev pub stats_over : List (Option Answer) → List ℕ
 stats_over slots = concat (stat_text (codes "version") release ∷ sums_text slots ∷ stat_text (codes "threads") (decimal (length slots)) ∷ codes "END\r\n" ∷ [])
 
--- a slot's answer says that memory ran out
+-- a slot's answer is "out of memory"
 abbrev pub lacks_memory : Option Answer → Bool
 lacks_memory None = false
 lacks_memory (Some answer) = is_no_memory answer

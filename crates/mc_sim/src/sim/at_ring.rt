@@ -1,4 +1,4 @@
-//! The events of the rings: pieces go to the shards and are run there, replies come back.
+//! Events of the rings: pieces are sent to shards and run, replies are returned.
 ghost use Rattle.mc_sim.specs.Stands.{StepsByEvent};
 ghost use Rattle.mc_model.specs.Events.Event.{Send, Pop, Give, Receive};
 
@@ -7,7 +7,7 @@ use mc_model::StepReply;
 use std::alloc::Global;
 
 impl Sim {
-    /// The oldest piece that has not left goes to its shard's ring.
+    /// Sends the slot's oldest unsent piece to its shard's ring.
     pub(crate) fn send(&mut self, seat: usize) -> StepReply
         ensures { StepsByEvent self.old (Send seat) result self.new }
     {
@@ -26,7 +26,7 @@ impl Sim {
         }
     }
 
-    /// The shard takes the oldest piece that the seat sent, and runs it.
+    /// The shard takes the oldest piece that the slot sent, and runs it.
     pub(crate) fn pop(&mut self, alloc: Global, shard: usize, seat: usize) -> StepReply
         ensures { StepsByEvent self.old (Pop shard seat) result self.new }
     {
@@ -52,7 +52,7 @@ impl Sim {
         StepReply::Done
     }
 
-    /// The shard gives the reply in its worker's hand.
+    /// The shard sends the reply that its worker holds.
     pub(crate) fn give(&mut self, alloc: Global, shard: usize) -> StepReply
         ensures { StepsByEvent self.old (Give shard) result self.new }
     {
@@ -63,7 +63,7 @@ impl Sim {
         }
     }
 
-    /// The seat receives the oldest reply that the shard gave it.
+    /// The slot receives the oldest reply that the shard sent to it.
     pub(crate) fn receive(&mut self, seat: usize, shard: usize) -> StepReply
         ensures { StepsByEvent self.old (Receive seat shard) result self.new }
     {
@@ -73,7 +73,7 @@ impl Sim {
         let Some(reply) = self.rings.receive(seat, shard) else {
             return StepReply::Idle;
         };
-        // What was received is the answer to a piece of an open command, so it is accepted.
+        // Can't fail: the reply answers a piece of an open command.
         let _ = self.seats[seat].conn.accept(reply);
         StepReply::Done
     }

@@ -1,4 +1,4 @@
-//! The events of a connection: bytes in, commands taken, replies out, and its beginning and end.
+//! Events of a connection: open, bytes in, commands parsed, replies out, end and failure.
 ghost use Rattle.std.specs.Prelude.{◌≡◌, ◌<◌, ◌≤◌, ◌+◌, ◌↔◌, false, IsTrue, length};
 ghost use Rattle.mc_conn.specs.Conn.{IfConn};
 ghost use Rattle.mc_conn.specs.Told.{IsAllTaken, IsOpen, waiting_text};
@@ -13,7 +13,7 @@ use mc_model::StepReply;
 use std::alloc::Global;
 
 impl Sim {
-    /// No more bytes come.
+    /// Ends the input.
     pub(crate) fn end(&mut self, seat: usize) -> StepReply
         ensures { StepsByEvent self.old (End seat) result self.new }
     {
@@ -28,7 +28,7 @@ impl Sim {
         StepReply::Done
     }
 
-    /// The connection breaks.
+    /// The connection fails.
     pub(crate) fn cut(&mut self, seat: usize) -> StepReply
         ensures { StepsByEvent self.old (Break seat) result self.new }
     {
@@ -43,7 +43,7 @@ impl Sim {
         StepReply::Done
     }
 
-    /// The next command is taken.
+    /// Parses the next command.
     pub(crate) fn take(&mut self, alloc: Global, seat: usize, moment: u64) -> StepReply
         ensures { StepsByEvent self.old (Take seat moment) result self.new }
     {
@@ -58,7 +58,7 @@ impl Sim {
         }
     }
 
-    /// A new connection begins on the seat.
+    /// Opens a new connection on the slot.
     pub(crate) fn begin(&mut self, alloc: Global, seat: usize) -> StepReply
         ensures { StepsByEvent self.old (Open seat) result self.new }
     {
@@ -85,7 +85,7 @@ impl Sim {
         StepReply::Done
     }
 
-    /// Bytes come in.
+    /// Feeds bytes.
     pub(crate) fn feed(&mut self, alloc: Global, seat: usize, bytes: &[u8]) -> StepReply
         ensures { StepsByEvent self.old (Feed seat bytes.now) result self.new }
     {
@@ -100,7 +100,7 @@ impl Sim {
         feed_into(alloc, &mut place.conn, &mut kept.fed, bytes)
     }
 
-    /// All replies whose turn has come go out.
+    /// Writes all replies that are due.
     pub(crate) fn hand(&mut self, alloc: Global, seat: usize) -> StepReply
         ensures { StepsByEvent self.old (Hand seat) result self.new }
     {
@@ -116,21 +116,22 @@ impl Sim {
     }
 }
 
-/// Whether a seat has had no connection, or its connection may be followed by another one.
+/// Whether the slot has had no connection, or its connection may be replaced.
 fn may_begin(place: &Seat) -> bool
     ensures { IfConn place.now.conn (λ told. IsTrue result ↔ MayBegin told place.now.current) }
 {
     place.current.is_none() || (place.conn.is_at_rest() && place.conn.is_over())
 }
 
-/// Whether a connection may take bytes: it is neither ended nor broken, and there are some.
+/// Whether the connection takes bytes: it has neither ended nor failed, and there are some.
 fn may_take(kept: &Connection, bytes: &[u8]) -> bool
     ensures { IsTrue result ↔ MayTake kept.now bytes.now }
 {
     !kept.ended && !kept.broken && !bytes.is_empty()
 }
 
-/// Feeds a connection, and keeps the bytes that it took behind those before. Room for all of them is made first.
+/// Feeds a connection, and appends the bytes that it took to its input. Memory for all of them is
+/// reserved first.
 fn feed_into(alloc: Global, conn: &mut Conn, fed: &mut Vec<u8>, bytes: &[u8]) -> StepReply
     ensures { FeedsInto conn.old fed.old.items bytes.now result conn.new fed.new.items }
 {
@@ -146,7 +147,7 @@ fn feed_into(alloc: Global, conn: &mut Conn, fed: &mut Vec<u8>, bytes: &[u8]) ->
     StepReply::Done
 }
 
-/// Feeds a connection, and tells how many bytes it took.
+/// Feeds a connection, and returns the number of bytes that it took.
 fn feed_some(alloc: Global, conn: &mut Conn, bytes: &[u8]) -> usize
     ensures within { result ≤ length bytes.now }
     ensures taken { IfConn conn.old (λ told. IsOpen told →
@@ -156,7 +157,8 @@ fn feed_some(alloc: Global, conn: &mut Conn, bytes: &[u8]) -> usize
     conn.feed(bytes)
 }
 
-/// Asks a connection of which all commands are taken for the next one. It finds none, and is ready for more bytes.
+/// Asks a connection whose commands are all parsed for the next one. There is none, so it is ready
+/// for more bytes.
 fn refresh(alloc: Global, conn: &mut Conn)
     ensures { IfConn conn.old (λ told. Refreshed told conn.new) }
 {
@@ -165,14 +167,15 @@ fn refresh(alloc: Global, conn: &mut Conn)
     }
 }
 
-/// Asks a connection of which all commands are taken for the next one.
+/// Asks a connection whose commands are all parsed for the next one.
 fn ask(alloc: Global, conn: &mut Conn)
     ensures { IfConn conn.old (λ told. IsAllTaken told → Refreshed told conn.new) }
 {
     let _ = conn.take(alloc, 0);
 }
 
-/// Hands out all replies whose turn has come, behind the bytes that were handed before. Room for all of them is made first.
+/// Writes all replies that are due, behind the earlier output. Memory for all of them is reserved
+/// first.
 fn hand_out(alloc: Global, conn: &mut Conn, handed: &mut Vec<u8>) -> StepReply
     ensures { HandsInto conn.old handed.old.items result conn.new handed.new.items }
 {
@@ -186,7 +189,7 @@ fn hand_out(alloc: Global, conn: &mut Conn, handed: &mut Vec<u8>) -> StepReply
     }
 }
 
-/// Hands out all replies whose turn has come onto a page, whose bytes are then those handed.
+/// Writes all replies that are due to a page; its bytes become the connection's output.
 fn hand_onto(conn: &mut Conn, page: Page, handed: &mut Vec<u8>) -> StepReply
     ensures { IfConn conn.old (λ told. told.broken ≡ false → page.failed ≡ false →
         length page.bytes.items + length (waiting_text told) < page.limit →
@@ -197,7 +200,7 @@ fn hand_onto(conn: &mut Conn, page: Page, handed: &mut Vec<u8>) -> StepReply
     *handed = page.into_bytes();
     match result {
         Ok(_) => StepReply::Done,
-        // The page has room for all of it, so this is never reached.
+        // Never reached: the page has space for all of it.
         Err(_) => StepReply::NoMemory,
     }
 }

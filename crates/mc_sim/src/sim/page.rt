@@ -1,13 +1,13 @@
-//! Where a connection's replies are kept: a page that holds at most `limit` bytes.
+//! The sink of a simulated connection's replies: a buffer of at most `limit` bytes.
 ghost use Rattle.std.specs.Prelude.{◌≡◌, ◌≤◌, ◌+◌, ◌<◌, ◌^◌, IsTrue, IfOk, IfErr, false, length, vec_capacity};
 
 use mc_wire::{OutFault, Outlet};
 
-/// Bytes, and room for more without memory. It takes what fits, and fails only where it is full.
+/// A buffer with reserved capacity. It takes what fits, and fails only if it is full.
 #[derive(Drop)]
 pub(crate) struct Page {
     pub(crate) bytes: Vec<u8>,
-    /// The most bytes that it holds.
+    /// Maximum number of bytes.
     pub(crate) limit: usize,
     pub(crate) failed: bool,
     ghost room: { limit ≤ vec_capacity bytes },
@@ -19,7 +19,7 @@ impl Outlet for Page {
     ghost use Rattle.std.specs.Prelude.{None};
     ghost use Rattle.mc_wire.specs.Outlet.{Counted, Listed};
 
-    // It is never read, so what was read of it stays as it is: its limit stands there.
+    // A page isn't read from; the history of its input holds its limit instead.
     ghost sight = { λ page.
         record {
           given = Counted page.limit;
@@ -43,7 +43,8 @@ impl Outlet for Page {
 }
 
 impl Page {
-    /// A page of these bytes, with room for `more` + 1 bytes behind them. `Err`: memory ran out, and these are the bytes.
+    /// A page with these bytes, and capacity for `more` + 1 further ones. `Err` returns the bytes:
+    /// memory was refused.
     pub(crate) fn with_room(bytes: Vec<u8>, more: u64) -> Result<Page, Vec<u8>>
         ensures bytes { IfOk result (λ page. page.bytes.items ≡ bytes.items) }
         ensures limit { IfOk result (λ page. page.limit ≡ length bytes.items + more + 1) }
@@ -69,7 +70,7 @@ impl Page {
         })
     }
 
-    /// The bytes on it.
+    /// The bytes of the page.
     pub(crate) fn into_bytes(self) -> Vec<u8>
         ensures { result.items ≡ self.bytes.items }
     {

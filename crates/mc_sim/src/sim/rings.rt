@@ -1,5 +1,6 @@
-//! The rings between all seats and all shards, with the workers of the shards, in one thread. Each call is one push or one
-//! pop, and tells whether it was made; none takes memory but the making and what a shard needs for its items.
+//! All rings between slots and shards, with the shards' workers, in one thread. Each call is one
+//! push or pop, and returns whether it was done. Only construction and the shards' items take
+//! memory.
 ghost use Rattle.std.specs.Prelude.{◌≡◌, ◌↔◌, ◌<◌, IfOk, IfErr, IfSome, IfNone, IsTrue, None, Some, false, length, map, true, ℕ};
 ghost use Rattle.std.specs.List.{AllByRecursion, slice_get};
 ghost use Rattle.mc_sizes.specs.Sizes.{AreWithin};
@@ -20,21 +21,21 @@ use std::alloc::{AllocError, Global};
 use std::marker::Model;
 use std::random::RandomSource;
 
-/// What a shard ran.
+/// An operation that a shard ran.
 #[derive(Clone, Copy)]
 pub(crate) struct Ran {
     pub(crate) ticket: Ticket,
     pub(crate) part: usize,
-    /// The moment of the piece, in seconds since 1970.
+    /// The time of the piece, in seconds since 1970.
     pub(crate) moment: u64,
 }
 
-/// The seats' ends of all lanes, and the workers with the shards' ends.
+/// The slots' ends of all channels, and the workers with the shards' ends.
 #[derive(Drop)]
 pub(crate) struct Rings {
     seats: Vec<SeatEnds>,
     workers: Vec<Worker>,
-    /// The places of one ring.
+    /// Capacity of each ring.
     places: usize,
 }
 
@@ -57,7 +58,7 @@ impl Model for Rings {
 }
 
 impl Rings {
-    /// The rings and the workers of empty shards, of these sizes, each within its limits.
+    /// Rings, and workers of empty shards, for these sizes, which must be in range.
     pub(crate) fn new<R: RandomSource>(
         rt: &R,
         alloc: Global,
@@ -78,7 +79,7 @@ impl Rings {
         })
     }
 
-    /// How many shards there are.
+    /// Number of shards.
     pub(crate) fn shards(&self) -> usize
         ensures { (sizes : Sizes) (wires : Wires) → AreWired sizes self.now wires →
             result ≡ sizes.shards }
@@ -86,7 +87,7 @@ impl Rings {
         self.workers.len()
     }
 
-    /// Sends a piece of a seat to a shard, or hands it back where the ring is full.
+    /// Sends a piece from a slot to a shard. If the ring is full, the piece is returned.
     pub(crate) fn send(&mut self, seat: usize, shard: usize, piece: Piece) -> Result<(), Piece>
         ensures sent { IfOk result (λ _.
             (sizes : Sizes) (wires : Wires) → AreWired sizes self.old wires →
@@ -109,7 +110,7 @@ impl Rings {
         Ok(())
     }
 
-    /// Whether a shard may run a piece of a seat now: the worker's hand is empty, and one waits.
+    /// Whether a shard can run a piece of a slot now: its worker holds no reply, and a piece waits.
     pub(crate) fn waits(&mut self, shard: usize, seat: usize) -> bool
         ensures { (sizes : Sizes) (wires : Wires) → AreWired sizes self.old wires →
             TellsWaiting sizes wires shard seat result self.new }
@@ -124,7 +125,8 @@ impl Rings {
         self.workers[shard].holder().is_none()
     }
 
-    /// Takes the oldest piece of a seat and runs it on the shard, where the worker's hand is empty and one waits.
+    /// Takes the slot's oldest piece and runs it on the shard, if the worker holds no reply and a
+    /// piece waits.
     pub(crate) fn pop(&mut self, alloc: Global, shard: usize, seat: usize) -> Option<Ran>
         ensures ran { IfSome result (λ ran.
             (sizes : Sizes) (wires : Wires) → AreWired sizes self.old wires →
@@ -158,7 +160,8 @@ impl Rings {
         None
     }
 
-    /// Gives the reply in a worker's hand to its seat, where there is one and the ring has room, and tells whether it did.
+    /// Sends the reply that a worker holds to its slot, if there is one and the ring has space.
+    /// Returns whether it did.
     pub(crate) fn give(&mut self, alloc: Global, shard: usize) -> bool
         ensures given { IsTrue result → (sizes : Sizes) (wires : Wires) →
             AreWired sizes self.old wires → GivesReply sizes wires shard self.new }
@@ -184,7 +187,7 @@ impl Rings {
         false
     }
 
-    /// Receives the oldest reply of a shard for a seat, where one waits.
+    /// Receives the shard's oldest reply for a slot, if one waits.
     pub(crate) fn receive(&mut self, seat: usize, shard: usize) -> Option<Reply>
         ensures received { IfSome result (λ reply.
             (sizes : Sizes) (wires : Wires) → AreWired sizes self.old wires →
@@ -203,14 +206,14 @@ impl Rings {
         self.seats[seat].receive(shard)
     }
 
-    /// Whether there are such a seat and such a shard.
+    /// Whether slot and shard exist.
     fn has(&self, seat: usize, shard: usize) -> bool
         ensures { IsTrue result ↔ AreIn self.now seat shard }
     {
         seat < self.seats.len() && shard < self.workers.len()
     }
 
-    /// How many pieces and how many replies wait on the lane of a seat and a shard.
+    /// Number of pieces and of replies in the rings between a slot and a shard.
     fn look(&mut self, seat: usize, shard: usize) -> (usize, usize)
         requires { AreIn self.old seat shard }
         ensures { LooksAt seat shard self.old self.new result.0 result.1 }
@@ -220,7 +223,7 @@ impl Rings {
     }
 }
 
-/// The workers for these ends, each over an empty shard.
+/// A worker with an empty shard for each of these ends.
 fn all_workers<R: RandomSource>(
     rt: &R,
     alloc: Global,
@@ -242,7 +245,7 @@ fn all_workers<R: RandomSource>(
     Ok(workers)
 }
 
-/// A worker for these ends, over an empty shard.
+/// A worker with an empty shard for these ends.
 fn worker<R: RandomSource>(
     rt: &R,
     alloc: Global,

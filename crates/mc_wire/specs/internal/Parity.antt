@@ -1,6 +1,6 @@
--- The lowest bits of bytes together.
+-- The parity of the bytes' lowest bits.
 use Rattle.std.specs.Prelude.{ℕ, ◌%◌, List, fold, bit_xor}
 
--- whether the lowest bit is set in an even number of the bytes: then 1, else 0
+-- 1 if the lowest bit is set in an even number of the bytes, else 0
 abbrev pub parity_of : List ℕ → ℕ
 parity_of bytes = fold bit_xor 1 bytes % 2

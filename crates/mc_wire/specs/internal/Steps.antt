@@ -1,4 +1,4 @@
--- What the steps of reading words and numbers give.
+-- Steps of parsing words and numbers.
 use Rattle.std.specs.Prelude.{ℕ, ◌+◌, ◌*◌, ◌^◌, ◌&&◌, List, [], ◌∷◌, Option, Some, None, nat_lt, if◌then◌else◌, ℤ, pos, neg_ℤ}
 use Rattle.std.specs.Char.{digit_value, is_ascii_digit}
 
@@ -7,13 +7,13 @@ abbrev pub with_word : List ℕ → List (List ℕ) → List (List ℕ)
 with_word [] words = words
 with_word (byte ∷ bytes) words = (byte ∷ bytes) ∷ words
 
--- the value of one more digit, where it is one and 64 bits have room
+-- the value with one more digit, if it is a digit and the result fits in 64 bits
 abbrev pub with_digit : ℕ → ℕ → Option ℕ
 with_digit value digit =
     if is_ascii_digit digit && nat_lt (value * 10 + digit_value digit) (2 ^ 64)
     then Some (value * 10 + digit_value digit) else None
 
--- the integer so far below zero, and above, where signed 64 bits have room
+-- the integer with this magnitude below zero, or above, if it fits in signed 64 bits
 abbrev pub negative : ℕ → Option ℤ
 negative size = if nat_lt size (2 ^ 63 + 1) then Some (neg_ℤ (pos size)) else None
 

@@ -1,4 +1,5 @@
--- The first word is the name, and as many bytes follow as the words behind it announce; a line without a name has none.
+-- The first word is the name, and as many bytes follow as the words behind it announce; a line without a name
+-- has none.
 use Rattle.std.proofs.Common.{◌≡◌, ℕ, List, Option, Some, None, Bor, sym, ap, ◌∙◌}
 use Rattle.std.specs.Prelude.{MatchOption}
 use Rattle.mc_wire.specs.Words.{words_left, words_of}
@@ -12,7 +13,8 @@ use Rattle.mc_command.proofs.Behind.{behind_shown}
 use Rattle.mc_command.proofs.StorageLines.{Steps}
 use Rattle.mc_command.proofs.announced.announced_bytes_under.Goals as goal
 
--- The first step of a walk over a line's words finds its name, if it has one, and leaves the words behind the name.
+-- The first step of a walk over a line's words finds its name, if it has one, and leaves the words behind the
+-- name.
 behind_line : (rules : Rules) (line words rest : List (List ℕ)) (found : Option (Bor (List ℕ))) (named : Option CommandName) →
     words ≡ line → Steps words found rest → MatchOption found (named ≡ None) (λ word. named ≡ name_of word.now) → bytes_behind (line_if_named rules named rest) ≡ bytes_behind (line_of rules line)
 unfolding line_of

@@ -1,4 +1,4 @@
--- What the words say is what those that are left say, behind the last one.
+-- The result for the words is that for the remaining ones, after the last one.
 use Rattle.std.proofs.Common.{◌≡◌, false}
 use Rattle.mc_wire.specs.Words.{words_left}
 use Rattle.mc_command.proofs.Hidings.{noreply_from}

@@ -1,4 +1,5 @@
--- The rows before the one that is read have other words, so what the word finds in the table it finds in that row or behind it.
+-- The rows before the one that is read have other words, so what the word finds in the table it finds in that
+-- row or behind it.
 use Rattle.std.proofs.Common.{◌≡◌, ℕ, ◌+◌, ◌<◌, cond, List, ◌∷◌, length, get_or, drop, Option, Some, Bor, sym, ap, ◌∙◌}
 use Rattle.std.proofs.lemmas.List.{at_drop_all, at_drop_more}
 use Rattle.std.specs.Map.{lookup}
@@ -10,7 +11,8 @@ use Rattle.mc_command.proofs.table.find_word.Goals as goal
 abbrev found_in : {X : Type 0} → List ℕ → List (Bor (List ℕ) × X) → Option X
 found_in word rows = lookup (bytes_eq word) (rows_of rows)
 
--- What a word finds in the rows from some place on is in the row there, where that has this word, or in the rows behind it.
+-- What a word finds in the rows from some place on is in the row there, where that has this word, or in the
+-- rows behind it.
 found_from : {X : Type 0} (word : List ℕ) (table : List (Bor (List ℕ) × X)) (i : ℕ) (row : Bor (List ℕ) × X) →
     found_in word table ≡ found_in word (drop i table) → i < length table → row ≡ get_or table i row →
     found_in word table ≡ cond (bytes_eq word row.0.now) (Some row.1) (found_in word (drop (i + 1) table))

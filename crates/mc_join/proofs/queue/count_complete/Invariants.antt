@@ -1,4 +1,5 @@
--- The forms passed, count of them, and the answered ones at the front of the rest are as many as at the front of all.
+-- The forms passed, count of them, and the answered ones at the front of the rest are as many as at the front
+-- of all.
 use Rattle.std.proofs.Common.{◌≡◌, ◌+◌}
 use Rattle.std.specs.List.{prefix_len}
 use Rattle.mc_join.specs.Replies.{is_answered}

@@ -1,4 +1,4 @@
--- Each connection goes on, whatever the others do.
+-- Each connection makes progress, whatever the others do.
 use Rattle.mc_model.specs.World.{empty_world}
 use Rattle.mc_model.proofs.Worlds.{at_begin}
 use Rattle.mc_model.proofs.Every.{all_kept}

@@ -1,4 +1,4 @@
--- The kinds of commands stand behind what comes before them.
+-- The kinds of commands follow their HELP and TYPE lines.
 use Rattle.std.proofs.Common.{◌∙◌, ◌++◌, ap, string_bytes, append_assoc}
 use Rattle.std.proofs.lemmas.Result.{on_ok_weaker}
 use Rattle.mc_metrics.specs.Metrics.{before_commands, commands_each}

@@ -1,4 +1,4 @@
--- The reasons stand behind what comes before them.
+-- The reasons follow their HELP and TYPE lines.
 use Rattle.std.proofs.Common.{◌∙◌, ◌++◌, ap, string_bytes, append_assoc}
 use Rattle.std.proofs.lemmas.Result.{on_ok_weaker}
 use Rattle.mc_metrics.specs.Metrics.{before_ends, ends_each}

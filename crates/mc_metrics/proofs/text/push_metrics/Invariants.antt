@@ -1,4 +1,4 @@
--- The text tells of the metrics so far, and lacks the others.
+-- The text has the metrics so far, and lacks the others.
 use Rattle.std.proofs.Common.{◌≡◌, ◌++◌, drop, flat_map, string_bytes}
 use Rattle.mc_metrics.specs.Metrics.{told_text}
 use Rattle.mc_metrics.proofs.text.push_metrics.Given as goal

@@ -1,4 +1,4 @@
--- The number of shards and their budget are those that are given, or the first thing that is wrong with them is told.
+-- The number of shards and their budget are the given ones, or the first error in them is reported.
 use Rattle.std.proofs.Common.{◌≡◌, ℕ, Bool, List, Option, ap, sym, ◌∙◌}
 use Rattle.std.proofs.lemmas.Result.{IfErr-weaker, IfOk-weaker}
 use Rattle.clap.specs.Words.{first_value, found_of}
@@ -7,7 +7,7 @@ use Rattle.mc_options.specs.Numbers.{shares_by, total_of}
 use Rattle.mc_options.proofs.Behind.{step}
 use Rattle.mc_options.proofs.options.budget_in.Goals as goal
 
--- a total by the same texts
+-- totals from equal texts
 same_total : (fewest most fewest' most' : ℕ) (bytes bytes' : Bool) (memory megabytes memory' megabytes' : Option (List ℕ)) → fewest ≡ fewest' → most ≡ most' → bytes ≡ bytes'
     → memory ≡ memory' → megabytes ≡ megabytes' → total_of fewest' most' bytes' memory' megabytes' ≡ total_of fewest most bytes memory megabytes
 same_total fewest most fewest' most' bytes bytes' memory megabytes memory' megabytes' first second third fourth fifth =

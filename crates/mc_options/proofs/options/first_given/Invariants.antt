@@ -1,4 +1,4 @@
--- What is left of the names has the same first one that is given.
+-- The remaining names have the first given one in common with all.
 use Rattle.std.proofs.Common.{◌≡◌, find, map, drop}
 use Rattle.clap.specs.Words.{first_value, found_of}
 use Rattle.mc_options.specs.Flags.{is_flag}

@@ -6,7 +6,7 @@ use Rattle.clap.proofs.OnLiterals.{clap_on_literals}
 use Rattle.mc_options.specs.Program.{program, rows_in, word_faults}
 use Rattle.mc_options.proofs.options.parse.Goals as goal
 
--- the program is one of which clap tells what it takes
+-- clap's specification covers what the program accepts
 program_is_simple : is_simple program ≡ true
 unfolding program clap_on_literals
 program_is_simple = refl
@@ -17,7 +17,7 @@ returns-clause-matches c =
     let is = c.in_ok-program.ensures in
     IfOk-weaker c.try_get_matches_from.result _ _ (λ m h. (h (ap is_simple is ∙ program_is_simple)).0 ∙ ap (λ (app : App). matches_of app (map string_bytes c.args.words.now)) is) c.try_get_matches_from.ensures.matches
 
--- and of which it tells what it refuses
+-- and what it refuses
 program_is_free : is_simple_and_free program ≡ true
 unfolding program clap_on_literals
 program_is_free = refl

@@ -1,4 +1,4 @@
--- The sizes are those that are given, or the first of them that is wrong is told.
+-- The sizes are the given ones, or the first error in them is reported.
 use Rattle.std.proofs.Common.{ℕ, codes, arith, ap, sym, ◌∙◌}
 use Rattle.clap.specs.Words.{first_value, found_of}
 use Rattle.clap.proofs.TakesLemmas.{passed_up}

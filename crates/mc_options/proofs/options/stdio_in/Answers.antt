@@ -1,4 +1,4 @@
--- The call is the one that is given, or the first thing that is wrong with it is told.
+-- The call is the given one, or its first error is reported.
 use Rattle.std.proofs.Common.{option_map, ap, sym, ◌∙◌}
 use Rattle.clap.proofs.TakesLemmas.{passed_up}
 use Rattle.mc_options.specs.Wrong.{NotOfStdio}

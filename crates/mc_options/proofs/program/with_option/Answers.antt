@@ -1,4 +1,4 @@
--- The option is added with the rule that is told of it.
+-- The option is added with the rule that the table has for it.
 use Rattle.std.proofs.Common.{◌≡◌, ℕ, Bool, false, List, Option, None, Some, Bor, refl, ap, ◌∙◌, if◌then◌else◌}
 use Rattle.std.proofs.lemmas.Result.{IfOk-weaker}
 use Rattle.clap.specs.Words.{Rule, app_of, new_rule, rule_of, with_rule}

@@ -1,4 +1,5 @@
--- The first word is the name of its arm, and the words behind it are read as the command table has them behind that name.
+-- The first word is the name of its arm, and the words behind it are read as the command table has them
+-- behind that name.
 use Rattle.std.proofs.Common.{◌≡◌, ◌≤◌, ◌<◌, ℕ, suc, List, ◌∷◌, ◌&&◌, false, arith, codes, rules, sym}
 use Rattle.std.proofs.lemmas.Slice.Eq.{text_from_reads}
 use Rattle.mc_wire.specs.Words.{words_left}

@@ -1,4 +1,4 @@
--- The line in front of the buffer and what belongs to it are given away, as they stand there, and taken out of the buffer.
+-- The line at the front of the buffer and its block are passed to the receiver unchanged, and are consumed.
 use Rattle.std.proofs.Common.{◌≡◌, ℕ, ◌+◌, ◌<◌, ◌≤◌, List, ◌∷◌, ◌++◌, length, take, drop, Some, rules, sym, ap, ◌∙◌, arith}
 use Rattle.std.proofs.lemmas.List.{drop-drop}
 use Rattle.mc_command.specs.declared.command.Command.{Command}

@@ -1,4 +1,5 @@
--- What is fed comes behind the bytes, so a line end that was found stays where it is; else it is looked for in what is fed.
+-- What is fed comes behind the bytes, so a line end that was found stays where it is; else it is looked for
+-- in what is fed.
 use Rattle.std.proofs.Common.{◌≡◌, ◌<◌, ℕ, ◌+◌, true, List, ◌∷◌, ◌++◌, length, Option, Some, None, IsTrue, nat_lt, ap, sym, ◌∙◌, append_assoc, length-append, arith}
 use Rattle.std.specs.Option.{is_some}
 use Rattle.std.proofs.lemmas.Bool.Decides.{nat_tests}
@@ -14,7 +15,7 @@ more old behind n below = grind (arith, nat_tests, length-append old behind)
 below_all : (old behind : List ℕ) (at : ℕ) → at < length behind → IsTrue (nat_lt (length old + at) (length (old ++ behind)))
 below_all old behind at below = grind (arith, nat_tests, length-append old behind)
 
--- A line end that stands in the bytes stands in more.
+-- A line end in the bytes is also in any extension of them.
 still_fits : (old behind new : List ℕ) (long : Option ℕ) → new ≡ old ++ behind → IsTrue (fits_in long old) → IsTrue (fits_in long new)
 still_fits old behind new None is fits = fits
 still_fits old behind new (Some long) is fits = rw is (more old behind long fits)
@@ -30,7 +31,7 @@ still_ends old behind new (Some long) ended is h = record {
   long_is = h.long_is;
 }
 
--- A line end that is found in what comes behind stands in all.
+-- A line end found in the new bytes is in all bytes.
 found_fits : (held old behind new : List ℕ) (at : ℕ) → held ≡ old → new ≡ old ++ behind → at < length behind → IsTrue (nat_lt (length held + at) (length new))
 found_fits held old behind new at same is below = rw (same, is) (below_all old behind at below)
 

@@ -1,4 +1,4 @@
--- The world in which the core stands after its run is the one that is told.
+-- The world of the simulator after its run is the one that is reported.
 use Rattle.std.proofs.Common.{ap, map, arith}
 use Rattle.std.proofs.lemmas.List.{length-map}
 use Rattle.mc_model.specs.World.{empty_world}

@@ -1,4 +1,4 @@
--- A line that spells an event is read as this event; one that spells none is the first bad one.
+-- A line with an event is read as this event; a line without one is the first invalid one.
 use Rattle.std.proofs.Common.{◌≡◌, ℕ, Bool, List, [], ◌∷◌, ◌++◌, Option, Some, map, option_map, append_assoc, arith, ap, sym, ◌∙◌, if◌then◌else◌}
 use Rattle.std.proofs.lemmas.List.{length-map, map-append}
 use Rattle.mc_sizes.specs.declared.sizes.Sizes.{Sizes}
@@ -11,14 +11,14 @@ use Rattle.mc_replay.specs.Schedule.{events_in}
 use Rattle.mc_replay.specs.internal.Parts.{parts_left}
 use Rattle.mc_replay.proofs.schedule.read_events.Goals as goal
 
--- what all lines say, by what the next one says
+-- the events of all lines, from that of the next one
 next_says : (sizes : Sizes) (lines left behind : List (List ℕ)) (line : List ℕ) (events : List code.Event) (said : Option Event)
     → events_in sizes lines ≡ map Some (map shown events) ++ events_in sizes left → left ≡ line ∷ behind → event_of sizes (words_in line) ≡ said
     → events_in sizes lines ≡ map Some (map shown events) ++ said ∷ events_in sizes behind
 next_says sizes lines left behind line events said so_far first says =
     so_far ∙ (ap (λ (rest : List (List ℕ)). map Some (map shown events) ++ events_in sizes rest) first ∙ ap (λ (one : Option Event). map Some (map shown events) ++ one ∷ events_in sizes behind) says)
 
--- the same, where the event is among those that were read
+-- these lines, with the event among those that were read
 reads_on : (events grown : List code.Event) (event : code.Event) (behind : List (Option Event)) → grown ≡ events ++ event ∷ []
     → map Some (map shown events) ++ Some (shown event) ∷ behind ≡ map Some (map shown grown) ++ behind
 reads_on events grown event behind is =

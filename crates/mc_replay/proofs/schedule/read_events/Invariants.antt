@@ -1,4 +1,4 @@
--- The lines that are left spell what the events so far don't.
+-- The remaining lines have the events that are missing so far.
 use Rattle.std.proofs.Common.{◌≡◌, ◌++◌, map, Some}
 use Rattle.mc_sim.specs.Asked.{event_of as shown}
 use Rattle.mc_replay.specs.Schedule.{events_in}

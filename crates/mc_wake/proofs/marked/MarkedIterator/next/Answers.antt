@@ -1,4 +1,4 @@
--- The lowest bit that is set stands at the place that `trailing_zeros` gives.
+-- The lowest set bit is at the index that `trailing_zeros` returns.
 use Rattle.std.proofs.Common.{refl, rules}
 use Rattle.mc_wake.proofs.Lowest.{is_lowest}
 use Rattle.mc_wake.proofs.marked.MarkedIterator.next.Goals as goal

@@ -1,4 +1,4 @@
--- What the threads so far told is added.
+-- The totals of the threads so far are added.
 use Rattle.std.proofs.Common.{take}
 use Rattle.std.specs.List.{FoldsTo}
 use Rattle.mc_watch.specs.Counts.{AddsThread, no_totals, shared_values}

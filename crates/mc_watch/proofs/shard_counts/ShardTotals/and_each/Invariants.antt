@@ -1,4 +1,4 @@
--- What the shards so far told is added.
+-- The totals of the shards so far are added.
 use Rattle.std.proofs.Common.{take}
 use Rattle.std.specs.List.{FoldsTo}
 use Rattle.mc_watch.specs.Counts.{AddsShard, shared_values}

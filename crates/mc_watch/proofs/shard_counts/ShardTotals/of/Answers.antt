@@ -1,4 +1,4 @@
--- What is shown follows from what the shard tells of its state.
+-- What is published follows from what the shard returns of its state.
 use Rattle.std.proofs.Common.{ap, ◌∙◌}
 use Rattle.mc_watch.specs.Totals.{with_out_of_memory}
 use Rattle.mc_watch.proofs.Summing.{same_totals}

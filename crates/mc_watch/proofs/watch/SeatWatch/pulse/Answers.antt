@@ -1,4 +1,5 @@
--- A pulse goes by the same clock and for as long as was said; there is none where nothing was said, or where nothing could be shared.
+-- An idle timer has the configured clock and timeout; there is none without a configured one, or if sharing
+-- the clock failed.
 use Rattle.std.proofs.Common.{◌≡◌, Option, Some, Result, Ok, Err, sym, ◌∙◌}
 use Rattle.std.specs.Result.{IfOk, result_ok}
 use Rattle.std.proofs.lemmas.Option.{MatchOption-from_none, none-some}
@@ -8,7 +9,7 @@ use Rattle.mc_watch.specs.declared.pulse.Seconds.{Seconds}
 use Rattle.mc_watch.specs.declared.watch.IdleLimit.{IdleLimit}
 use Rattle.mc_watch.proofs.watch.SeatWatch.pulse.Goals as goal
 
--- A pulse that began by seconds that were shared goes by the clock of what was said, for as long.
+-- An idle timer that started with a shared clock has the configured clock and timeout.
 as_said : {C E : Type 0} (pulse : Pulse C) (seconds : Seconds C) (shared : Result (Seconds C) E) (said : IdleLimit C) (limit : Option (IdleLimit C)) → Some said ≡ limit
     → Some seconds ≡ result_ok shared → IfOk shared (λ one. clock_of one ≡ clock_of said.seconds) → clock_of pulse.seconds ≡ clock_of seconds → pulse.limit ≡ said.limit
     → Some (clock_of pulse.seconds, pulse.limit) ≡ idle_limit_of limit
