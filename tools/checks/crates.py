@@ -13,9 +13,9 @@ import pathlib
 import re
 import sys
 
-sys.path.insert(0, str(pathlib.Path(__file__).resolve().parent.parent))
+sys.path.insert(0, str(pathlib.Path(__file__).resolve().parents[2]))
 
-from listed_crates import TOP, below, libraries  # noqa: E402
+from tools.listed_crates import TOP, below, libraries  # noqa: E402
 
 PAGE = TOP / "docs/ARCHITECTURE.md"
 BEGIN, END = "<!-- tools/checks/crates.py -->\n", "<!-- end -->\n"

@@ -1,12 +1,10 @@
-#!/usr/bin/env python3
-"""Stands in for mcd with one fault put in, so that tools/checks/seen_to_fail.py can see which checks find it.
+"""Stands in for mcd with one fault put in, so that `pytest --seen-to-fail` can see which tests find it.
 
-    tools/checks/faulty.py FAULT PROGRAM [WORD ..]     FAULT is a key of STATUSES, INPUTS, CALLS, SIGNALS, TEXTS or LINES below, PROGRAM the real one
+    python3 -m tools.checks.faulty FAULT PROGRAM [WORD ..]     FAULT is a key of STATUSES, INPUTS, CALLS, SIGNALS, TEXTS or LINES below, PROGRAM the real one
 
 With a fault of LINES, calls that serve connections go through a proxy of this process, so what a check reads of the memory of the server is its.
 """
 import os
-import pathlib
 import re
 import signal
 import socket
@@ -16,9 +14,7 @@ import sys
 import threading
 import time
 
-sys.path.insert(0, str(pathlib.Path(__file__).resolve().parent.parent))
-
-from served import MIB, WITH_US, started  # noqa: E402
+from tools.served import MIB, WITH_US, started
 
 # Memory that is never given back.
 KEPT = []
@@ -385,6 +381,7 @@ def times(factor):
 TEXTS = {
     "warns of nothing": lambda text: "" if "warning" in text else text, "names its own rules alone": lambda text: text.replace("memcached's rules", "own rules"),
     "counts open files otherwise": lambda text: re.sub(r"needs \d+ open files", "needs 30 open files", text), "plans a third": times(1 / 3), "plans ten times as much": times(10),
+    "changes what it replays": lambda text: re.sub(r"0a$", "0b", text, flags=re.M),
 }
 
 

@@ -49,9 +49,9 @@ import tempfile
 import threading
 import time
 
-sys.path.insert(0, str(pathlib.Path(__file__).resolve().parent.parent))
+sys.path.insert(0, str(pathlib.Path(__file__).resolve().parents[2]))
 
-from listed_crates import TOP, below, libraries  # noqa: E402
+from tools.listed_crates import TOP, below, libraries  # noqa: E402
 
 PARTS = ["src", "specs", "proofs"]
 CLASSIC, OTHER, ALONE = "classic-faults", "wrong-bodies", "must-fail"
