@@ -19,7 +19,7 @@ import sys
 
 sys.path.insert(0, str(pathlib.Path(__file__).resolve().parents[2]))
 
-from tools.listed_crates import TOP  # noqa: E402
+from tools.sources import TOP  # noqa: E402
 
 ENDING, PROOF, READING = ".oantt", "Proof", "reading"
 LEAST_PARTS = 100

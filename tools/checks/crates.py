@@ -15,7 +15,7 @@ import sys
 
 sys.path.insert(0, str(pathlib.Path(__file__).resolve().parents[2]))
 
-from tools.listed_crates import TOP, below, libraries  # noqa: E402
+from tools.sources import TOP, below, files, libraries, text_of  # noqa: E402
 
 PAGE = TOP / "docs/ARCHITECTURE.md"
 BEGIN, END = "<!-- tools/checks/crates.py -->\n", "<!-- end -->\n"
@@ -31,8 +31,7 @@ def unnamed():
     """The crates whose lines list a crate of the repository that no file of theirs names."""
     found = []
     for name, its in read().items():
-        files = [it for part in ("src", "specs", "proofs") for it in (TOP / "crates" / name / part).rglob("*.*t*") if it.is_file()]
-        words = {word for it in files for word in re.findall(r"\bmc_\w+", it.read_text(encoding="utf-8"))}
+        words = {word for it in files(crate=name) for word in re.findall(r"\bmc_\w+", text_of(it))}
         found += [f"{name} lists {it}, which it names nowhere: take it out of crates.txt" for it in sorted(its - words)]
     return found
 
