@@ -53,7 +53,8 @@ def stand_in(folder, fault):
     """A program that is the real one with this fault. No shell: it wants more open files than one of the tests leaves."""
     program = folder / "mcd"
     words = [sys.executable, "-m", "tools.checks.faulty", fault, served.MCD]
-    program.write_text(f"#!{sys.executable}\nimport os, sys\nos.environ['PYTHONPATH'] = {str(served.TOP)!r}\nos.execv({words[0]!r}, {words!r} + sys.argv[1:])\n")
+    path = f"os.environ['PYTHONPATH'] = {str(served.TOP)!r}"
+    program.write_text(f"#!{sys.executable}\nimport os, sys\n{path}\nos.execv({words[0]!r}, {words!r} + sys.argv[1:])\n")
     program.chmod(0o755)
     return str(program)
 

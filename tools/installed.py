@@ -16,7 +16,7 @@ QUIET = {"stdin": subprocess.DEVNULL, "stdout": subprocess.DEVNULL, "stderr": su
 PACKAGES = {
     **{f"python3-{name}": ["/usr/bin/python3", "-c", f"import {module}"] for name, module in [
         ("pytest", "pytest"), ("hypothesis", "hypothesis"), ("pymemcache", "pymemcache"), ("pylibmc", "pylibmc"), ("memcache", "memcache"),
-        ("django", "django")]},
+        ("django", "django"), ("pyflakes", "pyflakes"), ("pycodestyle", "pycodestyle")]},
     "php-cli": ["php", "-v"], "php-memcached": ["php", "-r", "new Memcached();"],
     "libcache-memcached-perl": ["perl", "-MCache::Memcached", "-e", "1"],
     "libcache-memcached-fast-perl": ["perl", "-MCache::Memcached::Fast", "-e", "1"],

@@ -25,7 +25,9 @@ from tools.served import MIB, Line, Server, bounded, equal, needs_program, set_o
 # How often a second memory is read.
 LOOKS = 10
 
+
 # Those beside the checkers.
+
 
 def load(port, chance, _small):
     """Many keys of all sizes, stored and fetched in batches, and one line that asks for many."""

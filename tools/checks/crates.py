@@ -74,7 +74,8 @@ def main():
             print(*unused, sep="\n")
             return 1
         if drawn != picture() or missing:
-            print("docs/ARCHITECTURE.md shows other crates than crates.txt: run tools/checks/crates.py --write", *[f"and add a row for {name}" for name in missing], sep="\n")
+            print("docs/ARCHITECTURE.md shows other crates than crates.txt: run tools/checks/crates.py --write",
+                  *[f"and add a row for {name}" for name in missing], sep="\n")
             return 1
     return 0
 

@@ -29,7 +29,8 @@ BEGIN, END = "<!-- tools/checks/definitions.py -->\n", "<!-- end -->\n"
 # them, one line, real threads over doors, lines in memory, streams and sockets, replay files and the command line.
 THEOREMS = [
     ("mc_model/src/laws.rt", ["every_schedule"]),
-    ("mc_laws/src/progress.rt", ["never_stuck", "all_comes_to_rest", "fair_runs_come_to_rest", "what_is_tried_is_fair", "none_waits_forever", "bytes_are_taken_at_rest"]),
+    ("mc_laws/src/progress.rt", ["never_stuck", "all_comes_to_rest", "fair_runs_come_to_rest", "what_is_tried_is_fair", "none_waits_forever",
+                                 "bytes_are_taken_at_rest"]),
     ("mc_laws/src/order.rt", ["what_was_handed_out_ran_before", "keys_are_linearizable"]),
     ("mc_laws/src/settling.rt", ["settle"]),
     ("mc_sim/src/sim.rt", ["new", "connections", "fed", "handed", "log", "step", "run"]),

@@ -197,6 +197,7 @@ def test_a_budget_of_1_mib():
         one_mebibyte_more(options)
 
 
+@fails_with("ignores a budget")
 def test_the_budget_by_default():
     """16 MiB for each shard by default; `stats` shows what all shards together may hold."""
     for options, mebibytes in (("", 32), ("--shards 3", 48), ("--memory 8m", 8), ("--bytes 1m", 2), ("--bytes 1m --shards 5", 5)):
@@ -337,6 +338,7 @@ def refused(port, sent):
         return all_of(line)
 
 
+@fails_with("ignores the number of seats")
 def test_too_many_connections():
     """By memcached's rules a third client is refused at once beside two, and one is served once a seat is free."""
     with Server("--drop-in", "--seats", 2, "--verbose") as server:
@@ -454,9 +456,12 @@ ITEMS = "there is no option --items: --bytes says what the items of a shard may 
 FAULTS = [
     ("--items 5", ITEMS), ("--items 5 --replay x --shards 2", ITEMS),
     *((f"--replay x --{name} 2", f"--{name} doesn't go with --replay, which takes no other option")
-      for name in ("at", "listen", "shards", "seats", "bytes", "memory", "value-limit", "line-limit", "window", "connections", "idle-timeout", "metrics", "port", "memory-limit", "udp-port", "user", "pidfile")),
-    *((f"--replay x --{name}", f"--{name} doesn't go with --replay, which takes no other option") for name in ("stdio", "verbose", "drop-in", "plan", "daemon")),
-    *((f"--stdio --{name} 2", f"--{name} doesn't go with {WITH_STDIO}") for name in ("listen", "seats", "connections", "idle-timeout", "metrics", "port", "udp-port", "user", "pidfile")),
+      for name in ("at", "listen", "shards", "seats", "bytes", "memory", "value-limit", "line-limit", "window", "connections", "idle-timeout",
+                   "metrics", "port", "memory-limit", "udp-port", "user", "pidfile")),
+    *((f"--replay x --{name}", f"--{name} doesn't go with --replay, which takes no other option")
+      for name in ("stdio", "verbose", "drop-in", "plan", "daemon")),
+    *((f"--stdio --{name} 2", f"--{name} doesn't go with {WITH_STDIO}")
+      for name in ("listen", "seats", "connections", "idle-timeout", "metrics", "port", "udp-port", "user", "pidfile")),
     *((f"--stdio --{name}", f"--{name} doesn't go with {WITH_STDIO}") for name in ("verbose", "plan", "daemon")),
     ("--at 5", "--at goes with --stdio alone"), ("--at 5 --seats 65537", "--at goes with --stdio alone"),
     ("--bytes 64k --memory 1m", TWO_BUDGETS),

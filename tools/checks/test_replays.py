@@ -15,8 +15,10 @@ fails_with = pytest.mark.fails_with
 
 # A file, and the number of its first bad line.
 BAD = [
-    ("", 1), ("\n", 1), ("sim 1 1 1024 1025\n", 1), ("sim 1 1 1024 1 1024\n", 1), ("sim 1 1 1024 1 drop-in\n", 1), ("sim 1 1 1024 1 1024 1 own\n", 1), ("sim 1 1 1024 1 1024 1 drop-in drop-in\n", 1), ("sim 1 1 1024 1 1024 1 2047\n", 1), ("sim 1 1 1024 1 1024 1 8388609 drop-in\n", 1),
-    ("sim 1 1 1024 1 1024 1 2048 own\n", 1), ("sim 1 1 1024 1 1024 1 drop-in 2048\n", 1), ("sim 1 1 1024 1 1024 1 2048 drop-in 1\n", 1), ("sim 1 1 1024 1\n\n", 2),
+    ("", 1), ("\n", 1), ("sim 1 1 1024 1025\n", 1), ("sim 1 1 1024 1 1024\n", 1), ("sim 1 1 1024 1 drop-in\n", 1), ("sim 1 1 1024 1 1024 1 own\n", 1),
+    ("sim 1 1 1024 1 1024 1 drop-in drop-in\n", 1), ("sim 1 1 1024 1 1024 1 2047\n", 1), ("sim 1 1 1024 1 1024 1 8388609 drop-in\n", 1),
+    ("sim 1 1 1024 1 1024 1 2048 own\n", 1), ("sim 1 1 1024 1 1024 1 drop-in 2048\n", 1), ("sim 1 1 1024 1 1024 1 2048 drop-in 1\n", 1),
+    ("sim 1 1 1024 1\n\n", 2),
     ("sim 1 1 1024 1\nopen 0\nopen 1\n", 3), ("sim 1 1 1024 1\nopen 0\nfeed 0 6\n", 3), ("sim 1 1 1024 1\ncall 0\n", 2),
     ("sim 1 1 1024 1\nopen  0\n", 2), ("sim 1 1 1024 1\ntake 0 18446744073709551616\n", 2),
 ]

@@ -43,6 +43,7 @@ def seconds_until_closed(line):
     return time.monotonic() - began
 
 
+@fails_with("ignores the idle timeout")
 def test_an_idle_client_is_closed():
     with Server("--idle-timeout", 1) as server, Line(server.port) as line:
         line.ask(NO_OP, NO_OP_REPLY)
@@ -51,11 +52,13 @@ def test_an_idle_client_is_closed():
         print(f"after {took:.1f} s")
 
 
+@fails_with("ignores the idle timeout")
 def test_one_that_never_sent_is_closed():
     with Server("--idle-timeout", 1) as server, Line(server.port) as line:
         seconds_until_closed(line)
 
 
+@fails_with("ends a connection after two seconds")
 def test_one_that_sends_stays():
     with Server("--idle-timeout", 2) as server, Line(server.port) as line:
         for _ in range(20):
@@ -63,18 +66,21 @@ def test_one_that_sends_stays():
             time.sleep(0.4)
 
 
+@fails_with("ends a connection after two seconds")
 def test_none_is_closed_unasked(server):
     with Line(server.port) as line:
         time.sleep(4)
         line.ask(NO_OP, NO_OP_REPLY)
 
 
+@fails_with("ignores the idle timeout")
 def test_one_amid_a_block_is_closed():
     with Server("--idle-timeout", 1) as server, Line(server.port) as line:
         line.send(b"set a 0 0 10\r\nhalf")
         seconds_until_closed(line)
 
 
+@fails_with("ignores the idle timeout")
 def test_one_that_takes_nothing_is_closed():
     """Its replies find no room on the way; the seat is free all the same."""
     with Server("--idle-timeout", 1, "--seats", 1, "--value-limit", "8m", "--memory", "64m") as server:
@@ -85,6 +91,7 @@ def test_one_that_takes_nothing_is_closed():
                 other.ask(NO_OP, NO_OP_REPLY)
 
 
+@fails_with("ignores the idle timeout")
 def test_dead_connections_free_their_seats():
     resource.setrlimit(resource.RLIMIT_NOFILE, (MOST_FILES, MOST_FILES))
     # They are all there before the first one is given up.
@@ -115,6 +122,7 @@ def told_of(server, wanted, but=SEATS):
     return found
 
 
+@fails_with("ignores that it is to be verbose")
 def test_each_connection_is_told():
     with Server("--verbose", "--seats", 1) as server:
         with Line(server.port) as line:
@@ -122,9 +130,11 @@ def test_each_connection_is_told():
             line.ask(b"set a 0 0 1\r\nx\r\nget a\r\nget b\r\n", b"STORED\r\nVALUE a 0 1\r\nx\r\nEND\r\nEND\r\n")
             line.send(b"quit\r\n")
             assert line.rest() == b""
-        assert told_of(server, 2) == [ f"mcd: 127.0.0.1:{port} on seat 0: opened", f"mcd: 127.0.0.1:{port} on seat 0: its client quit; 4 commands, 36 bytes read, 34 bytes written", ]
+        assert told_of(server, 2) == [f"mcd: 127.0.0.1:{port} on seat 0: opened",
+                                      f"mcd: 127.0.0.1:{port} on seat 0: its client quit; 4 commands, 36 bytes read, 34 bytes written"]
 
 
+@fails_with("ignores that it is to be verbose", "asks more than its clients")
 def test_each_connection_has_one_seat():
     """While others are free: it is told of once, and all that it sends and gets goes over that seat, however it is cut."""
     value = random.Random(1).randbytes(MIB)
@@ -139,9 +149,11 @@ def test_each_connection_has_one_seat():
                 found = line.read(len(answered))
                 assert (len(found), found == answered) == (len(answered), True)
             told = [re.sub(r"on seat \d+", "on a seat", it) for it in told_of(server, 2)]
-            assert told == [ f"mcd: 127.0.0.1:{port} on a seat: opened", f"mcd: 127.0.0.1:{port} on a seat: its client closed it; 2 commands, {len(asked)} bytes read, {len(answered)} bytes written", ]
+            assert told == [f"mcd: 127.0.0.1:{port} on a seat: opened",
+                            f"mcd: 127.0.0.1:{port} on a seat: its client closed it; 2 commands, {len(asked)} bytes read, {len(answered)} bytes written"]
 
 
+@fails_with("ignores that it is to be verbose")
 def test_one_that_breaks_is_told():
     with Server("--verbose", "--seats", 1) as server:
         line = Line(server.port)
@@ -151,6 +163,7 @@ def test_one_that_breaks_is_told():
         assert told_of(server, 2)[1] == f"mcd: 127.0.0.1:{port} on seat 0: a read failed; 1 command, 4 bytes read, 4 bytes written"
 
 
+@fails_with("ignores the idle timeout")
 def test_one_that_is_idle_is_told():
     with Server("--verbose", "--idle-timeout", 1, "--seats", 1) as server, Line(server.port) as line:
         port = line.socket.getsockname()[1]
@@ -189,11 +202,13 @@ ENDS = [
 ]
 
 
+@fails_with("ignores the rules of memcached")
 def test_each_reason_is_told_and_counted():
     for options, sent, why, counted in ENDS:
         assert (sent[:9], *end_of(options, sent)) == (sent[:9], why, counted), options
 
 
+@fails_with("ignores that it is to be verbose")
 def test_all_seats_taken_is_told():
     """Once, however many wait, and once one is free again."""
     with Server("--verbose", "--seats", 2) as server:
@@ -207,14 +222,17 @@ def test_all_seats_taken_is_told():
         assert told[:2] == SEATS
 
 
+@fails_with("ignores that it is to be verbose")
 def test_the_journal_gets_priorities():
     with Server("--verbose", env={**os.environ, "JOURNAL_STREAM": "8:12345"}) as server:
         with Line(server.port) as line:
             line.ask(NO_OP, NO_OP_REPLY)
         told = told_of(server, 2)
-        assert [re.sub(r":\d+ on seat \d+", "", line) for line in told] == ["<6>127.0.0.1: opened", "<6>127.0.0.1: its client closed it; 1 command, 4 bytes read, 4 bytes written"]
+        assert [re.sub(r":\d+ on seat \d+", "", line) for line in told] == ["<6>127.0.0.1: opened",
+                                                                            "<6>127.0.0.1: its client closed it; 1 command, 4 bytes read, 4 bytes written"]
 
 
+@fails_with("ignores that it is to be verbose")
 def test_no_line_is_lost_at_2000_connections_a_second():
     """Standard error is read as it comes."""
     rounds, found = 6000, bytearray()
@@ -236,6 +254,7 @@ def test_no_line_is_lost_at_2000_connections_a_second():
         print(f"{rate:.0f} connections a second")
 
 
+@fails_with("lets vanished clients be")
 def test_vanished_clients_are_asked_for(server):
     """The system's table has a timer of the kind 2 for a socket that is kept alive (proc(5), /proc/net/tcp)."""
     with Line(server.port) as line:
@@ -246,6 +265,7 @@ def test_vanished_clients_are_asked_for(server):
         assert [row.split()[5][:2] for row in table if ends in row] == ["02"]
 
 
+@fails_with("ignores that it is to be verbose")
 def test_what_finds_no_room_is_counted():
     """Nobody reads standard error: the server goes on, and says later how many lines were dropped."""
     rounds = 2000
@@ -268,6 +288,7 @@ def test_what_finds_no_room_is_counted():
         print(f"{told} told, {dropped} dropped")
 
 
+@fails_with("ignores that it is to be verbose")
 def test_an_accept_that_fails_is_told():
     words = ["prlimit", "--nofile=24:24", *mcd("--listen", "127.0.0.1:0", "--verbose", "--seats", "64")]
     lines = []
@@ -317,6 +338,7 @@ def eventually(check, wanted):
     assert found == wanted
 
 
+@fails_with("asks more than its clients", "counts otherwise")
 def test_each_counter_follows_a_conversation():
     asked, answered = b"set a 0 0 1\r\nx\r\nget a\r\n", b"STORED\r\nVALUE a 0 1\r\nx\r\nEND\r\n"
     names = ["memcached_current_connections", "memcached_connections_total", "memcached_read_bytes_total",
@@ -364,6 +386,7 @@ def counted_at_once(clients, rounds):
         eventually(lambda: [server.values()[name] for name in names], wanted)
 
 
+@fails_with("asks more than its clients", "counts otherwise")
 def test_no_count_is_lost():
     """Each thread counts by itself: where two added to one counter, what one of them adds would now and then be lost. Seats that all count
     as those of the first thread were found by every second of these servers."""
@@ -385,10 +408,12 @@ def figures(server):
     return {title: tuple(shown) for title, *shown in FIGURE.findall(page_of(server))}
 
 
+@fails_with("counts otherwise")
 def test_the_page_shows_what_is_counted():
     """Its first sample is of the start, and one comes every five seconds: the newest point of a curve is the number beside its title."""
     with Watched("--seats", 1009, "--memory", "64m") as server, Line(server.port) as line, Line(server.port) as other:
-        assert list(figures(server)) == ["Requests", "Hit ratio", "Items", "Memory of items", "Evictions", "Connections", "Read from clients", "Written to clients"]
+        assert list(figures(server)) == ["Requests", "Hit ratio", "Items", "Memory of items", "Evictions", "Connections", "Read from clients",
+                                         "Written to clients"]
         line.ask(b"".join(set_of(b"key:%012d" % it, b"v" * 100) for it in range(12_345)), 12_345 * STORED)
         other.ask(NO_OP, NO_OP_REPLY)
 
@@ -398,6 +423,7 @@ def test_the_page_shows_what_is_counted():
         eventually(found, [("12,345", "", "12,345", "12,345"), ("2.1 MiB", "64.0 MiB", "2.1 MiB", "64.0 MiB"), ("2", "1,009", "2", "1,009")])
 
 
+@fails_with("counts otherwise")
 def test_the_page_has_a_peak():
     """It stays where the number falls."""
     with Watched("--seats", 9) as server:
@@ -408,6 +434,7 @@ def test_the_page_has_a_peak():
         eventually(lambda: figures(server)["Connections"], ("0", "9", "2", "9"))
 
 
+@fails_with("counts otherwise")
 def test_the_hit_ratio_is_a_percentage():
     """Of the gets in five seconds; where nobody asks the curve has a gap, and no number."""
     with Watched("--drop-in") as server, Line(server.port) as line:
@@ -422,6 +449,7 @@ def test_the_hit_ratio_is_a_percentage():
         eventually(found, ["0/s", "none", "", "75%", "100%", "M595,25h0"])
 
 
+@fails_with("serves half a page")
 def test_the_page_has_axes_and_limits():
     """Each curve has its times, and those with a limit a line for it, at the top where nothing exceeds it."""
     with Watched() as server:
@@ -431,6 +459,7 @@ def test_the_page_has_axes_and_limits():
         assert drawn == [("Memory of items", "M0,0H600"), ("Connections", "M0,0H600")]
 
 
+@fails_with("serves half a page")
 def test_the_page_names_its_server():
     """By its machine, and the port that clients use."""
     name = f"{socket.gethostname()}:"
@@ -439,6 +468,7 @@ def test_the_page_names_its_server():
         assert f"<title>{name}{server.port} mcd</title>" in page and f" on {name}{server.port}</h1>" in page
 
 
+@fails_with("serves half a page")
 def test_the_page_stands_alone():
     """It has no script, loads nothing, and follows the dark mode of its browser."""
     with Watched() as server:
@@ -447,29 +477,37 @@ def test_the_page_stands_alone():
         assert "@media (prefers-color-scheme: dark)" in page and 'name="color-scheme" content="light dark"' in page
 
 
+@fails_with("counts otherwise")
 def test_the_page_shows_the_process():
     """By what the system says of it beside."""
     with Watched() as server, Line(server.port) as line:
         line.ask(NO_OP, NO_OP_REPLY)
+        before = server.resident()
         shown = dict(re.findall(r"<dt>([^<]+)</dt><dd>([^<]+)</dd>", page_of(server)))
         assert list(shown) == ["Uptime", "Connections", "Shards", "Process memory", "CPU time", "Open files"]
         assert (shown["Connections"], shown["Shards"]) == ("1 accepted, 0 waiting", "2")
-        assert abs(float(re.fullmatch(r"([\d,]+\.\d) MiB", shown["Process memory"])[1]) - server.resident() / MIB) < 2
+        memory = float(re.fullmatch(r"([\d,]+\.\d) MiB", shown["Process memory"])[1]) * MIB
+        assert before - 2 * MIB < memory < server.resident() + 2 * MIB
         assert re.fullmatch(r"\d+(?: of [\d,]+)?", shown["Open files"]) is not None
 
 
+@fails_with("counts otherwise")
 def test_the_process_is_measured():
     """By what the system says of it beside."""
     began = time.time()
     with Watched() as server, Line(server.port) as line:
         for _ in range(5000):
             line.ask(NO_OP, NO_OP_REPLY)
+        before = server.resident()
         values, used = server.values(), server.cpu_seconds()
         told = float(re.search(r"^process_cpu_seconds_total (\d+\.\d\d)$", server.metrics(), re.M)[1])
-        assert abs(values["process_resident_memory_bytes"] - server.resident()) < MIB and 0 < used <= told <= used + 1
+        # More may be taken in between.
+        assert before - MIB < values["process_resident_memory_bytes"] < server.resident() + MIB
+        assert 0 < used <= told <= used + 1
         assert -2 < values["process_start_time_seconds"] - began < 2
 
 
+@fails_with("counts otherwise")
 def test_open_files_are_counted():
     """Those of clients among them, however many names the system gives at a time."""
     with Watched() as server:
@@ -488,6 +526,7 @@ def test_open_files_are_counted():
         eventually(counted, first)
 
 
+@fails_with("counts otherwise")
 def test_the_most_open_files_are_the_limit():
     """The one that the process has now."""
     with Watched(before=["prlimit", "--nofile=1234:4321"]) as server:
@@ -496,6 +535,7 @@ def test_the_most_open_files_are_the_limit():
         assert server.values()["process_max_fds"] == 4000
 
 
+@fails_with("counts otherwise")
 def test_those_who_wait_are_counted():
     """Connections beyond the seats wait in the system's queue, and leave it one by one; who waits at another port isn't counted."""
     with Watched("--seats", 2) as server, socket.create_server(("127.0.0.1", 0)) as other, Line(other.getsockname()[1]):
@@ -541,6 +581,7 @@ ASKED = [
 ]
 
 
+@fails_with("counts otherwise")
 def test_each_command_is_counted_by_what_came_of_it():
     with Watched("--shards", 1) as server, Line(server.port) as line:
         def found():
@@ -555,6 +596,7 @@ def test_each_command_is_counted_by_what_came_of_it():
         eventually(found, {**wanted, "flush hit": 1})
 
 
+@fails_with("counts otherwise")
 def test_items_and_evictions_are_told():
     """Items of 16 bytes of key, 100 of value and 64 beside them, in two shards of 1 MiB."""
     names = ["memcached_current_items", "memcached_current_bytes", "memcached_items_evicted_total", "mcd_out_of_memory_total"]
@@ -570,16 +612,19 @@ def test_items_and_evictions_are_told():
         fits = MIB // 180
         eventually(found, [2 * fits, 2 * fits * 180, 19_999 - 2 * fits, 0])
         by_shard = dict(re.findall(r'^(mcd_shard_\w+\{shard="\d"\}) (\d+)$', server.metrics(), re.M))
-        assert [by_shard[f'mcd_shard_{name}{{shard="{shard}"}}'] for name in ("items", "bytes", "out_of_memory_total") for shard in (0, 1)] == [str(it) for it in (fits, fits, fits * 180, fits * 180, 0, 0)]
+        assert [by_shard[f'mcd_shard_{name}{{shard="{shard}"}}'] for name in ("items", "bytes", "out_of_memory_total")
+                for shard in (0, 1)] == [str(it) for it in (fits, fits, fits * 180, fits * 180, 0, 0)]
         assert sum(int(by_shard[f'mcd_shard_evicted_total{{shard="{shard}"}}']) for shard in (0, 1)) == 19_999 - 2 * fits
 
 
+@fails_with("serves half a page")
 def test_the_version_is_the_programs():
     told = ended("--version")[1]
     with Watched() as server:
         assert f'memcached_version{{version="{told.split()[1]}"}} 1\n' in server.metrics()
 
 
+@fails_with("serves half a page")
 def test_promtool_reads_the_text():
     if not shutil.which("promtool"):
         pytest.skip("no promtool here")
@@ -588,6 +633,7 @@ def test_promtool_reads_the_text():
         assert (ran.returncode, ran.stdout, ran.stderr) == (0, "", "")
 
 
+@fails_with("serves half a page")
 def test_the_other_pages():
     with Watched() as server:
         assert (server.get("/healthz")[0], server.get("/healthz")[2]) == (200, b"ok\n")
@@ -597,12 +643,14 @@ def test_the_other_pages():
         assert (server.get("/nothing")[0], server.get("/metrics", "POST")[0]) == (404, 405)
 
 
+@fails_with("serves no metrics")
 def test_it_is_told_to_this_machine_alone():
     for where in ("0", ":0", "127.0.0.1:0"):
         with Watched(where=where) as server:
             assert server.get("/healthz")[0] == 200
 
 
+@fails_with("ends with 0")
 def test_a_taken_address_is_told():
     with Watched() as server:
         status, _, said = ended("--listen", "127.0.0.1:0", "--metrics", server.metrics_port)
@@ -639,6 +687,7 @@ def bad_http(port):
     return kept
 
 
+@fails_with("serves no metrics")
 def test_bad_http_harms_nobody():
     with Watched() as server:
         stop, found = threading.Event(), []

@@ -357,7 +357,10 @@ def arguments():
 
 def main():
     given = arguments()
-    is_named = lambda edit: not given.names or edit.parent.parent.name in given.names or name_of(edit) in given.names
+
+    def is_named(edit):
+        return not given.names or edit.parent.parent.name in given.names or name_of(edit) in given.names
+
     edits = [edit for it in crates() for edit in edits_in(it, CLASSIC, OTHER, ALONE) if is_named(edit)]
     if not edits:
         sys.exit("no such edits")

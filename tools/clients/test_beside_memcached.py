@@ -119,7 +119,8 @@ BEHIND = [*[b"\r\n"] * 9, b"xy"]
 UNIQUE, OTHER = b"<unique>", b"4000000001"
 # A key as a meta command has it, plain or in base64, with the flag that says so.
 META_KEY = st.sampled_from([*[(key, b"") for key in KEYS] * 9, *[(text, b" b") for text in ENCODED] * 2])
-TOKENS = {b"O": [b"77", b"o" * 31], b"N": [b"0", b"30"], b"R": [b"20", b"0"], b"T": [b"0", b"100", b"-1"], b"F": [b"0", b"9"], b"D": [b"1", b"10"], b"J": [b"0", b"13"]}
+TOKENS = {b"O": [b"77", b"o" * 31], b"N": [b"0", b"30"], b"R": [b"20", b"0"], b"T": [b"0", b"100", b"-1"], b"F": [b"0", b"9"], b"D": [b"1", b"10"],
+          b"J": [b"0", b"13"]}
 
 # Lines with a fault, none of which announces a block, and more that memcached reads in another way, or refuses by another line.
 LONG_KEY, LONG_TOKEN = b"k" * 251, b"O" + b"o" * 33
@@ -166,11 +167,13 @@ def commands(drop_in):
     compared, end = [b"", b"", b"", b" C" + UNIQUE, b" C" + OTHER], b"\r\n"
     keys = st.lists(KEY.map(b" ".__add__), min_size=1, max_size=3).map(b"".join)
     read = [joined([b"get", b"gets", b"get"], keys, end)] * 7 + [joined([b"gat ", b"gats "], EXPTIME, keys, end)] * 5
-    stores = with_block(joined([b"set ", b"set ", b"set ", b"add ", b"replace ", b"append ", b"prepend "], KEY, b" ", [b"0", b"5", b"4294967295"], b" ", EXPTIME),
+    stores = with_block(joined([b"set ", b"set ", b"set ", b"add ", b"replace ", b"append ", b"prepend "], KEY, b" ", [b"0", b"5", b"4294967295"],
+                               b" ", EXPTIME),
                         VALUE, noreply, BEHIND)
     compares = with_block(joined(b"cas ", KEY, b" 3 0"), VALUE, joined(b" ", [UNIQUE, OTHER], noreply))
     meta_stores = st.builds(lambda named, value, rest, behind: b"ms %b %d%b%b\r\n%b%b" % (named[0], len(value), named[1], rest, value, behind), META_KEY, VALUE,
-                            joined(flags(b"kOqcFT" + b"IN" * drop_in, 5, drop_in), [b"", b"", b"", b" ME", b" MA", b" MP", b" MR", b" MS"], compared), joined(BEHIND))
+                            joined(flags(b"kOqcFT" + b"IN" * drop_in, 5, drop_in), [b"", b"", b"", b" ME", b" MA", b" MP", b" MR", b" MS"], compared),
+                            joined(BEHIND))
     kinds = [
         *[stores] * 12, *[compares] * 2, *read,
         *[joined([b"incr ", b"decr "], KEY, b" ", NUMBER, noreply, end)] * 4,
@@ -384,6 +387,7 @@ def test_a_kind_of_command_counts_as_in_memcached(both, row):
     assert is_same(found[0][0], found[-1][0]) or difference(True, row[2], found[0][0], found[-1][0]) is not None
 
 
+@pytest.mark.fails_with("changes a byte")
 @pytest.mark.skipif(not shutil.which("memcached"), reason="memcached isn't installed")
 @pytest.mark.parametrize("drop_in", [False, True], ids=["own", "drop-in"])
 @pytest.mark.parametrize("seed", [1, 2, 3])

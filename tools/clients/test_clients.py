@@ -326,14 +326,14 @@ LARGE_PARTS = b"set joined 0 0 1000000\r\n%b\r\n" % (b"v" * 1_000_000), b" 10000
 def test_a_joined_value_that_is_too_large_is_not_stored(port):
     first, more = LARGE_PARTS
     Plain(port).asked(first + b"append joined 0 0" + more + b"ms joined" + more.replace(b"\r", b" MA k\r", 1) + b"mg joined s\r\n",
-                            b"STORED\r\nNOT_STORED\r\nNS kjoined\r\nHD s1000000\r\n")
+                      b"STORED\r\nNOT_STORED\r\nNS kjoined\r\nHD s1000000\r\n")
 
 
 @own
 def test_a_joined_value_that_is_too_large_is_an_error(port):
     first, more = LARGE_PARTS
     Plain(port).asked(first + b"append joined 0 0" + more + b"ms joined" + more.replace(b"\r", b" MA k\r", 1) + b"mg joined s\r\n",
-                            b"STORED\r\n" + b"SERVER_ERROR object too large for cache\r\n" * 2 + b"HD s1000000\r\n")
+                      b"STORED\r\n" + b"SERVER_ERROR object too large for cache\r\n" * 2 + b"HD s1000000\r\n")
 
 
 META_LINES = b"set m 5 100 1\r\nx\r\nms m 1 ME c\r\ny\r\nmg m u h\r\nmg m h\r\nmd m I\r\nmg m\r\nmg m\r\n"
