@@ -1,6 +1,7 @@
-"""A small model of the server, moved by one event at a time, for `tools/checks/replays.py`. It has the rings, the hands of the workers
+"""A small model of the server, moved by one event at a time, for `tools/checks/test_replays.py`. It has the rings, the hands of the workers
 and the slots, which the definitions of the proof leave out, and knows some commands alone.
 """
+from hypothesis import strategies as st
 
 VERSION = b"VERSION 1.6.0-sharded\r\n"
 
@@ -20,29 +21,32 @@ class Command:
         self.text, self.pieces, self.reply, self.last = text, pieces, reply, last
 
 
-def make_command(rng, shards):
+KEYS = [b"a", b"b", b"c", b"d", b"e"]
+
+
+@st.composite
+def commands(draw, shards):
     """A command on one of a few keys."""
-    key = rng.choice([b"a", b"b", b"c", b"d", b"e"])
+    key = draw(st.sampled_from(KEYS))
     at = place(key, shards)
-    quiet = rng.random() < 0.15
+    quiet = draw(st.sampled_from([False] * 6 + [True]))
     hidden = (lambda answers: b"") if quiet else (lambda answers: answers[0])
     tail = b" noreply" if quiet else b""
-    kind = rng.randrange(8)
-    if kind <= 1:
-        value = rng.choice([b"", b"7", b"18446744073709551615", b"x y", b"10"])
+    kind = draw(st.sampled_from(["get", "get", "set", "set", "incr", "delete", "flush", "other"]))
+    if kind == "set":
+        value = draw(st.sampled_from([b"7", b"", b"18446744073709551615", b"x y", b"10"]))
         return Command(b"set %s 0 0 %d%s\r\n%s\r\n" % (key, len(value), tail, value), [(at, ("set", key, value))], hidden)
-    if kind <= 3:
-        keys = [rng.choice([b"a", b"b", b"c", b"d", b"e"]) for _ in range(rng.randint(1, 4))]
-        name = rng.choice([b"get", b"gets"])
+    if kind == "get":
+        keys, name = draw(st.lists(st.sampled_from(KEYS), min_size=1, max_size=4)), draw(st.sampled_from([b"get", b"gets"]))
         pieces = [(place(one, shards), (name.decode(), one)) for one in keys]
         return Command(b"%s %s\r\n" % (name, b" ".join(keys)), pieces, lambda answers: b"".join(answers) + b"END\r\n")
-    if kind == 4:
+    if kind == "incr":
         return Command(b"incr %s 3%s\r\n" % (key, tail), [(at, ("incr", key))], hidden)
-    if kind == 5:
+    if kind == "delete":
         return Command(b"delete %s%s\r\n" % (key, tail), [(at, ("delete", key))], hidden)
-    if kind == 6:
+    if kind == "flush":
         return Command(b"flush_all\r\n", [(shard, ("flush",)) for shard in range(shards)], lambda answers: b"OK\r\n")
-    text, reply = rng.choice([(b"mn\r\n", b"MN\r\n"), (b"bogus\r\n", b"ERROR\r\n"), (b"version\r\n", VERSION)])
+    text, reply = draw(st.sampled_from([(b"mn\r\n", b"MN\r\n"), (b"bogus\r\n", b"ERROR\r\n"), (b"version\r\n", VERSION)]))
     return Command(text, [], lambda answers: reply)
 
 

@@ -1,6 +1,5 @@
-"""A server that a check starts and ends, and plain connections to it. `tools/checks/hostile.py`, `tools/bench/soak.py` and
-`tools/clients/` stand on it.
-"""
+"""The program, a server of it that ends with its test, and plain connections to it."""
+import contextlib
 import os
 import pathlib
 import re
@@ -11,16 +10,35 @@ import socket
 import struct
 import subprocess
 import sys
-import tempfile
 import time
 
 TOP = pathlib.Path(__file__).resolve().parent.parent
 MCD = str(TOP / "crates/mcd/out/mcd")
 MIB = 1 << 20
+STORED, TOO_LARGE = b"STORED\r\n", b"SERVER_ERROR object too large for cache\r\n"
+NO_OP, NO_OP_REPLY = b"mn\r\n", b"MN\r\n"
 
+# The seconds for which a connection waits for a reply by default.
+PATIENCE = 60
 
-# A server ends with the check that started it, also where that is killed.
+# A server ends with the test that started it, also where that is killed.
 WITH_US = ["setpriv", "--pdeathsig", "KILL"] if shutil.which("setpriv") else []
+
+
+def mcd(*options):
+    """The words of a command that runs the program."""
+    return [MCD, *map(str, options)]
+
+
+def run(*options, given=b"", timeout=60, **streams):
+    """Runs the program to its end over this input."""
+    return subprocess.run(mcd(*options), **{"input": given, "stdout": subprocess.PIPE, "stderr": subprocess.PIPE, **streams}, timeout=timeout)
+
+
+def ended(*options, **streams):
+    """The status with which the program ends without input, and its text on both outputs."""
+    ran = run(*options, timeout=30, **streams)
+    return ran.returncode, (ran.stdout or b"").decode(), ran.stderr.decode()
 
 
 def started(words, **streams):
@@ -29,18 +47,40 @@ def started(words, **streams):
     return subprocess.Popen([*WITH_US, *words], **{**quiet, **streams})
 
 
+@contextlib.contextmanager
+def running(words, **streams):
+    """A program that ends with the `with` block."""
+    with started(words, **streams) as process:
+        try:
+            yield process
+        finally:
+            process.kill()
+
+
+def free_port():
+    with socket.socket() as it:
+        it.bind(("127.0.0.1", 0))
+        return it.getsockname()[1]
+
+
+def is_up(port):
+    """Whether a server listens at the port soon."""
+    until = time.monotonic() + 20
+    while time.monotonic() < until:
+        with contextlib.suppress(OSError), socket.create_connection(("127.0.0.1", port), timeout=5):
+            return True
+        time.sleep(0.05)
+    return False
+
+
 def bounded(seconds):
-    """Ends the whole run by an error after `seconds` seconds, and lets `finally` run where it is told to end."""
+    """Raises an error after `seconds` seconds, and at SIGTERM and SIGHUP, so that each `finally` runs."""
 
-    def late(_number, _frame):
-        raise SystemExit(f"FAILED: not ended after {seconds} seconds")
+    def stop(number, _frame):
+        raise SystemExit(f"FAILED: not ended after {seconds} seconds" if number == signal.SIGALRM else "FAILED: ended by a signal")
 
-    def told(_number, _frame):
-        raise SystemExit("FAILED: told to end")
-
-    signal.signal(signal.SIGALRM, late)
-    signal.signal(signal.SIGTERM, told)
-    signal.signal(signal.SIGHUP, told)
+    for number in (signal.SIGALRM, signal.SIGTERM, signal.SIGHUP):
+        signal.signal(number, stop)
     signal.alarm(seconds)
 
 
@@ -59,7 +99,7 @@ class Server:
 
     def __init__(self, *options, before=(), **streams):
         # Unbuffered: who waits for a further line by select misses none that was read ahead.
-        words = [*before, MCD, "--listen", "127.0.0.1:0", *map(str, options)]
+        words = [*before, *mcd("--listen", "127.0.0.1:0", *options)]
         self.process = started(words, stderr=subprocess.PIPE, bufsize=0, **streams)
         # What it says before it listens: where its metrics are, if it serves them.
         self.before = []
@@ -112,11 +152,11 @@ class Server:
 class Line:
     """A plain connection."""
 
-    def __init__(self, port, timeout=60, room=None):
+    def __init__(self, port, timeout=None, room=None):
         self.socket = socket.socket()
         if room:
             self.socket.setsockopt(socket.SOL_SOCKET, socket.SO_RCVBUF, room)
-        self.socket.settimeout(timeout)
+        self.socket.settimeout(timeout or PATIENCE)
         self.socket.connect(("127.0.0.1", port))
         self.socket.setsockopt(socket.IPPROTO_TCP, socket.TCP_NODELAY, 1)
 
@@ -177,44 +217,6 @@ def set_of(key, value, flags=0):
 
 def hit_of(key, value, flags=0):
     return b"VALUE %s %d %d\r\n%s\r\nEND\r\n" % (key, flags, len(value), value)
-
-
-class Tally:
-    """Runs checks by their names, and counts what holds."""
-
-    def __init__(self, what):
-        self.what, self.passed, self.failed = what, 0, 0
-
-    def tell(self, holds, name):
-        self.passed, self.failed = self.passed + holds, self.failed + (not holds)
-        print(("ok      " if holds else "FAILED  ") + name, flush=True)
-
-    def run(self, check, *given):
-        """A check fails by an error; what it returns, if anything, is told."""
-        name, began = check.__name__, time.monotonic()
-        try:
-            told = check(*given)
-        except Exception as why:
-            self.tell(False, f"{name}: {type(why).__name__}: {why}")
-            return
-        self.tell(True, f"{name} ({time.monotonic() - began:.1f} s{', ' + told if told else ''})")
-
-    def done(self):
-        print(f"{self.what}: {self.passed} passed, {self.failed} failed", flush=True)
-        return 1 if self.failed else 0
-
-
-def run_checks(what, checks, seconds):
-    """Runs those of the checks whose names have a word of the command line in them, or all, in a folder for temporary files, and
-    gives the status to end with. All together take at most `seconds` seconds."""
-    needs_program()
-    bounded(seconds)
-    os.chdir(tempfile.gettempdir())
-    tally = Tally(what)
-    for check in checks:
-        if not sys.argv[1:] or any(name in check.__name__ for name in sys.argv[1:]):
-            tally.run(check)
-    return tally.done()
 
 
 def needs_program():

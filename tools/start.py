@@ -19,7 +19,7 @@ import subprocess
 import sys
 import time
 
-from listed_crates import LIST, TOP
+from sources import LIST, TOP
 from two_crates import TwoCrates
 
 PROGRAM = "mcd"

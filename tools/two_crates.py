@@ -16,7 +16,7 @@ import re
 import shutil
 import sys
 
-from listed_crates import LIST, TOP, below, libraries
+from sources import LIST, PARTS, TOP, below, files, libraries, text_of
 
 # The crates that are written into the library. All others are written into the program.
 LOWER = "mcd_lower"
@@ -25,8 +25,8 @@ OF_LOWER = """
     mc_model mc_worker
 """.split()
 
-# What the prover reads of a crate: the folders, the ending of their files, and the file of a library that names the others.
-PARTS = {"src": (".rt", "lib.rt"), "specs": (".antt", "Lib.antt"), "proofs": (".antt", "Lib.antt")}
+# The files of a library that name the others.
+ROOTS = {"src": "lib.rt", "specs": "Lib.antt", "proofs": "Lib.antt"}
 
 # How the root of a crate says by which tactic its goals are proved.
 TACTIC = "#![tactic(auto)]\n"
@@ -126,15 +126,14 @@ class TwoCrates:
 
     def files_of(self, crate):
         """Each file of a crate: where it stands in the one that it is written into, and its text."""
-        for part, (ending, root) in PARTS.items():
-            folder = TOP / "crates" / crate / part
-            for file in sorted(folder.rglob(f"*{ending}")):
+        for part, ending in PARTS.items():
+            root, folder = ROOTS[part], TOP / "crates" / crate / part
+            for file in files(part, crate=crate):
                 place = file.relative_to(folder)
                 if is_unused(crate, part, place):
                     continue
-                text = file.read_text(encoding="utf-8")
                 below_it = "" if str(place) == root else f"{place.with_suffix('')}/"
-                text = NAMED.sub(lambda found: "" if is_unused(crate, part, below_it + found[1]) else found[0], text)
+                text = NAMED.sub(lambda found: "" if is_unused(crate, part, below_it + found[1]) else found[0], text_of(file))
                 text = self.code(text, crate) if part == "src" else self.named(text)
                 if crate == self.program:
                     yield f"{part}/{place}", text

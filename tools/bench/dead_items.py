@@ -86,7 +86,8 @@ def measured(words, asked, pause):
         it.store(b"new0", asked.new, 0, asked.size)
         told = it.stats()
         resident = it.resident()
-        return f"{it.left(b'live', asked.live):,} of {asked.live:,} live items left; {told['curr_items']} items, {told['evictions']} evicted, {resident:.0f} MiB resident"
+        return (f"{it.left(b'live', asked.live):,} of {asked.live:,} live items left; {told['curr_items']} items, {told['evictions']} evicted, "
+                f"{resident:.0f} MiB resident")
     finally:
         it.stop()
 

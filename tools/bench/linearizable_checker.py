@@ -1,5 +1,5 @@
 """Decides whether the history of a key is linearizable: whether there is one order of its commands that gives each the reply
-that it got, and in which a command that ended before another began stands before it. `tools/bench/linearizable.py` records them.
+that it got, and in which a command that ended before another began stands before it. `tools/bench/test_linearizable.py` records them.
 
 A history is a list of `Call`s. What a call asks of the key's value, and what it makes of it, follows from its command and its
 reply (`rule_of`); values that clients store are all different, so a cas unique stands for the value that was read with it.

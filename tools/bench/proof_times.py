@@ -17,9 +17,9 @@ import collections
 import pathlib
 import sys
 
-sys.path.insert(0, str(pathlib.Path(__file__).resolve().parent.parent))
+sys.path.insert(0, str(pathlib.Path(__file__).resolve().parents[2]))
 
-from listed_crates import TOP  # noqa: E402
+from tools.sources import TOP  # noqa: E402
 
 ENDING, PROOF, READING = ".oantt", "Proof", "reading"
 LEAST_PARTS = 100

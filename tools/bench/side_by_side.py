@@ -155,7 +155,8 @@ def plot(found, folder):
         $Data << EOD
 {data}
 EOD
-        plot 1 with lines lc "gray" title "", $Data using 3:xtic(1) title "CPU a request (lower is better)", "" using 2 title "requests a second (higher is better)"
+        plot 1 with lines lc "gray" title "", $Data using 3:xtic(1) title "CPU a request (lower is better)", \\
+        "" using 2 title "requests a second (higher is better)"
     """
     subprocess.run(["gnuplot"], input=script, text=True, check=True)
 

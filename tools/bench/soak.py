@@ -8,7 +8,7 @@ items may go, and nothing else. On both checkers on keys of their own (`soak_che
 be lost, doubled, torn, late, foreign or out of date. Beside them other clients load the server, send noise, come and go, stall,
 and are cut or killed in the middle of what they send and read. Memory that is resident may not grow after the first minute, or
 the first third of a shorter run. With --rest each client rests so long between its rounds: so an hour's run leaves the machine
-to others. The last line is `soak: N passed, M failed`.
+to others.
 """
 import argparse
 import multiprocessing
@@ -17,15 +17,17 @@ import random
 import sys
 import time
 
-sys.path.insert(0, str(pathlib.Path(__file__).resolve().parent.parent))
+sys.path.insert(0, str(pathlib.Path(__file__).resolve().parents[2]))
 
-from served import MIB, Line, Server, Tally, bounded, equal, needs_program, set_of  # noqa: E402
-from soak_checker import Checker  # noqa: E402
+from tools.bench.soak_checker import Checker  # noqa: E402
+from tools.served import MIB, Line, Server, bounded, equal, needs_program, set_of  # noqa: E402
 
 # How often a second memory is read.
 LOOKS = 10
 
+
 # Those beside the checkers.
+
 
 def load(port, chance, _small):
     """Many keys of all sizes, stored and fetched in batches, and one line that asks for many."""
@@ -174,22 +176,21 @@ def is_flat(seen):
     return max(seen[first:]) < 1.25 * max(seen[:first]) + 8 * MIB
 
 
-def tell(tally, what, server, found, clients, given):
-    """Tells of one server what its clients report, how much memory it took, and whether it still runs."""
+def judged(what, server, found, clients, given):
+    """Of one server, what its clients report, how much memory it took, and whether it still runs: each with whether it holds."""
     for _ in clients:
         holds, told = given.get(timeout=60)
-        tally.tell(holds, f"soak, {what}: {told}")
-    tally.tell(is_flat(found), f"soak, {what}: memory stays ({min(found) / MIB:.0f} to {max(found) / MIB:.0f} MiB, at the end {found[-1] / MIB:.0f})")
-    tally.tell(server.is_running(), f"soak, {what}: the server still runs, and took {server.cpu_seconds():.0f} s of a processor")
+        yield holds, f"{what}: {told}"
+    yield is_flat(found), f"{what}: memory stays ({min(found) / MIB:.0f} to {max(found) / MIB:.0f} MiB, at the end {found[-1] / MIB:.0f})"
+    yield server.is_running(), f"{what}: the server still runs, and took {server.cpu_seconds():.0f} s of a processor"
 
 
-def soak(tally, seconds, rest=0, seed=7):
+def soak(seconds, rest=0, seed=7):
     pace = Pace(seconds, rest)
     with Server("--seats", 8, "--bytes", 128 * MIB) as roomy, Server("--seats", 8, "--bytes", MIB) as small:
         of_roomy, of_small = begun(roomy, False, pace, seed), begun(small, True, pace, seed + 100)
         in_roomy, in_small = memory_of((roomy, small), seconds)
-        tell(tally, "roomy", roomy, in_roomy, *of_roomy)
-        tell(tally, "small", small, in_small, *of_small)
+        return [*judged("roomy", roomy, in_roomy, *of_roomy), *judged("small", small, in_small, *of_small)]
 
 
 def main():
@@ -200,9 +201,9 @@ def main():
     given = parser.parse_args()
     needs_program()
     bounded(int(given.seconds) + 300)
-    tally = Tally("soak")
-    soak(tally, given.seconds, given.rest, given.seed)
-    return tally.done()
+    found = soak(given.seconds, given.rest, given.seed)
+    print(*(f"{'ok' if holds else 'FAILED'} soak, {told}" for holds, told in found), sep="\n")
+    return 0 if all(holds for holds, _ in found) else 1
 
 
 if __name__ == "__main__":

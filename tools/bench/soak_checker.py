@@ -4,7 +4,7 @@ meta commands in batches, and knows each reply beforehand. `tools/bench/soak.py`
 import random
 import time
 
-from served import Line, set_of
+from tools.served import Line, set_of
 
 BATCH = 40
 KEYS = 60

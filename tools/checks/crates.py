@@ -13,9 +13,9 @@ import pathlib
 import re
 import sys
 
-sys.path.insert(0, str(pathlib.Path(__file__).resolve().parent.parent))
+sys.path.insert(0, str(pathlib.Path(__file__).resolve().parents[2]))
 
-from listed_crates import TOP, below, libraries  # noqa: E402
+from tools.sources import TOP, below, files, libraries, text_of  # noqa: E402
 
 PAGE = TOP / "docs/ARCHITECTURE.md"
 BEGIN, END = "<!-- tools/checks/crates.py -->\n", "<!-- end -->\n"
@@ -31,8 +31,7 @@ def unnamed():
     """The crates whose lines list a crate of the repository that no file of theirs names."""
     found = []
     for name, its in read().items():
-        files = [it for part in ("src", "specs", "proofs") for it in (TOP / "crates" / name / part).rglob("*.*t*") if it.is_file()]
-        words = {word for it in files for word in re.findall(r"\bmc_\w+", it.read_text(encoding="utf-8"))}
+        words = {word for it in files(crate=name) for word in re.findall(r"\bmc_\w+", text_of(it))}
         found += [f"{name} lists {it}, which it names nowhere: take it out of crates.txt" for it in sorted(its - words)]
     return found
 
@@ -75,7 +74,8 @@ def main():
             print(*unused, sep="\n")
             return 1
         if drawn != picture() or missing:
-            print("docs/ARCHITECTURE.md shows other crates than crates.txt: run tools/checks/crates.py --write", *[f"and add a row for {name}" for name in missing], sep="\n")
+            print("docs/ARCHITECTURE.md shows other crates than crates.txt: run tools/checks/crates.py --write",
+                  *[f"and add a row for {name}" for name in missing], sep="\n")
             return 1
     return 0
 

@@ -16,8 +16,11 @@ import pathlib
 import re
 import sys
 
-TOP = pathlib.Path(__file__).resolve().parent.parent.parent
-CRATES = TOP / "crates"
+sys.path.insert(0, str(pathlib.Path(__file__).resolve().parents[2]))
+
+from tools import sources  # noqa: E402
+from tools.sources import CRATES, TOP, files, imports  # noqa: E402
+
 PAGE = TOP / "docs/TRUSTED.md"
 QUOTING = [TOP / "README.md", TOP / "docs/PROOFS.md"]
 BEGIN, END = "<!-- tools/checks/definitions.py -->\n", "<!-- end -->\n"
@@ -26,7 +29,8 @@ BEGIN, END = "<!-- tools/checks/definitions.py -->\n", "<!-- end -->\n"
 # them, one line, real threads over doors, lines in memory, streams and sockets, replay files and the command line.
 THEOREMS = [
     ("mc_model/src/laws.rt", ["every_schedule"]),
-    ("mc_laws/src/progress.rt", ["never_stuck", "all_comes_to_rest", "fair_runs_come_to_rest", "what_is_tried_is_fair", "none_waits_forever", "bytes_are_taken_at_rest"]),
+    ("mc_laws/src/progress.rt", ["never_stuck", "all_comes_to_rest", "fair_runs_come_to_rest", "what_is_tried_is_fair", "none_waits_forever",
+                                 "bytes_are_taken_at_rest"]),
     ("mc_laws/src/order.rt", ["what_was_handed_out_ran_before", "keys_are_linearizable"]),
     ("mc_laws/src/settling.rt", ["settle"]),
     ("mc_sim/src/sim.rt", ["new", "connections", "fed", "handed", "log", "step", "run"]),
@@ -46,42 +50,39 @@ THEOREMS = [
 SEALED = {("mc_sim/specs/Stands.antt", "Stands"), ("mc_sim/src/sim.rt", "Sim")}
 
 WORD = re.compile(r"[^\W\d]\w*(?:-\w+)*'*")
-IMPORT = re.compile(r"^(?:pub |ghost )?use (Rattle\.[\w.]+?)(?:\.\{(.*?)\}| as (\w+))?;?$", re.M)
 
 
-@functools.lru_cache(None)
 def text_of(file):
-    return (CRATES / file).read_text(encoding="utf-8")
+    return sources.text_of(CRATES / file)
 
 
-@functools.lru_cache(None)
-def sources(crate):
+def code_of(crate):
     """The files of a crate's code."""
-    return [it.relative_to(CRATES).as_posix() for it in sorted((CRATES / crate).glob("src/**/*.rt"))]
+    return [it.relative_to(CRATES).as_posix() for it in files("src", crate=crate)]
 
 
-@functools.lru_cache(None)
+@functools.cache
 def type_file(crate, name):
     """The file of a crate that declares this type or trait, and whether others see it."""
-    for file in sources(crate):
+    for file in code_of(crate):
         if found := re.search(rf"^(pub )?(?:pub\(.*?\) )?(?:struct|enum|trait) {name}\b", text_of(file), re.M):
             return file, bool(found[1])
     return None, False
 
 
-@functools.lru_cache(None)
+@functools.cache
 def value_of(name):
     """The value of a constant, also where it is named after another one."""
-    for file in (it for crate in crate_order() for it in sources(crate)):
+    for file in (it for crate in crate_order() for it in code_of(crate)):
         if found := re.search(rf"^(?:pub(?:\(.*?\))? )?const {name}: \w+ = (.*);$", text_of(file), re.M):
             return found[1] if found[1][0].isdigit() else value_of(found[1]) or found[1]
     return None
 
 
-@functools.lru_cache(None)
+@functools.cache
 def crate_order():
     """The crates, lowest first."""
-    return re.findall(r"^(\w+)", (TOP / "crates.txt").read_text(), re.M)
+    return list(sources.lines())
 
 
 def public_types(said, file):
@@ -94,26 +95,18 @@ def public_types(said, file):
 
 
 def brought(text):
-    """What a file brings in: each name, with the place that it comes from and its name there."""
-    for place, names, alias in IMPORT.findall(text):
-        if not place.startswith("Rattle.mc_"):
-            continue
-        crate, path = re.match(r"Rattle\.(\w+)\.(?:specs\.)?(.*)", place).groups()
-        for name in re.split(r", *", names) if names else []:
-            there, _, here = name.partition(" as ")
-            yield here or there, (crate, path, there)
-        if alias:
-            yield alias, (crate, path, "*")
+    """What a file brings in of the repository: each name, with the place that it comes from and its name there."""
+    for _, place, there, here in imports(text):
+        if place.startswith("Rattle.mc_"):
+            crate, path = re.match(r"Rattle\.(\w+)\.(?:specs\.)?(.*)", place).groups()
+            yield here, (crate, path, there)
 
 
 def of_the_kit(text):
     """The words of the standard library and the kit's crates that a file brings in, each with its crate."""
-    for place, names, alias in IMPORT.findall(text):
+    for _, place, there, here in imports(text):
         if not place.startswith("Rattle.mc_"):
-            crate = place.split(".")[1]
-            for name in [*(re.split(r", *", names) if names else [place.rpartition(".")[2]]), alias]:
-                if here := name.rpartition(" as ")[2]:
-                    yield here, (crate, name.partition(" as ")[0])
+            yield here, (place.split(".")[1], here if there == "*" else there)
 
 
 class Reached:
@@ -289,7 +282,7 @@ def quotes(page):
 
 def misquoted():
     """The quotes that the code doesn't have, word for word but for where its lines end."""
-    code = " ".join(word for file in sorted(CRATES.glob("*/src/**/*.rt")) for word in file.read_text(encoding="utf-8").split())
+    code = " ".join(word for file in files("src") for word in sources.text_of(file).split())
     return [(page, quote) for page in QUOTING for quote in quotes(page) if quote not in code]
 
 

@@ -1,12 +1,13 @@
-#!/usr/bin/env python3
-"""Stands in for mcd with one fault put in, so that tools/checks/seen_to_fail.py can see which checks find it.
+"""Stands in for mcd with one fault put in, so that `pytest --seen-to-fail` can see which tests find it.
 
-    tools/checks/faulty.py FAULT PROGRAM [WORD ..]     FAULT is a key of STATUSES, INPUTS, CALLS, SIGNALS, TEXTS or LINES below, PROGRAM the real one
+    python3 -m tools.checks.faulty FAULT PROGRAM [WORD ..]     FAULT is a key of STATUSES, INPUTS, PAGES, CALLS, SIGNALS, TEXTS
+                                                                or LINES below, PROGRAM the real one
 
 With a fault of LINES, calls that serve connections go through a proxy of this process, so what a check reads of the memory of the server is its.
 """
+import http.client
+import http.server
 import os
-import pathlib
 import re
 import signal
 import socket
@@ -16,9 +17,7 @@ import sys
 import threading
 import time
 
-sys.path.insert(0, str(pathlib.Path(__file__).resolve().parent.parent))
-
-from served import MIB, WITH_US, started  # noqa: E402
+from tools.served import MIB, WITH_US, started
 
 # Memory that is never given back.
 KEPT = []
@@ -193,6 +192,21 @@ class SlowForChosenKeys(Honest):
         super().up(got)
 
 
+class EndsSoon(Honest):
+    def serve(self):
+        threading.Timer(2, lambda: self.server.shutdown(socket.SHUT_RDWR)).start()
+        super().serve()
+
+
+class AsksMore(Honest):
+    """Sends a command of its own first, whose reply it keeps for itself."""
+
+    def serve(self):
+        self.server.sendall(b"mn\r\n")
+        self.server.recv(4, socket.MSG_WAITALL)
+        super().serve()
+
+
 class Spins(Honest):
     def __init__(self, *given):
         super().__init__(*given)
@@ -224,6 +238,7 @@ LINES = {
     "takes 64 MiB a connection": takes(64), "takes 4 KiB a connection": takes(1 / 256), "counts a connection twice": Honest,
     "takes 4 MiB for what is open": TakesForWhatIsOpen, "spins": Spins, "loses its seats": LosesSeats,
     "ends a connection after a gigabyte": EndsAfterAGigabyte, "accepts to the end": AcceptsToTheEnd,
+    "ends a connection after two seconds": EndsSoon, "asks more than its clients": AsksMore, "lets vanished clients be": Honest,
 }
 
 # The signals that end a program in order where they are blocked, and one that ends nothing then.
@@ -246,10 +261,12 @@ def serve(fault, program, words):
     front.bind((host, int(port)))
     front.listen(128)
     real = started([program, *words[:at], "127.0.0.1:0", *words[at + 1 :]], stderr=subprocess.PIPE)
-    said, _, behind = real.stderr.readline().decode().rpartition(":")
+    while "listening" not in (line := real.stderr.readline().decode()):
+        print(line, end="", file=sys.stderr)
+    said, _, behind = line.rpartition(":")
     KEPT.append(b"x" * (LINES[fault].at_start * MIB))
     print(f"{said}:{front.getsockname()[1]}", file=sys.stderr, flush=True)
-    threading.Thread(target=accept_all, args=(LINES[fault], front, int(behind)), daemon=True).start()
+    threading.Thread(target=accept_all, args=(fault, front, int(behind)), daemon=True).start()
     if ENDING <= signal.pthread_sigmask(signal.SIG_BLOCK, []):
         threading.Thread(target=pass_on, args=(LINES[fault], front, real), daemon=True).start()
     return real.wait()
@@ -263,7 +280,8 @@ def pass_on(kind, front, real):
     real.send_signal(number)
 
 
-def accept_all(kind, front, behind):
+def accept_all(fault, front, behind):
+    kind = LINES[fault]
     seats, number = threading.Semaphore(kind.at_once), 0
     while True:
         seats.acquire()
@@ -271,6 +289,7 @@ def accept_all(kind, front, behind):
             client, _ = front.accept()
         except OSError:
             return
+        client.setsockopt(socket.SOL_SOCKET, socket.SO_KEEPALIVE, fault != "lets vanished clients be")
         one = kind(client, socket.create_connection(("127.0.0.1", behind)), number)
         number += 1
         threading.Thread(target=lambda it=one: (it.serve(), seats.release()), daemon=True).start()
@@ -343,13 +362,58 @@ def instead(name, value):
     return lambda words: [*without([name])(words), name, value]
 
 
+# Faults of what the metrics' port serves.
+PAGES = {
+    "counts otherwise": lambda text: re.sub(r"(?m)(?<=[ >])([\d,]+)(?=$|[ <])", lambda it: f"{int(it[1].replace(',', '') or 0) + 7:,}", text),
+    "serves half a page": lambda text: text[: len(text) // 2],
+}
+
+
+class Page(http.server.BaseHTTPRequestHandler):
+    """Passes on what is asked at the metrics' port of the real program, and changes what it answers."""
+
+    def do_GET(self):
+        asked = http.client.HTTPConnection("127.0.0.1", self.server.behind)
+        asked.request(self.command, self.path)
+        answer = asked.getresponse()
+        body = self.server.change(answer.read().decode()).encode()
+        self.send_response(answer.status)
+        for name, value in {"Content-Type": answer.headers["Content-Type"], "Content-Length": len(body)}.items():
+            self.send_header(name, value)
+        self.end_headers()
+        self.wfile.write(body)
+
+    do_HEAD = do_POST = do_GET
+
+    def log_message(self, *_):
+        """Nothing is logged."""
+
+
+def serve_pages(change, program, words):
+    """Runs the program, before whose metrics' port this process is."""
+    real = started([program, *words], stderr=subprocess.PIPE)
+    for line in real.stderr:
+        if found := re.fullmatch(rb"metrics 127\.0\.0\.1:(\d+)\n", line):
+            front = http.server.ThreadingHTTPServer(("127.0.0.1", 0), Page)
+            front.behind, front.change = int(found[1]), change
+            threading.Thread(target=front.serve_forever, daemon=True).start()
+            line = b"metrics 127.0.0.1:%d\n" % front.server_port
+        sys.stderr.buffer.write(line)
+        sys.stderr.flush()
+    return real.wait()
+
+
 # Faults of how the program is called.
 CALLS = {
     "has few seats": few_seats, "listens elsewhere": elsewhere, "refuses capital letters": refuses_capitals, "listens before it does": says_at_once,
-    "ignores the port": without(["--port", "-p"]), "ignores the number of seats": without(["--seats", "-c"]), "ignores a value limit": without(["--value-limit", "-I"]),
+    "ignores the port": without(["--port", "-p"]), "ignores the number of seats": without(["--seats", "-c"]),
+    "ignores a value limit": without(["--value-limit", "-I"]),
     "ignores that it is to be verbose": without(["--verbose", "-v"]), "ignores that it is to plan": without(["--plan"]),
-    "ignores the rules of memcached": without(["--drop-in"]), "ignores a line limit": without(["--line-limit"]), "ignores a budget": without(["--bytes", "--memory"]),
+    "ignores the rules of memcached": without(["--drop-in"]), "ignores a line limit": without(["--line-limit"]),
+    "ignores a budget": without(["--bytes", "--memory"]),
     "ignores the number of shards": without(["--shards"]), "ignores the moment": without(["--at"]), "ignores the window": without(["--window"]),
+    "ignores the idle timeout": without(["--idle-timeout"]),
+    "ignores the mode of a socket": without(["--unix-mask", "-a"]),
     "ignores the number of connections": without(["--connections"]), "serves no metrics": without(["--metrics"]), "has a clock that stands still": stands_still,
     "listens at each address": everywhere,
     "has two shards": instead("--shards", "2"), "cuts connections off at once": instead("--drain", "0"), "drains for an hour": instead("--drain", "3600"),
@@ -383,8 +447,11 @@ def times(factor):
 
 # Faults of a line that it prints.
 TEXTS = {
-    "warns of nothing": lambda text: "" if "warning" in text else text, "names its own rules alone": lambda text: text.replace("memcached's rules", "own rules"),
-    "counts open files otherwise": lambda text: re.sub(r"needs \d+ open files", "needs 30 open files", text), "plans a third": times(1 / 3), "plans ten times as much": times(10),
+    "warns of nothing": lambda text: "" if "warning" in text else text,
+    "names its own rules alone": lambda text: text.replace("memcached's rules", "own rules"),
+    "counts open files otherwise": lambda text: re.sub(r"needs \d+ open files", "needs 30 open files", text), "plans a third": times(1 / 3),
+    "plans ten times as much": times(10),
+    "changes what it replays": lambda text: re.sub(r"0a$", "0b", text, flags=re.M),
 }
 
 
@@ -425,6 +492,8 @@ def main():
         return converse(fault, program, words)
     if fault in CALLS:
         os.execv(program, [program, *CALLS[fault](words)])
+    if fault in PAGES:
+        return serve_pages(PAGES[fault], program, words)
     if fault in SIGNALS:
         return SIGNALS[fault](program, words)
     if fault in TEXTS:

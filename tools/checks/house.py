@@ -17,21 +17,20 @@ import pathlib
 import re
 import sys
 
-TOP = pathlib.Path(__file__).resolve().parent.parent.parent
-CRATES = TOP / "crates"
+sys.path.insert(0, str(pathlib.Path(__file__).resolve().parents[2]))
+
+from tools.sources import COMMENT, CRATES, TOP, files, imports, text_of, without_comments  # noqa: E402
+
 COLUMNS = 100
 CHARACTERS = 600
 CLAUSE = re.compile(r"(?:ensures\*?|requires\*?)\b|ghost (?!use\b)\w+(?: =|:) ")
-IMPORT = re.compile(r"^use (Rattle\.[\w.+]+?)\.\{(.*?)\}", re.M)
 TACTIC = re.compile(r"\bproofs(?:::\w+)*::([\w-]+)")
 LEMMA = re.compile(r" *pub (?:(?:unfoldable|abbrev) )?([^\s:(){}]+) :|(?:unfoldable|abbrev) pub ([^\s:(){}]+) :")
 HEAD = re.compile(r"^(?:unfoldable |abbrev )?(?:pub )?(?:unfoldable |abbrev )?([^\s:(){}]+) :", re.M)
 STATED = re.compile(r"^(?:pub )?([^\s:(){}]+) : (.*\n(?:[ \t]+.*\n)*)", re.M)
 BOUND = re.compile(r"[({]([^(){}:]+) :|λ ([^.()]+)\.")
-COMMENT = re.compile(r"--.*|//.*")
-# A line that imports anything, and one that imports definitions or lemmas, with their names: in a list, or after `as`.
+# A line that imports anything.
 IMPORTING = re.compile(r"^(?:pub(?:\(\w+\))? )?(?:ghost )?use [^;\n]*?(?:;|\n|\{[^}]*\};?)", re.M)
-TAKEN_IN = re.compile(r"^(?:ghost )?use (Rattle\.[^\s{;]+)(?:\.\{([^}]*)\}| as (\S+?));?$", re.M)
 SEPARATORS = re.compile(r"[\s(){}\[\],;.:]+")
 WORKED_ROWS = re.compile(r"Rows|Corners|Crossing")
 DOCUMENTS = ["docs/*.md", "README.md", "CONTRIBUTING.md", "tools/README.md"]
@@ -41,8 +40,8 @@ ANSWERS = {"Proof.antt", "Invariants.antt", "Answers.antt"}
 
 def clauses():
     """The lines of each clause: the file, the number of its first line, and the lines."""
-    for file in sorted(CRATES.glob("*/src/**/*.rt")):
-        lines = file.read_text(encoding="utf-8").splitlines()
+    for file in files("src"):
+        lines = text_of(file).splitlines()
         number = 0
         while number < len(lines):
             first, number = number, number + 1
@@ -58,23 +57,22 @@ def clauses():
 def cited():
     """The names that other files import, with their modules, and those that a tactic is told to use."""
     names, told = set(), set()
-    for file in CRATES.glob("*/proofs/**/*.antt"):
-        for module, words in IMPORT.findall(file.read_text(encoding="utf-8")):
-            names |= {(module, word.split(" as ")[0].strip()) for word in words.split(",")}
-    for file in CRATES.glob("*/src/**/*.rt"):
-        told |= set(TACTIC.findall(file.read_text(encoding="utf-8")))
+    for file in files("proofs"):
+        names |= {(module, there) for _, module, there, _ in imports(text_of(file))}
+    for file in files("src"):
+        told |= set(TACTIC.findall(text_of(file)))
     return names, told
 
 
 def lemmas():
     """The lemmas that other files cite: the file, the line, the name, and whether a sentence stands above it."""
     names, told = cited()
-    for file in sorted(CRATES.glob("*/proofs/**/*.antt")):
+    for file in files("proofs"):
         if file.name in ANSWERS:
             continue
         crate, _, *path = file.relative_to(CRATES).with_suffix("").parts
         module = ".".join(["Rattle", crate, "proofs", *path])
-        lines = file.read_text(encoding="utf-8").splitlines()
+        lines = text_of(file).splitlines()
         for number, line in enumerate(lines):
             if found := LEMMA.match(line):
                 name = found[1] or found[2]
@@ -89,9 +87,8 @@ def is_of_lemmas(file):
 
 def uncited():
     """The lemmas that nothing cites, but for worked rows: the file, the line and the name."""
-    files = [*CRATES.glob("*/src/**/*.rt"), *CRATES.glob("*/specs/**/*.antt"), *CRATES.glob("*/proofs/**/*.antt")]
-    texts = {file: COMMENT.sub("", file.read_text(encoding="utf-8")) for file in sorted(files)}
-    words = collections.Counter(word for text in texts.values() for word in SEPARATORS.split(text))
+    texts = {file: without_comments(file) for file in files()}
+    words = collections.Counter(word for said in texts.values() for word in SEPARATORS.split(said))
     for file, text in texts.items():
         if not is_of_lemmas(file):
             continue
@@ -113,8 +110,8 @@ def without_names(statement):
 def stated_twice():
     """The lemmas that say what another one says: the file, the line, the name, and the other."""
     said = {}
-    for file in filter(is_of_lemmas, sorted(CRATES.glob("*/proofs/**/*.antt"))):
-        text = COMMENT.sub("", file.read_text(encoding="utf-8"))
+    for file in filter(is_of_lemmas, files("proofs")):
+        text = without_comments(file)
         for found in STATED.finditer(text):
             other = said.setdefault(without_names(found[2]), f"{found[1]} of {file.relative_to(CRATES)}")
             if other != f"{found[1]} of {file.relative_to(CRATES)}":
@@ -130,20 +127,18 @@ def is_used(name, text):
 
 def unused_imports():
     """The definitions and lemmas that a file imports and doesn't use: the file, the line and the name."""
-    for file in sorted([*CRATES.glob("*/src/**/*.rt"), *CRATES.glob("*/specs/**/*.antt"), *CRATES.glob("*/proofs/**/*.antt")]):
-        text = file.read_text(encoding="utf-8")
+    for file in files():
+        text = text_of(file)
         rest = COMMENT.sub("", IMPORTING.sub("", text))
-        for found in TAKEN_IN.finditer(text):
-            for name in (found[2] or found[3]).split(","):
-                name = name.split(" as ")[-1].strip()
-                if name and not is_used(name, rest):
-                    yield file, text.count("\n", 0, found.start()) + 1, name
+        for start, _, _, name in imports(text):
+            if not text.startswith("pub", start) and not is_used(name, rest):
+                yield file, text.count("\n", 0, start) + 1, name
 
 
 def sources():
     """The sources of random bytes that are no test's: the file and the line."""
-    for file in sorted(CRATES.glob("*/src/**/*.rt")):
-        text = file.read_text(encoding="utf-8")
+    for file in files("src"):
+        text = text_of(file)
         for found in re.finditer(r"\bRandomSource\s+for\b", text):
             if not file.relative_to(CRATES).parts[0].endswith("_tests"):
                 yield file, text.count("\n", 0, found.start()) + 1
@@ -153,7 +148,7 @@ def paragraphs():
     """The paragraphs of the documents: the file, the line, and the text."""
     for file in [file for pattern in DOCUMENTS for file in sorted(TOP.glob(pattern))]:
         is_code = False
-        for number, line in enumerate(file.read_text(encoding="utf-8").splitlines(), 1):
+        for number, line in enumerate(text_of(file).splitlines(), 1):
             if line.lstrip().startswith("```"):
                 is_code = not is_code
             elif line and not is_code and not line.lstrip().startswith("|"):

@@ -28,9 +28,10 @@ COMMAND = re.compile(r"(?:^|[\s/])(?:mcd|tools/start\.py --) ((?:[^\n|;&#`]|\\\n
 
 
 def there(document, path):
-    """Whether a path leads to a file, from the top of the repository or from the document."""
-    pattern = ANY.sub("*", path).removeprefix("../../").rstrip("/")
-    return any(next(folder.glob(pattern), None) for folder in (TOP, document.parent))
+    """Whether a path leads to a file, from the top of the repository or from the document; behind `::`, to a test in it."""
+    pattern, _, test = ANY.sub("*", path).removeprefix("../../").rstrip("/").partition("::")
+    found = [it for folder in (TOP, document.parent) for it in folder.glob(pattern)]
+    return any(f"def {test}(" in it.read_text(encoding="utf-8") for it in found) if test else bool(found)
 
 
 def is_path(document, word):

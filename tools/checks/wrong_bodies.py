@@ -49,11 +49,10 @@ import tempfile
 import threading
 import time
 
-sys.path.insert(0, str(pathlib.Path(__file__).resolve().parent.parent))
+sys.path.insert(0, str(pathlib.Path(__file__).resolve().parents[2]))
 
-from listed_crates import TOP, below, libraries  # noqa: E402
+from tools.sources import PARTS, TOP, Source, below, libraries  # noqa: E402
 
-PARTS = ["src", "specs", "proofs"]
 CLASSIC, OTHER, ALONE = "classic-faults", "wrong-bodies", "must-fail"
 BYTES_A_CHECK = 4 * 1024**3
 COUNTED = ["contract", "loop", "call", "lemma"]
@@ -115,71 +114,6 @@ def stale(edits):
         if fault:
             print(f"{name_of(edit)}: {fault}")
     return sum(fault is not None for _, fault in faults)
-
-
-def head_of(line):
-    """What the checker calls the block that begins so, and the type: `impl From<A> for B<'_, C>` is `B+CFromA`, of `B`."""
-    head = re.sub(r"\bwhere\b.*|\{.*|\w+::", "", line)
-    own, head = re.match(r"(?:pub )?(?:impl|trait)\b(<(?:[^<>]|<[^<>]*>|->)*>)?(.*)", head).groups()
-    parameters = re.findall(r"(?:^<|, *)(\w+)", own or "")
-    trait, _, of = (head if line.startswith("impl") else head.partition(":")[0]).rpartition(" for ")
-    words = lambda text: [it for it in re.findall(r"'?\w+", text) if it[0] != "'" and it not in parameters]
-    return "+".join(words(of)) + "".join(words(trait)), (words(of) or [""])[0]
-
-
-class Source:
-    """The functions of a crate, as `rt fmt` lays them out: each ends with a brace below its first letter."""
-
-    def __init__(self, crate):
-        self.functions, self.modules = [], {}
-        texts = {it.relative_to(crate).as_posix(): it.read_text().splitlines() for it in sorted(crate.glob("src/**/*.rt"))}
-        for file, lines in texts.items():
-            module = [it for it in re.sub(r"^src/|(/mod)?\.rt$", "", file).split("/") if it not in ("lib", "main")]
-            for line in lines:
-                if found := re.match(r"(?:pub(?:\(.*?\))? )?(?:struct|enum) (\w+)", line):
-                    self.modules[found[1]] = module
-            self.modules[file] = module
-        for file, lines in texts.items():
-            self.read(file, lines)
-
-    def read(self, file, lines):
-        block = []
-        for number, line in enumerate(lines, 1):
-            if re.match(r"impl\b|(pub )?trait\b", line):
-                # the head may be of several lines
-                end = next((it for it in range(number - 1, len(lines)) if "{" in lines[it]), number - 1)
-                name, of = head_of(" ".join(it.strip() for it in lines[number - 1 : end + 1]))
-                # the functions of a type stand where the type does
-                block = [*self.modules.get(of, self.modules[file]), name]
-            elif line.startswith("}"):
-                block = []
-            if found := re.match(r"( *)(?:pub(?:\(.*?\))? )?(?:const )?(?:unsafe )?fn (\w+)", line):
-                stop = next((it for it in range(number, len(lines)) if re.match(found[1] + r"(\}|\S.*;$)", lines[it])), number)
-                text = "\n".join(lines[number - 1 : stop + 1])
-                # its attributes stand above it, and the checker names the first line of them
-                first = next((it + 2 for it in range(number - 2, -1, -1) if re.match(r" *($|\S.*[;{]$|\}|///)", lines[it])), 1)
-                path = "::".join([*(block or self.modules[file]), found[2]])
-                self.functions.append({"file": file, "first": first, "last": stop + 1, "name": found[2], "text": text, "path": path})
-
-    def at(self, file, line):
-        """The functions that have this line."""
-        return [it for it in self.functions if it["file"] == file and it["first"] <= line <= it["last"]]
-
-    def edited(self, changes):
-        """The one function that these changes are in, or None."""
-        found = [self.at(file, line) for file, line, _, _ in changes]
-        paths = {it[-1]["path"] for it in found if it}
-        return found[0][-1] if all(found) and len(paths) == 1 else None
-
-    def callers(self, names):
-        """The names of the functions that call one of these, by themselves or through others."""
-        found = set(names)
-        while True:
-            called = re.compile(r"\b(?:" + "|".join(map(re.escape, found)) + r")\b")
-            more = {it["name"] for it in self.functions if it["name"] not in found and called.search(it["text"])} if found else set()
-            if not more:
-                return found
-            found |= more
 
 
 def name_of(edit):
@@ -423,7 +357,10 @@ def arguments():
 
 def main():
     given = arguments()
-    is_named = lambda edit: not given.names or edit.parent.parent.name in given.names or name_of(edit) in given.names
+
+    def is_named(edit):
+        return not given.names or edit.parent.parent.name in given.names or name_of(edit) in given.names
+
     edits = [edit for it in crates() for edit in edits_in(it, CLASSIC, OTHER, ALONE) if is_named(edit)]
     if not edits:
         sys.exit("no such edits")

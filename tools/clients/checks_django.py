@@ -14,7 +14,8 @@ made = []
 
 
 def configure(host, port):
-    caches = {name: {"BACKEND": f"django.core.cache.backends.memcached.{kind}", "LOCATION": f"{host}:{port}", "KEY_PREFIX": name} for name, kind in BACKENDS.items()}
+    caches = {name: {"BACKEND": f"django.core.cache.backends.memcached.{kind}", "LOCATION": f"{host}:{port}", "KEY_PREFIX": name} for name,
+              kind in BACKENDS.items()}
     settings.configure(
         SECRET_KEY="only for this check", ALLOWED_HOSTS=["testserver"], ROOT_URLCONF="checks_django", USE_TZ=True,
         CACHES={"default": caches["pymemcache"], **caches}, SESSION_ENGINE="django.contrib.sessions.backends.cached_db",

@@ -98,7 +98,7 @@ fn all_is_done_where_memory_is_ample(rt: HostRuntime) -> Result<(), Fail> {
 
 /// Holds with all allocations, and with any one of them refused: then nothing was read, or just one command found no
 /// memory, and the others were answered as they are without it. Which one it is depends on what was taken when, as all of
-/// them are taken before the shards run the first: `tools/checks/refused_allocations.py` tells that, with a window of one.
+/// them are taken before the shards run the first: `tools/checks/test_refused_allocations.py` tells that, with a window of one.
 #[test]
 fn a_refused_allocation(rt: HostRuntime) -> Result<(), Fail> {
     let Ok(mut line) = MemoryLine::new(rt.alloc(), SCRIPT) else {

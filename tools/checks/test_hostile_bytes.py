@@ -2,11 +2,16 @@
 import concurrent.futures
 import fcntl
 import os
-import random
 import re
 import subprocess
 
-from served import MCD, TOP, equal
+import hypothesis
+import pytest
+from hypothesis import strategies as st
+
+from tools.served import TOP, mcd, run
+
+fails_with = pytest.mark.fails_with
 
 ROWS = TOP / "crates/mc_rows/data/rows.txt"
 REPLACED_BY = (0, 10, 13, 32, 255)
@@ -57,12 +62,12 @@ def spoken(options, given, piece=None):
     """The output for this input: whole, or in pieces of `piece` bytes, each of which is one read of the program (a pipe of
     packets). The program must end with status 0 and tell nothing."""
     if piece is None:
-        ran = subprocess.run([MCD, *options], input=given, capture_output=True, timeout=60)
-        equal((ran.returncode, ran.stderr), (0, b""))
+        ran = run(*options, given=given)
+        assert (ran.returncode, ran.stderr) == (0, b"")
         return ran.stdout
     reading, writing = os.pipe2(os.O_DIRECT)
     fcntl.fcntl(writing, fcntl.F_SETPIPE_SZ, 1 << 20)
-    with subprocess.Popen([MCD, *options], stdin=reading, stdout=subprocess.PIPE) as process:
+    with subprocess.Popen(mcd(*options), stdin=reading, stdout=subprocess.PIPE) as process:
         os.close(reading)
         try:
             for first in range(0, len(given), piece):
@@ -71,7 +76,7 @@ def spoken(options, given, piece=None):
             pass  # it has quit
         os.close(writing)
         found = process.stdout.read()
-    equal(process.returncode, 0)
+    assert process.returncode == 0
     return found
 
 
@@ -124,8 +129,7 @@ def is_replied(name, place, given, found):
     lines = list(commands_in(given))
     least = sum(not may_be_silent(line) for line in lines)
     count = replies_in(found)
-    if count is None or not least <= count <= len(lines):
-        raise AssertionError(f"{name}, cut at {place}: {found!r:.200} are not {least} to {len(lines)} whole replies")
+    assert count is not None and least <= count <= len(lines), f"{name}, cut at {place}: {found!r:.200} are not {least} to {len(lines)} whole replies"
 
 
 def places(given):
@@ -142,62 +146,64 @@ def all_hold(check, cases):
 
 def is_cut(name, options, given, wanted, place):
     found = spoken(options, given[:place])
-    if not wanted.startswith(found):
-        raise AssertionError(f"{name}, cut at {place}: {found!r:.200} is no beginning of {wanted!r:.200}")
+    assert wanted.startswith(found), f"{name}, cut at {place}: {found!r:.200} is no beginning of {wanted!r:.200}"
     is_replied(name, place, given[:place], found)
 
 
-def every_row_is_cut_at_every_byte():
+@fails_with("reads a line end more", "forgets a command before a cut")
+def test_every_row_is_cut_at_every_byte():
     """The output of a front is a beginning of the output of all: whole replies, one for each command that is whole in it."""
     cases = []
     for name, options, given, wanted in rows():
-        equal((name, spoken(options, given)), (name, wanted))
+        assert spoken(options, given) == wanted, name
         is_replied(name, len(given), given, wanted)
         cases += [(name, options, given, wanted, place) for place in places(given)]
-    return f"{all_hold(is_cut, cases)} runs"
+    print(f"{all_hold(is_cut, cases)} runs")
 
 
-def every_row_is_fed_in_pieces():
+@fails_with("reads once")
+def test_every_row_is_fed_in_pieces():
     count = 0
     for name, options, given, wanted in rows():
         for piece in PIECES:
             if len(given) <= SMALL:
-                equal((name, piece, spoken(options, given, piece)), (name, piece, wanted))
+                assert spoken(options, given, piece) == wanted, (name, piece)
                 count += 1
-    return f"{count} runs"
+    print(f"{count} runs")
 
 
 def is_altered(name, options, given, place):
     """What the program says before the altered command stays, and two cuttings give the same."""
     piece = PIECES[place % len(PIECES)] if len(given) <= SMALL else 5_000
     before = spoken(options, given[:place])
-    equal((name, place, spoken(options, given[:place], piece)), (name, place, before))
+    assert spoken(options, given[:place], piece) == before, (name, place)
     for number, byte in enumerate(REPLACED_BY, place):
         altered = given[:place] + bytes([byte]) + given[place + 1 :]
         found = spoken(options, altered)
-        if not found.startswith(before):
-            raise AssertionError(f"{name}, {byte} at {place}: {found!r:.200} doesn't begin with {before!r:.200}")
+        assert found.startswith(before), f"{name}, {byte} at {place}: {found!r:.200} doesn't begin with {before!r:.200}"
         piece = PIECES[number % len(PIECES)] if len(given) <= SMALL else 5_000
-        equal((name, byte, place, spoken(options, altered, piece)), (name, byte, place, found))
+        assert spoken(options, altered, piece) == found, (name, byte, place)
 
 
-def every_byte_is_replaced():
+@fails_with("crashes at a byte 255", "reads once")
+def test_every_byte_is_replaced():
     cases = [(name, options, given, place) for name, options, given, _ in rows() if name in ALTERED for place in places(given)]
-    equal(sorted({case[0] for case in cases}), sorted(ALTERED))
-    return f"{all_hold(is_altered, cases) * len(REPLACED_BY)} alterations"
+    assert sorted({case[0] for case in cases}) == sorted(ALTERED)
+    print(f"{all_hold(is_altered, cases) * len(REPLACED_BY)} alterations")
 
 
-def noise_is_survived():
-    """Seeded noise: bytes at random, and words of the protocol at random, whole and in pieces of one read each."""
-    words = [b"get", b"set", b"ms", b"mg", b"ma", b"md", b"mn", b"incr", b"a", b"b", b"0", b"1", b"3", b"-1", b"noreply", b"q", b"v", b"k",
-             b"\r\n", b"\r\n", b"\r\n", b"\n", b"abc\r\n", b"4294967295", b"flush_all", b"gat", b"cas", b"YQ==", b"T1", b"C1", b"O12345", b"\0"]
-    chance = random.Random(11211)
+# Words of the protocol, and bytes at random.
+WORD = st.sampled_from([b"get", b"set", b"ms", b"mg", b"ma", b"md", b"mn", b"incr", b"a", b"b", b"0", b"1", b"3", b"-1", b"noreply", b"q", b"v", b"k", b"\r\n",
+                        b"\r\n", b"\r\n", b"\n", b"abc\r\n", b"4294967295", b"flush_all", b"gat", b"cas", b"YQ==", b"T1", b"C1", b"O12345", b"\0"])
+LENGTH = st.integers(0, 400)
+WORDS = LENGTH.flatmap(lambda size: st.lists(WORD, min_size=size, max_size=size)).map(lambda words: b" ".join(words).replace(b" \r\n ", b"\r\n"))
+BYTES = LENGTH.flatmap(lambda size: st.binary(min_size=size, max_size=size))
+
+
+@fails_with("crashes at a byte 255", "reads once")
+@hypothesis.settings(max_examples=400)
+@hypothesis.given(WORDS | BYTES, st.integers(1, 9))
+def test_noise_is_survived(given, piece):
+    """Whole and in pieces of one read each it is answered alike."""
     options = ["--stdio", "--at", "1000"]
-    for number in range(400):
-        size = chance.randrange(400)
-        given = chance.randbytes(size) if number % 2 else b" ".join(chance.choice(words) for _ in range(size)).replace(b" \r\n ", b"\r\n")
-        equal((number, spoken(options, given, 1 + number % 9)), (number, spoken(options, given)))
-    return "400 streams"
-
-
-CHECKS = [every_row_is_fed_in_pieces, noise_is_survived, every_row_is_cut_at_every_byte, every_byte_is_replaced]
+    assert spoken(options, given, piece) == spoken(options, given)

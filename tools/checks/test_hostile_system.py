@@ -6,7 +6,11 @@ import resource
 import socket
 import time
 
-from served import Line, Server, equal
+import pytest
+
+from tools.served import Line, Server
+
+fails_with = pytest.mark.fails_with
 
 # The number of pidfd_getfd on x86-64 (pidfd_getfd(2)).
 PIDFD_GETFD = 438
@@ -46,7 +50,8 @@ def idle_seconds(server, seconds=3):
     return server.cpu_seconds() - before
 
 
-def an_idle_server_takes_no_processor_time():
+@fails_with("spins")
+def test_an_idle_server_takes_no_processor_time():
     """Each thread sleeps: those of free seats, of connections that say nothing, and of shards that nobody asks."""
     with Server("--seats", 16, "--shards", 4) as server:
         lines = [Line(server.port) for _ in range(8)]
@@ -57,11 +62,12 @@ def an_idle_server_takes_no_processor_time():
         for line in lines:
             line.ask(ASKED, ANSWERED)
             line.close()
-    equal(took <= 0.05, True)
-    return f"{took:.2f} s of processor time in 3 s"
+    assert took <= 0.05
+    print(f"{took:.2f} s of processor time in 3 s")
 
 
-def connections_wait_for_open_files():
+@fails_with("is another process")
+def test_connections_wait_for_open_files():
     """Where no more files may be open, connections wait until one is closed; the thread that accepts looks now and then."""
     with Server("--seats", 16) as server:
         first = Line(server.port)
@@ -76,15 +82,16 @@ def connections_wait_for_open_files():
         took = idle_seconds(server)
         first.close()
         third.socket.settimeout(30)
-        equal(third.read(len(ANSWERED)), ANSWERED)
+        assert third.read(len(ANSWERED)) == ANSWERED
         second.ask(ASKED, ANSWERED)
         second.close()
         third.close()
-    equal(took <= 0.5, True)
-    return f"{took:.2f} s of processor time in 3 s"
+    assert took <= 0.5
+    print(f"{took:.2f} s of processor time in 3 s")
 
 
-def a_lost_listener_ends_the_program():
+@fails_with("ends with 0")
+def test_a_lost_listener_ends_the_program():
     """No more connections can come: those that are served are served to their end, and then the program says so."""
     with Server("--seats", 4) as server:
         line = Line(server.port)
@@ -93,31 +100,27 @@ def a_lost_listener_ends_the_program():
             if is_listening(shared):
                 shared.shutdown(socket.SHUT_RDWR)
         time.sleep(0.3)
-        equal(server.is_running(), True)
+        assert server.is_running()
         line.ask(ASKED, ANSWERED)
         line.close()
-        equal((server.process.wait(timeout=30), server.process.stderr.read()), (1, b"mcd: cannot listen\n"))
+        assert (server.process.wait(timeout=30), server.process.stderr.read()) == (1, b"mcd: cannot listen\n")
 
 
-def replies_are_not_gathered_by_the_system():
+@fails_with("is another process")
+def test_replies_are_not_gathered_by_the_system(server):
     """Each connection has TCP_NODELAY set."""
-    with Server() as server, Line(server.port) as first, Line(server.port) as second:
+    with Line(server.port) as first, Line(server.port) as second:
         for line in (first, second):
             line.ask(ASKED, ANSWERED)
         told = [it.getsockopt(socket.IPPROTO_TCP, socket.TCP_NODELAY) != 0 for it in sockets_of(server) if not is_listening(it)]
-        equal(told, [True, True])
+        assert told == [True, True]
 
 
-def one_that_quits_and_stays_leaves_its_seat():
+@fails_with("has one seat")
+def test_one_that_quits_and_stays_leaves_its_seat():
     """Its replies are read to their end, but it doesn't close: the next client is served soon, and not only after it."""
     with Server("--seats", 1) as server, Line(server.port) as first:
         first.ask(ASKED + b"quit\r\n", ANSWERED)
-        equal(first.rest(), b"")
+        assert first.rest() == b""
         with Line(server.port, timeout=10) as second:
             second.ask(ASKED, ANSWERED)
-
-
-CHECKS = [
-    an_idle_server_takes_no_processor_time, connections_wait_for_open_files, a_lost_listener_ends_the_program,
-    replies_are_not_gathered_by_the_system, one_that_quits_and_stays_leaves_its_seat,
-]

@@ -1,27 +1,22 @@
-#!/usr/bin/env python3
-"""Runs each test that is written for it with its first allocation refused, then with its second, and so on, until a
-run meets no refusal.
-
-    tools/checks/refused_allocations.py        after `rt ci`, or after `rt test` in the crates below
+"""Runs each test that is written for it with its first allocation refused, then with its second, and so on, until a run meets no
+refusal. The tests are those that `rt ci`, or `rt test` in their crates, has just built: crates/NAME/out/NAME_tests.
 
 The tests of what takes no memory are run so with all allocations from the first on refused, then with all from the
 second on, and so on: in the last such run every call that they test finds none. It fails where such a run fails, and
-where a test makes fewer allocations than it must: then the test no longer goes where memory is taken. The programs of
-the tests are those that were just built, crates/NAME/out/NAME_tests.
+where a test makes fewer allocations than it must: then the test no longer goes where memory is taken.
 
-Then the program itself, crates/mcd/out/mcd, is run so over one line, with a window of one, so that the allocations of a command
-come before those of the next. Where one is refused before anything was read, the program tells so and ends; later on, the reply
+Then the program itself is run so over one line, with a window of one, so that the allocations of a command come before those of
+the next. Where one is refused before anything was read, the program reports so and ends; later on, the reply
 of just one command is the memory line, the other replies are those of the same line without that command, and a later allocation
 is never that of an earlier command. Each command that needs memory has its turn. Where the program asks again, or does without,
 all replies are as with memory.
 """
 import os
-import pathlib
 import subprocess
-import sys
-import tempfile
 
-TOP = pathlib.Path(__file__).resolve().parent.parent.parent
+import pytest
+
+from tools.served import TOP, run
 
 # Each test that holds whichever allocation is refused, and how many allocations it makes at least.
 TESTS = [
@@ -57,7 +52,7 @@ COMMANDS = [
     (b"incr %s 1\r\n" % A, True), (b"ms %s 1 c\r\nz\r\n" % C, True), (b"mg %s v\r\n" % C, True), (b"flush_all\r\n", True),
     (b"mn\r\n", False), (b"get a\r\n", False), (b"get %s\r\n" % A, True),
 ]
-CALL = [TOP / "crates/mcd/out/mcd", "--stdio", "--at", "1000", "--window", "1", "--shards", "2", "--bytes", "1024"]
+OPTIONS = ["--stdio", "--at", 1000, "--window", 1, "--shards", 2, "--bytes", 1024]
 MEMORY_LINE = b"SERVER_ERROR out of memory\r\n"
 
 # No test makes as many allocations as this: one that seems to never ends.
@@ -66,11 +61,12 @@ SECONDS = 60
 REFUSED = b"an allocation was refused"
 
 
-def shim(folder):
-    """The library that refuses, built from its C source."""
-    made = folder / "refuse_nth.so"
+@pytest.fixture(scope="module")
+def refusing(tmp_path_factory):
+    """What the environment has of the library that refuses, which is built from its C source."""
+    made = tmp_path_factory.mktemp("shim") / "refuse_nth.so"
     subprocess.run(["cc", "-O1", "-shared", "-fPIC", "-o", made, TOP / "tools/checks/refuse_nth.c", "-ldl"], check=True)
-    return made
+    return {"LD_PRELOAD": str(made)}
 
 
 def runs(program, test, refusing):
@@ -88,7 +84,7 @@ def runs(program, test, refusing):
 
 def replies_to(commands, environment=None):
     """What the program answers to these commands, and how it ends: its status, and what it tells."""
-    ran = subprocess.run(CALL, input=b"".join(commands) + b"quit\r\n", capture_output=True, timeout=SECONDS, env=environment)
+    ran = run(*OPTIONS, given=b"".join(commands) + b"quit\r\n", env=environment)
     return ran.stdout, ran.returncode, ran.stderr.replace(REFUSED + b"\n", b""), REFUSED in ran.stderr
 
 
@@ -120,26 +116,19 @@ def program_runs(refusing):
     return MOST, f"still allocates after {MOST} allocations"
 
 
-def main():
-    passed, failed = 0, 0
-    with tempfile.TemporaryDirectory() as folder:
-        alone = {"LD_PRELOAD": str(shim(pathlib.Path(folder)))}
-        rest = {**alone, "REFUSE_REST": "1"}
-        plans = [(alone, "", *test) for test in TESTS] + [(rest, " and all behind it", *test) for test in WITHOUT_MEMORY]
-        for refusing, behind, crate, test, least in plans:
-            count, fault = runs(TOP / f"crates/{crate}/out/{crate}_tests", test, refusing)
-            if fault is None and count < least:
-                fault = f"makes {count} allocations, and should make at least {least}"
-            print(f"{crate}: {test}: " + (fault or f"holds with each of its {count} allocations{behind} refused"))
-            failed += fault is not None
-            passed += fault is None
-        count, fault = program_runs(alone)
-        print("mcd: " + (fault or f"answers as it must with each of its {count} allocations refused"))
-        failed += fault is not None
-        passed += fault is None
-    print(f"allocations: {passed} passed, {failed} failed")
-    return 1 if failed else 0
+@pytest.mark.parametrize(("crate", "test", "least"), TESTS)
+def test_one_allocation_is_refused(refusing, crate, test, least):
+    count, fault = runs(TOP / f"crates/{crate}/out/{crate}_tests", test, refusing)
+    assert fault is None
+    assert count >= least
 
 
-if __name__ == "__main__":
-    sys.exit(main())
+@pytest.mark.parametrize(("crate", "test", "least"), WITHOUT_MEMORY)
+def test_all_allocations_are_refused_from_one_on(refusing, crate, test, least):
+    test_one_allocation_is_refused({**refusing, "REFUSE_REST": "1"}, crate, test, least)
+
+
+def test_the_program_answers_as_it_must(refusing):
+    count, fault = program_runs(refusing)
+    assert fault is None
+    print(f"{count} allocations")

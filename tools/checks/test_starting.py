@@ -1,11 +1,7 @@
-#!/usr/bin/env python3
-"""Starts the program as memcached is started, at each kind of address, and with sizes in each form; and holds what it plans to
-take to what it takes.
+"""Starts the program as memcached is started, at each kind of address, and with sizes in each form; and compares `--plan` with what
+the process takes.
 
-    tools/checks/starting.py [NAME ..]      all checks, or those whose names have one of these words in them
-
-What memcached's letters mean is in its man page, the options of its service in Debian's /etc/memcached.conf. The last line is
-`starting: N passed, M failed`.
+What memcached's letters mean is in its man page, the options of its service in Debian's /etc/memcached.conf.
 """
 import contextlib
 import os
@@ -15,17 +11,13 @@ import select
 import socket
 import stat
 import subprocess
-import sys
 import tempfile
-import time
 
-sys.path.insert(0, str(pathlib.Path(__file__).resolve().parent.parent))
+import pytest
 
-from served import MCD, MIB, Line, Server, equal, hit_of, run_checks, set_of, started  # noqa: E402
+from tools.served import MIB, STORED, TOO_LARGE, Line, Server, ended, free_port, hit_of, mcd, run, running, set_of
 
-LIMIT_SECONDS = 400
-STORED = b"STORED\r\n"
-TOO_LARGE = b"SERVER_ERROR object too large for cache\r\n"
+fails_with = pytest.mark.fails_with
 
 # The lines of Debian 12's /etc/memcached.conf that are no comments.
 DEBIANS = """
@@ -39,40 +31,24 @@ logfile /var/log/memcached.log
 """
 
 
-def free_port():
-    with socket.socket() as it:
-        it.bind(("127.0.0.1", 0))
-        return it.getsockname()[1]
-
-
-def ended(words, **streams):
-    ran = subprocess.run([MCD, *words], stdin=subprocess.DEVNULL, capture_output=True, text=True, timeout=30, **streams)
-    return ran.returncode, ran.stdout, ran.stderr
-
-
 @contextlib.contextmanager
 def listening(*words, before=()):
     """The words start a server; where it says that it listens, and its lines on standard error so far. Those before start it, if there
     are any."""
-    process = started([*before, MCD, *words], stderr=subprocess.PIPE, bufsize=0)
     said = []
-    try:
+    with running([*before, *mcd(*words)], stderr=subprocess.PIPE, bufsize=0) as process:
         while select.select([process.stderr], [], [], 0.3 if any("listening" in line for line in said) else 10)[0]:
             if not (line := process.stderr.readline().decode()):
                 break
             said.append(line.rstrip("\n"))
         where = next((found[1] for line in said if (found := re.search(r", listening on (.+)$", line))), None)
         yield where, said
-    finally:
-        process.kill()
-        process.wait()
-        process.stderr.close()
 
 
 def serves_at(host, port):
     with socket.create_connection((host, port), timeout=10) as line:
         line.sendall(b"mn\r\n")
-        equal(line.recv(100), b"MN\r\n")
+        assert line.recv(100) == b"MN\r\n"
 
 
 def words_of_the_wrapper(conf):
@@ -81,23 +57,25 @@ def words_of_the_wrapper(conf):
     return " ".join(line for line in lines if line.startswith("-") and not re.match("-[dh]", line)).split()
 
 
-def debians_options():
+@fails_with("ignores the port", "warns of nothing")
+def test_debians_options():
     """Word by word, but for a port that is free here; with and without what the wrapper leaves out."""
     for words in (words_of_the_wrapper(DEBIANS), [word for line in DEBIANS.splitlines() if line.startswith("-") for word in line.split()]):
         port = free_port()
         words[words.index("-p") + 1] = str(port)
         with listening("--drop-in", *words) as (where, said):
-            equal(where, f"127.0.0.1:{port}")
-            equal(f"mcd {version()}: memcached's rules, 2 threads, 64 MiB, listening on 127.0.0.1:{port}" in said, True)
-            equal(any(line.startswith("mcd: warning: --daemon, --user and --pidfile are ignored") for line in said), True)
+            assert where == f"127.0.0.1:{port}"
+            assert f"mcd {version()}: memcached's rules, 2 threads, 64 MiB, listening on 127.0.0.1:{port}" in said
+            assert any(line.startswith("mcd: warning: --daemon, --user and --pidfile are ignored") for line in said)
             serves_at("127.0.0.1", port)
 
 
-def each_letter():
+@fails_with("ignores the port", "ignores the number of seats", "ignores a value limit", "ignores that it is to be verbose")
+def test_each_letter():
     """Each letter does what its long option does."""
     port = free_port()
     with listening("-p", str(port), "-l", "127.0.0.1", "-m", "96", "-t", "3", "-c", "5", "-I", "2k", "-U", "0", "-v") as (where, said):
-        equal((where, said[0]), (f"127.0.0.1:{port}", f"mcd {version()}: own rules, 3 threads, 96 MiB, listening on 127.0.0.1:{port}"))
+        assert (where, said[0]) == (f"127.0.0.1:{port}", f"mcd {version()}: own rules, 3 threads, 96 MiB, listening on 127.0.0.1:{port}")
         with Line(port) as line:
             line.ask(set_of(b"a", b"x" * 2048) + set_of(b"a", b"x" * 2049), STORED + TOO_LARGE)
     for words in (["-c", "1"], ["-c1"], ["--seats", "1"]):
@@ -107,11 +85,11 @@ def each_letter():
             second.waits()
     with Server("-v") as server, Line(server.port) as line:
         line.ask(b"mn\r\n", b"MN\r\n")
-        equal("opened" in server.line_said(), True)
+        assert "opened" in server.line_said()
 
 
 def version():
-    return ended(["--version"])[1].split()[1]
+    return ended("--version")[1].split()[1]
 
 
 NUMBER = "takes a number from {0} to {1}, not '{2}'"
@@ -126,21 +104,24 @@ FAULTS = [
     ("-c 0", "--seats " + NUMBER.format(1, 65536, "0")), ("-t 65", "--shards " + NUMBER.format(1, 64, "65")),
     ("-m 64 --memory 64m", TWO_BUDGETS), ("-m 64 --bytes 64k", TWO_BUDGETS), ("-m 64 --memory 64m --bytes 64k", TWO_BUDGETS),
     *((f"-s mcd.socket -a {word}", f"--unix-mask takes an octal number from 0 to 777, not '{word}'") for word in ("778", "1000", "8", "rwx", "0x1ff", "u=rwx")),
-    ("--stdio -s mcd.socket", "--unix-socket doesn't go with --stdio, which takes --at, --shards, --bytes, --memory, --memory-limit, --value-limit, --line-limit, --window and --drop-in"),
+    ("--stdio -s mcd.socket", "--unix-socket doesn't go with --stdio, which takes --at, --shards, --bytes, --memory, --memory-limit, --value-limit, "
+                              "--line-limit, --window and --drop-in"),
     ("--replay a -a 700", "--unix-mask doesn't go with --replay, which takes no other option"),
 ]
 
 
-def each_fault_of_a_letter():
+@fails_with("ends with 0", "ends with 1")
+def test_each_fault_of_a_letter():
     """The option, the word and the range are named, and nothing listens."""
     for call, text in FAULTS:
-        equal((call, *ended(call.split())), (call, 2, "", f"mcd: {text}\n"))
+        assert ended(*call.split()) == (2, "", f"mcd: {text}\n"), call
     for call, word in (("-p 1 -p 2", "--port"), ("-m", "--memory-limit"), ("-c 1 --seats 2", "--seats"), ("-k", "-k"), ("-vv", "--verbose")):
-        status, out, said = ended(call.split())
-        equal((call, status, out, said[:7], word in said.splitlines()[0]), (call, 2, "", "error: ", True))
+        status, out, said = ended(*call.split())
+        assert (status, out, said[:7], word in said.splitlines()[0]) == (2, "", "error: ", True), call
 
 
-def each_address():
+@fails_with("listens elsewhere", "ignores the port")
+def test_each_address():
     """A port alone, a host alone, both, IPv6 with and without brackets, and a name."""
     for words, host, said_host in (
         (["--listen", "{}"], "127.0.0.1", "127.0.0.1"), (["--listen", ":{}"], "127.0.0.1", "127.0.0.1"),
@@ -153,11 +134,12 @@ def each_address():
             continue
         port = free_port()
         with listening(*(word.format(port) for word in words)) as (where, _):
-            equal((words, where is not None and where.endswith(f":{port}"), said_host in (None, (where or "").rpartition(":")[0])), (words, True, True))
+            assert (where is not None and where.endswith(f":{port}")) and said_host in (None, (where or "").rpartition(":")[0]), words
             serves_at(host, port)
 
 
-def several_places():
+@fails_with("listens elsewhere")
+def test_several_places():
     """However often `--listen` is given, and with commas in it; it names them in their order, and serves at each."""
     for words, hosts in (
         (["-l", "127.0.0.1,127.0.0.2", "-p", "{0}"], ("127.0.0.1:{0}", "127.0.0.2:{0}")),
@@ -167,7 +149,7 @@ def several_places():
         ports = [free_port() for _ in range(3)]
         wanted = [host.format(*ports) for host in hosts]
         with listening(*(word.format(*ports) for word in words)) as (where, _):
-            equal(where, ", ".join(wanted))
+            assert where == ", ".join(wanted)
             # One after another, and in turns: none waits for another.
             for address in wanted + wanted[::-1] + wanted:
                 host, _, port = address.rpartition(":")
@@ -181,27 +163,27 @@ WITH_HOSTS = ["unshare", "--mount", *([] if os.geteuid() == 0 else ["--map-root-
 HOSTS = "127.0.0.2 several\n127.0.0.1 several\n127.0.0.1 several\n192.0.2.1 several\n127.0.0.3 several\n192.0.2.1 elsewhere\n"
 
 
-def a_name_of_several_addresses():
+@fails_with("listens elsewhere")
+def test_a_name_of_several_addresses():
     """It listens at each address of the name that this machine has; one that is in use, or that there is none, is a fault."""
     with tempfile.NamedTemporaryFile("w") as hosts:
         hosts.write(HOSTS)
         hosts.flush()
         before = [*WITH_HOSTS, hosts.name]
         if subprocess.run([*before, "grep", "-q", "several", "/etc/hosts"], capture_output=True).returncode != 0:
-            return "left out: no table of hosts of its own is to be had here"
+            pytest.skip("no table of hosts of its own is to be had here")
         port = free_port()
         with listening("--listen", f"several:{port}", before=before) as (where, _):
-            equal(sorted(where.split(", ")), [f"127.0.0.{it}:{port}" for it in (1, 2, 3)])
+            assert sorted(where.split(", ")) == [f"127.0.0.{it}:{port}" for it in (1, 2, 3)]
             for address in where.split(", "):
                 serves_at(address.rpartition(":")[0], port)
         with socket.socket() as taken:
             taken.bind(("127.0.0.3", port))
             taken.listen()
             for name, reason in (("several", "Address already in use"), ("elsewhere", "Cannot assign requested address")):
-                ran = subprocess.run([*before, MCD, "--listen", f"{name}:{port}"], stdin=subprocess.DEVNULL, capture_output=True, text=True, timeout=30)
+                ran = subprocess.run([*before, *mcd("--listen", f"{name}:{port}")], stdin=subprocess.DEVNULL, capture_output=True, text=True, timeout=30)
                 first, second = ran.stderr.splitlines()
-                equal((name, ran.returncode, first, second.startswith(f"mcd: --listen {name}:{port}: {reason}")), (name, 1, "mcd: cannot listen", True))
-    return None
+                assert (ran.returncode, first, second.startswith(f"mcd: --listen {name}:{port}: {reason}")) == (1, "mcd: cannot listen", True), name
 
 
 def asked_at(path, given, length):
@@ -216,7 +198,8 @@ def asked_at(path, given, length):
         return found
 
 
-def a_unix_socket():
+@fails_with("ignores the mode of a socket")
+def test_a_unix_socket():
     """At a path alone, or beside addresses; for this user alone, or by the mode that is given."""
     value = b"v" * 300_000
     large, hit = set_of(b"a", value), hit_of(b"a", value)
@@ -224,123 +207,135 @@ def a_unix_socket():
         path, other = f"{folder}/mcd", f"{folder}/other"
         for words, wanted, mode in (
             (["-s", path], f"unix:{path}", 0o700), (["--unix-socket", path, "-a", "770"], f"unix:{path}", 0o770),
-            (["--listen", f"unix:{path}", "--unix-mask", "0666"], f"unix:{path}", 0o666), (["-l", f"unix:{path},unix:{other}"], f"unix:{path}, unix:{other}", 0o700),
-            (["-l", "127.0.0.1:{0}", "-s", path], "127.0.0.1:{0}, unix:" + path, 0o700), (["-l", f"unix:{path},127.0.0.1", "-p", "{0}", "-a", "0"], f"unix:{path}, 127.0.0.1:{{0}}", 0),
+            (["--listen", f"unix:{path}", "--unix-mask", "0666"], f"unix:{path}", 0o666),
+            (["-l", f"unix:{path},unix:{other}"], f"unix:{path}, unix:{other}", 0o700),
+            (["-l", "127.0.0.1:{0}", "-s", path], "127.0.0.1:{0}, unix:" + path, 0o700),
+            (["-l", f"unix:{path},127.0.0.1", "-p", "{0}", "-a", "0"], f"unix:{path}, 127.0.0.1:{{0}}", 0),
         ):
             port = free_port()
             with listening(*(word.format(port) for word in words)) as (where, _):
-                equal(where, wanted.format(port))
-                equal((words, oct(stat.S_IMODE(os.stat(path).st_mode))), (words, oct(mode)))
-                equal(asked_at(path, b"mn\r\n" + large + b"get a\r\n", 12 + len(hit)), b"MN\r\n" + STORED + hit)
+                assert where == wanted.format(port)
+                assert oct(stat.S_IMODE(os.stat(path).st_mode)) == oct(mode), words
+                assert asked_at(path, b"mn\r\n" + large + b"get a\r\n", 12 + len(hit)) == b"MN\r\n" + STORED + hit
                 if "127" in wanted:
                     # The items are the same ones.
                     with Line(port) as line:
                         line.ask(b"get a\r\n", hit)
             # It stays there, and the next server replaces it: nobody listens at it.
-            equal(stat.S_ISSOCK(os.stat(path).st_mode), True)
+            assert stat.S_ISSOCK(os.stat(path).st_mode)
 
 
-def memcacheds_rules_at_a_path():
+@fails_with("ignores the rules of memcached")
+def test_memcacheds_rules_at_a_path():
     """Another protocol is closed without a byte, and what its client sends besides isn't read."""
     with tempfile.TemporaryDirectory() as folder:
         path = f"{folder}/mcd"
         with listening("-s", path, "--drop-in"):
             for given in (b"GET / HTTP/1.1\r\n\r\n", b"\x80\x0b" + bytes(22), b"\x16\x03\x01\x02\0\x01"):
                 try:
-                    equal((given, asked_at(path, given, 1)), (given, b""))
+                    assert asked_at(path, given, 1) == b"", given
                 except ConnectionResetError:
                     # What the client sent wasn't read.
                     pass
-            equal(asked_at(path, b"mn\r\n", 4), b"MN\r\n")
+            assert asked_at(path, b"mn\r\n", 4) == b"MN\r\n"
 
 
-def a_path_in_use():
+@fails_with("ends with 0")
+def test_a_path_in_use():
     """Neither a socket at which somebody listens is replaced, nor any other file; and the fault names the option and the path."""
     with tempfile.TemporaryDirectory() as folder:
         taken, file, far = f"{folder}/taken", f"{folder}/file", f"{folder}/no-folder/mcd"
         pathlib.Path(file).write_text("kept")
         with listening("-s", taken):
             for words, option, reason in (
-                (["-s", taken], f"--unix-socket {taken}", "Address already in use"), (["-l", f"unix:{taken}"], f"--listen unix:{taken}", "Address already in use"),
+                (["-s", taken], f"--unix-socket {taken}", "Address already in use"),
+                (["-l", f"unix:{taken}"], f"--listen unix:{taken}", "Address already in use"),
                 (["-s", file], f"--unix-socket {file}", "Address already in use"), (["-s", far], f"--unix-socket {far}", "No such file or directory"),
                 (["-s", "x" * 108], "--unix-socket " + "x" * 108, "path must be shorter than SUN_LEN"), (["-l", "unix:"], "--listen unix:", "invalid"),
             ):
-                status, out, said = ended(words)
+                status, out, said = ended(*words)
                 lines = said.splitlines()
-                equal((words, status, out, lines[0], len(lines)), (words, 1, "", "mcd: cannot listen", 2))
-                equal((lines[1].startswith(f"mcd: {option}: "), reason in lines[1]), (True, True))
-            equal(asked_at(taken, b"mn\r\n", 4), b"MN\r\n")
-        equal(pathlib.Path(file).read_text(), "kept")
+                assert (status, out, lines[0], len(lines)) == (1, "", "mcd: cannot listen", 2), words
+                assert lines[1].startswith(f"mcd: {option}: ") and reason in lines[1]
+            assert asked_at(taken, b"mn\r\n", 4) == b"MN\r\n"
+        assert pathlib.Path(file).read_text() == "kept"
 
 
-def a_fault_comes_before_it_listens():
+@fails_with("listens before it does", "ends with 0")
+def test_a_fault_comes_before_it_listens():
     """Neither an address that can't be bound nor one of the metrics lets it say that it listens."""
     with Server() as server:
         taken = str(server.port)
         for words, option in (
             (["--listen", taken], f"--listen 127.0.0.1:{taken}"), (["-l", "127.0.0.1", "-p", taken], f"--listen 127.0.0.1:{taken}"),
-            (["-l", "127.0.0.2,127.0.0.1,127.0.0.3", "-p", taken], f"--listen 127.0.0.1:{taken}"), (["-l", "127.0.0.1:0", "-l", taken], f"--listen 127.0.0.1:{taken}"),
+            (["-l", "127.0.0.2,127.0.0.1,127.0.0.3", "-p", taken], f"--listen 127.0.0.1:{taken}"),
+            (["-l", "127.0.0.1:0", "-l", taken], f"--listen 127.0.0.1:{taken}"),
             (["--listen", "127.0.0.1:0", "--metrics", taken], f"--metrics {taken}"),
         ):
-            status, out, said = ended(words)
+            status, out, said = ended(*words)
             lines = said.splitlines()
-            equal((status, out, lines[0], len(lines)), (1, "", "mcd: cannot listen", 2))
-            equal(lines[1].startswith(f"mcd: {option}: Address already in use"), True)
-    status, out, said = ended(["--listen", "no-such-host.invalid"])
-    equal((status, out, said.splitlines()[0], "--listen no-such-host.invalid:11211: " in said), (1, "", "mcd: cannot listen", True))
+            assert (status, out, lines[0], len(lines)) == (1, "", "mcd: cannot listen", 2)
+            assert lines[1].startswith(f"mcd: {option}: Address already in use")
+    status, out, said = ended("--listen", "no-such-host.invalid")
+    assert (status, out, said.splitlines()[0], "--listen no-such-host.invalid:11211: " in said) == (1, "", "mcd: cannot listen", True)
 
 
-def the_line_at_the_start():
+@fails_with("names its own rules alone")
+def test_the_line_at_the_start():
     with Server("--drop-in", "--memory", "8m", "--shards", "4") as server:
-        equal(server.before, [])
+        assert server.before == []
     with listening("--listen", "127.0.0.1:0", "--memory", "2k") as (where, said):
-        equal(said[0], f"mcd {version()}: own rules, 2 threads, 0 MiB, listening on {where}")
+        assert said[0] == f"mcd {version()}: own rules, 2 threads, 0 MiB, listening on {where}"
     with listening("--listen", "127.0.0.1:0", "--drop-in", "--memory", "3m", "--shards", "3") as (where, said):
-        equal(said[:1], [f"mcd {version()}: memcached's rules, 3 threads, 3 MiB, listening on {where}"])
+        assert said[:1] == [f"mcd {version()}: memcached's rules, 3 threads, 3 MiB, listening on {where}"]
 
 
-def each_form_of_a_size():
+@fails_with("refuses capital letters", "ignores a value limit")
+def test_each_form_of_a_size():
     """The largest value is 2 KiB in each form."""
     for size in ("2048", "2k", "2K", "2kb", "2KB", "2Kb", "2048b", "2048B"):
-        ran = subprocess.run([MCD, "--stdio", "--value-limit", size], input=set_of(b"a", b"x" * 2048) + set_of(b"a", b"x" * 2049), capture_output=True, timeout=30)
-        equal((size, ran.returncode, ran.stdout), (size, 0, STORED + TOO_LARGE))
+        ran = run("--stdio", "--value-limit", size, given=set_of(b"a", b"x" * 2048) + set_of(b"a", b"x" * 2049))
+        assert (ran.returncode, ran.stdout) == (0, STORED + TOO_LARGE), size
     for size, mebibytes in (("64M", 64), ("64mb", 64), ("1G", 1024), ("1GB", 1024), ("64MB", 64)):
-        equal((size, f", {mebibytes} MiB, " in ended(["--plan", "--memory", size])[1]), (size, True))
+        assert f", {mebibytes} MiB, " in ended("--plan", "--memory", size)[1], size
     for size in ("2bk", "2kbb", "b", "kb", "k", "2t", "2 k", "-2k", "2.5k"):
-        status, _, said = ended([f"--value-limit={size}"])
-        equal((size, status, f"not '{size}'" in said), (size, 2, True))
+        status, _, said = ended(f"--value-limit={size}")
+        assert (status, f"not '{size}'" in said) == (2, True), size
 
 
-def as_many_shards_as_the_memory_needs():
+@fails_with("has two shards")
+def test_as_many_shards_as_the_memory_needs():
     """A shard has 64 GiB at most; where --shards is given it is kept, and what doesn't fit is refused."""
     for words, shards, share in (
         ("--memory 4g", 2, 2048), ("--memory 128g", 2, 65536), ("--memory 129g", 3, 44032), ("--memory 4096g", 64, 65536),
         ("-m 131073", 3, 43691), ("--memory 129g --shards 4", 4, 33024), ("--shards 5", 5, 16), ("--bytes 1m", 2, 1),
     ):
-        status, out, _ = ended(["--plan", *words.split()])
-        equal((words, status, f", {shards} threads, " in out, f"each shard holds {share} MiB of items" in out), (words, 0, True, True))
+        status, out, _ = ended("--plan", *words.split())
+        assert (status, f", {shards} threads, " in out, f"each shard holds {share} MiB of items" in out) == (0, True, True), words
     for call, most in (("--memory 129g --shards 2", 137438953472), ("--memory 4097g", 4398046511104)):
-        status, _, said = ended(call.split())
-        equal((call, status, f"to {most}, " in said), (call, 2, True))
+        status, _, said = ended(*call.split())
+        assert (status, f"to {most}, " in said) == (2, True), call
 
 
-def a_value_that_no_shard_has_room_for():
+@fails_with("warns of nothing")
+def test_a_value_that_no_shard_has_room_for():
     """It is warned of, and the warning is right: so much is stored, and no byte more."""
     with listening("--listen", "127.0.0.1:0", "--memory", "4k") as (where, said):
-        equal(said[1:], ["mcd: warning: --value-limit is 1048576, but a shard has no room for a value above 1983 bytes: give it more --memory"])
+        assert said[1:] == ["mcd: warning: --value-limit is 1048576, but a shard has no room for a value above 1983 bytes: give it more --memory"]
         with Line(int(where.rpartition(":")[2])) as line:
             line.ask(set_of(b"a", b"x" * 1983) + set_of(b"a", b"x" * 1984), STORED + TOO_LARGE)
     for words in (["--memory", "4k", "--value-limit", "1983"], ["--bytes", "2m"], []):
         with listening("--listen", "127.0.0.1:0", *words) as (where, said):
-            equal((words, len(said)), (words, 1))
+            assert len(said) == 1, words
 
 
 def planned(words):
     """What the plan says: MiB at the start, with connections, and for each length of an item."""
-    status, out, _ = ended(["--plan", *words])
-    equal(status, 0)
+    status, out, _ = ended("--plan", *words)
+    assert status == 0
     figures = {key: int(count) for count, key in re.findall(r"^  (\d+) MiB (.*)$", out, re.M)}
-    return figures["at the start"], figures["with a connection on each seat"], {int(re.search(r"\d+", key)[0]): it for key, it in figures.items() if "full" in key}
+    return figures["at the start"], figures["with a connection on each seat"],
+    {int(re.search(r"\d+", key)[0]): it for key, it in figures.items() if "full" in key}
 
 
 def filled_by(port, length, cost):
@@ -362,7 +357,8 @@ SIZES = [
 ]
 
 
-def the_plan_is_kept():
+@fails_with("plans a third", "plans ten times as much")
+def test_the_plan_is_kept():
     """What the process takes is no more than planned, and no less than half of it but for 24 MiB: at its start, and full."""
     told = []
     for options, length, connections in SIZES:
@@ -373,7 +369,7 @@ def the_plan_is_kept():
                 # The threads have started once one answers.
                 line.ask(b"mn\r\n", b"MN\r\n")
             at_start = server.resident() / MIB
-            equal((options, at_start <= start + 1, at_start >= start / 2 - 4), (options, True, True))
+            assert at_start <= start + 1 and at_start >= start / 2 - 4, options
             lines = [Line(server.port) for _ in range(connections)]
             for line in lines:
                 line.ask(b"mn\r\n", b"MN\r\n")
@@ -383,26 +379,17 @@ def the_plan_is_kept():
             for line in lines:
                 line.close()
         told.append(f"{resident:.0f} of {full[length]}")
-        equal((options, resident <= full[length] + 1, resident >= full[length] / 2 - 24), (options, True, True))
-    return "; ".join(told) + " MiB"
+        assert resident <= full[length] + 1 and resident >= full[length] / 2 - 24, options
+    print("; ".join(told) + " MiB")
 
 
-def the_plan_prints_alone():
+@fails_with("ignores that it is to plan", "ends with 1")
+def test_the_plan_prints_alone():
     """It starts nothing, also where the address is taken, and refuses what a server refuses."""
     with Server() as server:
-        status, out, said = ended(["--plan", "--listen", str(server.port), "--memory", "4g", "--seats", "2000"])
-        equal((status, out.splitlines()[0], said), (0, f"mcd {version()}: own rules, 2 threads, 4096 MiB, 2000 seats", ""))
-    equal(ended(["--plan", "--seats", "0"])[0], 2)
+        status, out, said = ended("--plan", "--listen", str(server.port), "--memory", "4g", "--seats", "2000")
+        assert (status, out.splitlines()[0], said) == (0, f"mcd {version()}: own rules, 2 threads, 4096 MiB, 2000 seats", "")
+    assert ended("--plan", "--seats", "0")[0] == 2
     with open("/dev/full", "wb") as full:
-        ran = subprocess.run([MCD, "--plan"], stdout=full, stderr=subprocess.PIPE, timeout=30)
-        equal((ran.returncode, ran.stderr), (1, b"mcd: cannot write\n"))
-
-
-CHECKS = [
-    debians_options, each_letter, each_fault_of_a_letter, each_address, several_places, a_name_of_several_addresses, a_unix_socket, memcacheds_rules_at_a_path, a_path_in_use, a_fault_comes_before_it_listens, the_line_at_the_start,
-    each_form_of_a_size, as_many_shards_as_the_memory_needs, a_value_that_no_shard_has_room_for, the_plan_prints_alone, the_plan_is_kept,
-]
-
-
-if __name__ == "__main__":
-    sys.exit(run_checks("starting", CHECKS, LIMIT_SECONDS))
+        ran = run("--plan", stdout=full)
+        assert (ran.returncode, ran.stderr) == (1, b"mcd: cannot write\n")

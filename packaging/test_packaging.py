@@ -1,13 +1,8 @@
-#!/usr/bin/env python3
-"""Checks what an operator installs: that the man page, the help, the completion and the documents name the same options, that
-the version names the toolchain, that dashboard and alert rules name metrics that are served, that the snippets of docs/CLIENTS.md
-run, and that the Debian package is made alike twice, can be installed, serves, and is removed with all that it did; and that the
-OCI archive serves once it is unpacked.
+"""What an operator installs: man page, help, completion and documents name the same options, the version names the toolchain,
+dashboard and alert rules name metrics that are served, and the snippets of docs/CLIENTS.md run. The Debian package is made alike
+twice, can be installed, serves, and is removed with all that it did; the OCI archive serves once it is unpacked.
 
-    packaging/check.py
-
-What needs dpkg-deb, root or a machine on which no mcd is installed is left out with a plain message where that is missing.
-The last line is `packaging: N passed, M failed`.
+What needs dpkg-deb, root or a machine on which no mcd is installed is skipped where that is missing.
 """
 import contextlib
 import hashlib
@@ -18,16 +13,18 @@ import re
 import select
 import shutil
 import subprocess
-import sys
 import tempfile
 import urllib.request
 
-TOP = pathlib.Path(__file__).resolve().parent.parent
-sys.path.insert(0, str(TOP / "tools"))
+import pytest
 
-from served import LISTENING, MCD, Line, Server, Tally, bounded, equal, needs_program, started  # noqa: E402
+from tools import served
+from tools.served import LISTENING, Line, Server, mcd, running
 
-LIMIT_SECONDS = 600
+# A copy of the repository with an edit takes its place where the tests are seen to fail.
+TOP = served.TOP
+
+fails_with = pytest.mark.fails_with
 
 # The documents for operators, which the package installs.
 PAGES = ("OPERATING", "PROTOCOL", "SECURITY", "SCALING", "CLIENTS")
@@ -43,47 +40,58 @@ def told(words):
     return subprocess.run(words, stdin=subprocess.DEVNULL, capture_output=True, text=True, check=True, timeout=120).stdout
 
 
+def needs(program):
+    if not shutil.which(program):
+        pytest.skip(f"no {program} here")
+
+
 def options_of(text, pattern):
     return sorted(set(re.findall(pattern, text, re.M)))
 
 
 def options_of_the_help():
-    return options_of(told([MCD, "--help"]), r"^\s+(?:-\w, )?--([a-z-]+)")
+    return options_of(told(mcd("--help")), r"^\s+(?:-\w, )?--([a-z-]+)")
 
 
-def the_man_page_tells_the_options():
-    equal(options_of((TOP / "packaging/mcd.1").read_text(), r"^\.It Fl -([a-z-]+)"), options_of_the_help())
+@fails_with(("packaging/mcd.1", r"\.It Fl -drain\b", ".It Fl -drains"), ("packaging/mcd.1", r"\.It Fl -plan\n", ""))
+def test_the_man_page_tells_the_options():
+    assert options_of((TOP / "packaging/mcd.1").read_text(), r"^\.It Fl -([a-z-]+)") == options_of_the_help()
 
 
 def letters_of_the_help():
-    return dict(re.findall(r"^\s+-(\w), --([a-z-]+)", told([MCD, "--help"]), re.M))
+    return dict(re.findall(r"^\s+-(\w), --([a-z-]+)", told(mcd("--help")), re.M))
 
 
-def the_man_page_tells_the_letters():
+@fails_with(("packaging/mcd.1", r", Fl p Ar number", ", Fl q Ar number"), ("packaging/mcd.1", r" , Fl m Ar \w+", ""))
+def test_the_man_page_tells_the_letters():
     letters = letters_of_the_help()
-    equal(letters.pop("h"), "help")
-    equal({letter: name for name, letter in re.findall(r"^\.It Fl -([a-z-]+)(?: Ar \w+)? , Fl (\w)", (TOP / "packaging/mcd.1").read_text(), re.M)}, letters)
+    assert letters.pop("h") == "help"
+    assert {letter: name for name, letter in re.findall(r"^\.It Fl -([a-z-]+)(?: Ar \w+)? , Fl (\w)", (TOP / "packaging/mcd.1").read_text(), re.M)} == letters
 
 
-def mandoc_finds_nothing():
-    if not shutil.which("mandoc"):
-        return "no mandoc here"
+@fails_with(("packaging/mcd.1", r"\.Sh SIGNALS\n", ".Sh OTHERS\n"), ("packaging/mcd.1", r"\.El\n", ""))
+def test_mandoc_finds_nothing():
+    needs("mandoc")
     ran = subprocess.run(["mandoc", "-T", "lint", TOP / "packaging/mcd.1"], capture_output=True, text=True, timeout=60)
     # Whether the machine has the page of memcached is no matter of this one.
-    equal([line for line in ran.stdout.splitlines() if "mcd.1" in line], [])
+    assert [line for line in ran.stdout.splitlines() if "mcd.1" in line] == []
     text = (TOP / "packaging/mcd.1").read_text()
-    equal([name for name in ("EXAMPLES", "SIGNALS", "ENVIRONMENT", "EXIT STATUS", "FILES") if f".Sh {name}\n" not in text], [])
-    return None
+    assert [name for name in ("EXAMPLES", "SIGNALS", "ENVIRONMENT", "EXIT STATUS", "FILES") if f".Sh {name}\n" not in text] == []
 
 
-def the_documents_name_options_that_are_there():
+@fails_with(
+    ("docs/OPERATING.md", r"`--metrics", "`--metric"),
+    ("docs/SECURITY.md", r"\Z", "\n`--none`\n"),
+    ("docs/OPERATING.md", r"`--window", "`window"),
+    ("docs/OPERATING.md", r"`-c`", "`-d`"))
+def test_the_documents_name_options_that_are_there():
     """And docs/OPERATING.md each that is there, letters among them."""
     options, text = options_of_the_help(), (TOP / "docs/OPERATING.md").read_text()
     for page in PAGES:
         named = set(re.findall(r"`--([a-z]+(?:-[a-z]+)*)", (TOP / f"docs/{page}.md").read_text()))
-        equal((page, sorted(named - set(options) - MEMCACHEDS)), (page, []))
-    equal([name for name in options if f"`--{name}" not in text and name not in ("help", "version")], [])
-    equal([letter for letter in letters_of_the_help() if f"`-{letter}" not in text and letter != "h"], [])
+        assert sorted(named - set(options) - MEMCACHEDS) == [], page
+    assert [name for name in options if f"`--{name}" not in text and name not in ("help", "version")] == []
+    assert [letter for letter in letters_of_the_help() if f"`-{letter}" not in text and letter != "h"] == []
 
 
 def served_names():
@@ -103,81 +111,101 @@ def named_in(text):
 NOT_SHOWN = ["mcd_shard_bytes", "mcd_shard_out_of_memory_total", "mcd_shards", "memcached_version", "process_start_time_seconds"]
 
 
-def the_dashboard_shows_what_is_served():
+@fails_with(
+    ("packaging/mcd-dashboard.json", r"memcached_current_items\b", "memcached_items_current"),
+    ("packaging/mcd-dashboard.json", r"rate\(memcached_connections_total", "rate((memcached_connections_total"))
+def test_the_dashboard_shows_what_is_served():
     board = json.loads((TOP / "packaging/mcd-dashboard.json").read_text())
     expressions = [target["expr"] for panel in board["panels"] for target in panel["targets"]]
-    equal(len(expressions) >= 15, True)
+    assert len(expressions) >= 15
     shown, served = set().union(*map(named_in, expressions)), served_names()
-    equal((sorted(shown - served), sorted(served - shown)), ([], NOT_SHOWN))
-    if not shutil.which("promtool"):
-        return "no promtool here"
+    assert (sorted(shown - served), sorted(served - shown)) == ([], NOT_SHOWN)
+    needs("promtool")
     # Each is an expression of Prometheus, once Grafana has put in what it knows.
     rules = [{"record": f"panel:{place}", "expr": it.replace("$__rate_interval", "5m").replace("$", "")} for place, it in enumerate(expressions)]
     with tempfile.NamedTemporaryFile("w", suffix=".yml") as file:
         json.dump({"groups": [{"name": "panels", "rules": rules}]}, file)
         file.flush()
         ran = subprocess.run(["promtool", "check", "rules", file.name], capture_output=True, text=True, timeout=60)
-        equal((ran.returncode, ran.stderr), (0, ""))
-    return f"{len(expressions)} expressions"
+        assert (ran.returncode, ran.stderr) == (0, "")
+    print(f"{len(expressions)} expressions")
 
 
-def the_alerts_ask_for_what_is_served():
+@fails_with(
+    ("packaging/mcd-alerts.yml", r"mcd_accepts_failed_total", "mcd_accept_failed_total"),
+    ("packaging/mcd-alerts.yml", r"for: 2m", "for: 20m"),
+    ("packaging/mcd-alerts.yml", r"rate\(mcd_accepts_failed_total\[5m\]\)", "rate(mcd_accepts_failed_total)"))
+def test_the_alerts_ask_for_what_is_served():
     file = TOP / "packaging/mcd-alerts.yml"
     expressions = "\n".join(line for line in file.read_text().splitlines() if not re.match(r"\s*(summary|description|#)", line))
-    equal(sorted(named_in(expressions) - served_names()), [])
-    if not shutil.which("promtool"):
-        return "no promtool here"
+    assert sorted(named_in(expressions) - served_names()) == []
+    needs("promtool")
     ran = subprocess.run(["promtool", "check", "rules", file], capture_output=True, text=True, timeout=60)
-    equal((ran.returncode, ran.stderr, "rules found" in ran.stdout), (0, "", True))
+    assert (ran.returncode, ran.stderr, "rules found" in ran.stdout) == (0, "", True)
     ran = subprocess.run(["promtool", "test", "rules", TOP / "packaging/mcd-alerts-test.yml"], capture_output=True, text=True, timeout=60)
-    equal((ran.returncode, ran.stderr), (0, ""))
+    assert (ran.returncode, ran.stderr) == (0, "")
     tests = (TOP / "packaging/mcd-alerts-test.yml").read_text()
     rules = re.findall(r"^ +- alert: (\w+)$", file.read_text(), re.M)
-    equal([name for name in rules if len(re.findall(rf"alertname: {name}\b", tests)) < 2], [])
-    return None
+    assert [name for name in rules if len(re.findall(rf"alertname: {name}\b", tests)) < 2] == []
 
 
-# How the snippets of docs/CLIENTS.md are run, and what says that their client is there.
+# How the snippets of docs/CLIENTS.md are run, and what succeeds where their client is there.
 SNIPPETS = {
     "python": (["/usr/bin/python3", "-"], ["/usr/bin/python3", "-c", "import pymemcache"]),
     "php": (["php"], ["php", "-r", "new Memcached();"]),
 }
 
 
-def the_snippets_run():
-    text, left_out = (TOP / "docs/CLIENTS.md").read_text(), []
-    equal(sorted(set(re.findall(r"^```(\w+)\n", text, re.M)) & {"python", "php", "ruby", "js", "go", "java"}), ["go", "java", "js", "php", "python", "ruby"])
-    for language, (run, probe) in SNIPPETS.items():
-        (snippet,) = re.findall(rf"^```{language}\n(.*?)^```", text, re.M | re.S)
-        if not shutil.which(probe[0]) or subprocess.run(probe, capture_output=True, timeout=60).returncode:
-            left_out.append(language)
-            continue
-        with Server("--drop-in") as server:
-            ran = subprocess.run(run, input=snippet.replace("11211", str(server.port)), capture_output=True, text=True, timeout=60)
-            equal((language, ran.returncode, ran.stdout), (language, 0, "hi\n"))
-    return f"no client here for {', '.join(left_out)}" if left_out else None
+@fails_with(("docs/CLIENTS.md", r"```ruby", "```rb"))
+def test_there_are_snippets_in_six_languages():
+    text = (TOP / "docs/CLIENTS.md").read_text()
+    assert sorted(set(re.findall(r"^```(\w+)\n", text, re.M)) & {"python", "php", "ruby", "js", "go", "java"}) == ["go", "java", "js", "php", "python", "ruby"]
 
 
-def the_unit_is_tight():
+def snippet_runs(language):
+    run, probe = SNIPPETS[language]
+    needs(run[0])
+    if subprocess.run(probe, capture_output=True, timeout=60).returncode:
+        pytest.skip(f"no client for {language} here")
+    (snippet,) = re.findall(rf"^```{language}\n(.*?)^```", (TOP / "docs/CLIENTS.md").read_text(), re.M | re.S)
+    with Server("--drop-in") as server:
+        ran = subprocess.run(run, input=snippet.replace("11211", str(server.port)), capture_output=True, text=True, timeout=60)
+        assert (ran.returncode, ran.stdout) == (0, "hi\n")
+
+
+@fails_with(("docs/CLIENTS.md", r"(```python\n(?:.*\n)*?.*)\bget\(", r"\g<1>gets("))
+def test_the_snippet_of_python_runs():
+    snippet_runs("python")
+
+
+@fails_with(("docs/CLIENTS.md", r"(```php\n(?:.*\n)*?.*)->get\(", r"\g<1>->gets("))
+def test_the_snippet_of_php_runs():
+    snippet_runs("php")
+
+
+@fails_with(
+    ("packaging/mcd.service", r"ProtectHome=", "ProtectHomes="),
+    ("packaging/mcd.service", r"(?m)^(Protect|Private|Restrict|System).*\n", ""),
+    ("packaging/mcd.service", r"LimitNOFILE=8192", "LimitNOFILE=many"))
+def test_the_unit_is_tight():
     """Nothing in it is unknown to systemd, and its exposure is at most 2.0."""
-    if not shutil.which("systemd-analyze"):
-        return "no systemd-analyze here"
+    needs("systemd-analyze")
     with tempfile.TemporaryDirectory() as folder:
         unit = pathlib.Path(folder) / "mcd.service"
         # The program and its documents aren't installed here.
         text = (TOP / "packaging/mcd.service").read_text()
-        unit.write_text(re.sub(r"^Documentation=.*\n", "", text, flags=re.M).replace("/usr/bin/mcd", MCD))
+        unit.write_text(re.sub(r"^Documentation=.*\n", "", text, flags=re.M).replace("/usr/bin/mcd", served.MCD))
         ran = subprocess.run(["systemd-analyze", "verify", unit], capture_output=True, text=True, timeout=60)
-        equal((ran.returncode, [line for line in ran.stderr.splitlines() if "mcd.service" in line]), (0, []))
+        assert (ran.returncode, [line for line in ran.stderr.splitlines() if "mcd.service" in line]) == (0, [])
         ran = subprocess.run(["systemd-analyze", "security", "--offline=true", "--threshold=20", unit], capture_output=True, text=True, timeout=60)
-        equal((ran.returncode, "Overall exposure level" in ran.stdout), (0, True))
-    return None
+        assert (ran.returncode, "Overall exposure level" in ran.stdout) == (0, True)
 
 
-def the_completion_tells_the_options():
+@fails_with(("packaging/mcd.bash", r" --drain --help", " --help"), ("packaging/mcd.bash", r" --drop-in", " --dropin"))
+def test_the_completion_tells_the_options():
     asked = 'source packaging/mcd.bash; _mcd mcd "" mcd; printf "%s\\n" "${COMPREPLY[@]}"'
     offered = subprocess.run(["bash", "-c", asked], cwd=TOP, capture_output=True, text=True, check=True).stdout
-    equal(options_of(offered, r"^--([a-z-]+)$"), options_of_the_help())
+    assert options_of(offered, r"^--([a-z-]+)$") == options_of_the_help()
 
 
 def service_options(default):
@@ -185,65 +213,89 @@ def service_options(default):
     return re.search(r'^(?:MCD_OPTIONS="|Environment="MCD_OPTIONS=)(.*)"$', default, re.M)[1].split()
 
 
-def the_service_calls_the_program_rightly():
+@fails_with(("packaging/mcd.default", r"--seats", "--seat"), ("packaging/mcd.service", r" --drop-in\"", '"'))
+def test_the_service_calls_the_program_rightly():
     for name in ("mcd.default", "mcd.service"):
         words = service_options((TOP / "packaging" / name).read_text())
         unknown = [it for it in words if it.startswith("--") and it[2:] not in options_of_the_help()]
-        equal((name, unknown, "--drop-in" in words), (name, [], True))
+        assert (unknown, "--drop-in" in words) == ([], True), name
 
 
-def the_version_names_the_toolchain():
+@fails_with(("README.md", r"(`rattle-kit-\w+ logic )\w+`", r"\g<1>0123456789abcdef`"))
+def test_the_version_names_the_toolchain():
     """The logic of its proof, which several kits share: the README's kit and the one that is here need not be the same."""
-    version = told([MCD, "--version"])
+    version = told(mcd("--version"))
     kept = re.search(r"^mcd \d+\.\d+\.\d+ \(Rattle, (logic [0-9a-f]+)\)$", version)
-    equal(kept is not None, True)
+    assert kept is not None
     logic = kept[1]
-    equal(re.search(rf"`rattle-kit-\w+ {logic}`", (TOP / "README.md").read_text()) is not None, True)
+    assert re.search(rf"`rattle-kit-\w+ {logic}`", (TOP / "README.md").read_text()) is not None
     if shutil.which("rt"):
-        equal(told(["rt", "version"]).strip().endswith(logic), True)
-    return None if shutil.which("rt") else "no rt here to ask"
+        assert told(["rt", "version"]).strip().endswith(logic)
 
 
-def each_command_of_the_page_runs():
+@fails_with(("docs/OPERATING.md", r"--stdio --memory 64m\n", "--stdio --memory 64q\n"), ("docs/OPERATING.md", r"mcd --help\n", "mcd --helps\n"))
+def test_each_command_of_the_page_runs():
     """The commands in blocks of `sh` of docs/OPERATING.md, one a line; each must end with status 0."""
     blocks = re.findall(r"^```sh\n(.*?)^```", (TOP / "docs/OPERATING.md").read_text(), re.M | re.S)
     commands = [line for block in blocks for line in block.splitlines() if line]
-    equal(len(commands) > 0, True)
+    assert len(commands) > 0
     for command in commands:
         if command.startswith("packaging/") and not shutil.which("dpkg-deb"):
             continue
         ran = subprocess.run(["bash", "-c", command], cwd=TOP, stdin=subprocess.DEVNULL, capture_output=True, timeout=120)
-        equal((command, ran.returncode, ran.stderr), (command, 0, b""))
+        assert (ran.returncode, ran.stderr) == (0, b""), command
 
 
 def made(folder):
     """A package, made in this folder."""
+    folder.mkdir()
     return pathlib.Path(told([TOP / "packaging/deb", folder]).split()[-1])
 
 
-def the_package_is_made_alike_twice(first, second):
-    equal(hashlib.sha256(first.read_bytes()).hexdigest(), hashlib.sha256(second.read_bytes()).hexdigest())
+@pytest.fixture
+def packages(tmp_path):
+    """Makes a package in a folder of its own."""
+    needs("dpkg-deb")
+    return lambda name: made(tmp_path / name)
 
 
-def the_package_has_the_commits_version(package):
+@pytest.fixture
+def package(packages):
+    return packages("one")
+
+
+@fails_with(("packaging/deb", r'date -u -R -d "@\$SOURCE_DATE_EPOCH"', "date +%N"))
+def test_the_package_is_made_alike_twice(packages):
+    first, second = packages("one"), packages("two")
+    assert hashlib.sha256(first.read_bytes()).hexdigest() == hashlib.sha256(second.read_bytes()).hexdigest()
+
+
+@fails_with(("packaging/deb", r"rev-list --count HEAD", "rev-list --count HEAD~1"), ("packaging/deb", r"\$commits\.g", "$commits."))
+def test_the_package_has_the_commits_version(package):
     told_version = told(["dpkg-deb", "--field", package, "Version"]).strip()
     commit = told(["git", "-C", TOP, "rev-parse", "--short=8", "HEAD"]).strip()
     count = told(["git", "-C", TOP, "rev-list", "--count", "HEAD"]).strip()
-    equal(told_version, f"{told([MCD, '--version']).split()[1]}+{count}.g{commit}")
+    assert told_version == f"{told(mcd('--version')).split()[1]}+{count}.g{commit}"
 
 
-def the_package_has_all_documents(package):
+@fails_with(
+    ("packaging/deb", r"SCALING CLIENTS; do", "SCALING; do"),
+    ("packaging/deb", r" -e 's#crates/mcd/out/mcd#mcd#g'", ""),
+    ("packaging/deb", r"mcd-dashboard\.json mcd-alerts\.yml", "mcd-alerts.yml"),
+    ("packaging/mcd.default", r"--memory 64m", "--memory 65m"),
+    ("docs/OPERATING.md", r"\Z", "\nSee docs/NOTHERE.md.\n"))
+def test_the_package_has_all_documents(package):
     """And each page that a page names lies beside it."""
     with tempfile.TemporaryDirectory() as folder:
         subprocess.run(["dpkg-deb", "--extract", package, folder], check=True, timeout=60)
         place = pathlib.Path(folder) / "usr/share/doc/mcd"
         for page in PAGES:
             text = (place / f"{page}.md").read_text()
-            equal((page, "crates/mcd/out" in text), (page, False))
+            assert not ("crates/mcd/out" in text), page
             named = set(re.findall(r"\b(?:docs/)?([A-Z]+)\.md", text)) - {"PROOFS", "BENCHMARKS", "REPLAY", "DECISIONS", "ARCHITECTURE", "README"}
-            equal((page, sorted(named - set(PAGES))), (page, []))
-        equal([name for name in ("mcd-dashboard.json", "mcd-alerts.yml") if not (place / "examples" / name).exists()], [])
-        equal(service_options((pathlib.Path(folder) / "etc/default/mcd").read_text())[2:4], ["--memory", "64m"])
+            assert sorted(named - set(PAGES)) == [], page
+        assert [name for name in ("mcd-dashboard.json", "mcd-alerts.yml") if not (place / "examples" / name).exists()] == []
+        assert service_options((pathlib.Path(folder) / "etc/default/mcd").read_text())[2:4] == ["--memory", "64m"]
 
 
 # Runs dpkg in a copy of the system in which a systemd seems to run, and keeps how it is called.
@@ -277,23 +329,31 @@ find "$1/root/etc" "$1/root/usr/bin" "$1/root/usr/share/doc" "$1/root/var/lib/sy
 """
 
 
-def the_scripts_enable_restart_stop_and_purge(package):
+@fails_with(
+    ("packaging/scripts/prerm", r"deb-systemd-invoke stop", "deb-systemd-invoke status"),
+    ("packaging/scripts/postinst", r"action=restart", "action=start"),
+    ("packaging/scripts/postinst", r"deb-systemd-helper enable", "deb-systemd-helper disable"),
+    ("packaging/scripts/postrm", r"deb-systemd-helper purge mcd.service >/dev/null \|\| true", ":"))
+def test_the_scripts_enable_restart_stop_and_purge(package):
     """In a copy of the system: installed it is enabled and started, installed again restarted, removed stopped, and purged
     nothing is left."""
+    if os.geteuid() != 0:
+        pytest.skip("it needs root")
     with tempfile.TemporaryDirectory() as folder:
         probe = ["unshare", "-m", "mount", "-t", "overlay", "overlay", "-o", f"lowerdir=/,upperdir={folder},workdir={folder}", folder]
         if not shutil.which("unshare") or subprocess.run(["unshare", "-m", "true"], capture_output=True, timeout=60).returncode:
-            return f"no {probe[0]} here"
+            pytest.skip(f"no {probe[0]} here")
         ran = subprocess.run(["unshare", "-m", "bash", "-c", IN_A_COPY, "", folder, package], capture_output=True, text=True, timeout=300)
         if "mount:" in ran.stderr:
-            return "left out, since nothing may be mounted here"
-        equal((ran.returncode, ran.stderr), (0, ""))
+            pytest.skip("nothing may be mounted here")
+        assert (ran.returncode, ran.stderr) == (0, "")
     lines = ran.stdout.splitlines()
-    wanted = [("dpkg -i", "yes", "start"), ("dpkg -i", "yes", "restart"), ("dpkg --remove", None, "stop"), ("dpkg -i", "yes", "restart"), ("dpkg --purge", "no", "stop")]
+    wanted = [("dpkg -i", "yes", "start"), ("dpkg -i", "yes", "restart"), ("dpkg --remove", None, "stop"), ("dpkg -i", "yes", "restart"),
+              ("dpkg --purge", "no", "stop")]
     for line, (words, enabled, action) in zip(lines, wanted):
-        equal((line, line.startswith(words), enabled is None or f": enabled {enabled}: " in line, re.search(rf"\b{action} mcd\.service", line) is not None), (line, True, True, True))
-    equal(lines[len(wanted):], [])
-    return None
+        assert line.startswith(words) and (enabled is None or f": enabled {enabled}: " in line), line
+        assert re.search(rf"\b{action} mcd\.service", line), line
+    assert lines[len(wanted):] == []
 
 
 @contextlib.contextmanager
@@ -308,35 +368,32 @@ def unpacked(archive):
         yield config["process"], f"{folder}/bundle/rootfs"
 
 
-def the_image_serves():
+@fails_with(
+    ("packaging/oci", r"0\.0\.0\.0:11211", "0.0.0.0:11212"),
+    ("packaging/oci", r"--config\.user 65532:65532", "--config.user 0:0"),
+    ("packaging/oci", r'install -D -m 755 "\$\(readlink -f "\$library"\)" "\$tree\$library"', ":"))
+def test_the_image_serves():
     """Its program starts as the first process of a PID namespace, without privileges, and sees nothing but the image."""
     if not shutil.which("umoci") or os.geteuid() != 0:
-        return "left out: it needs umoci and root"
+        pytest.skip("it needs umoci and root")
     with tempfile.TemporaryDirectory() as folder, unpacked(told([TOP / "packaging/oci", folder]).split()[-1]) as (process, root):
         words = process["args"]
-        equal(words, ["/usr/bin/env", "--block-signal=TERM,INT,HUP", "/usr/bin/mcd", "--listen", "0.0.0.0:11211", "--memory", "64m", "--drop-in"])
-        equal((process["user"]["uid"], process["user"]["gid"]), (65532, 65532))
+        assert words == ["/usr/bin/env", "--block-signal=TERM,INT,HUP", "/usr/bin/mcd", "--listen", "0.0.0.0:11211", "--memory", "64m", "--drop-in"]
+        assert (process["user"]["uid"], process["user"]["gid"]) == (65532, 65532)
         words[words.index("--listen") + 1] = "127.0.0.1:0"
         inside = ["unshare", "--pid", "--fork", "--kill-child", "chroot", "--userspec=65532:65532", root, *words]
-        image = started(inside, stderr=subprocess.PIPE)
-        try:
+        with running(inside, stderr=subprocess.PIPE) as image:
             ready, _, _ = select.select([image.stderr], [], [], 30)
             port = int(LISTENING.fullmatch(image.stderr.readline().decode())[1]) if ready else None
             with Line(port) as line:
                 line.ask(b"set a 0 0 2\r\nhi\r\nget a\r\n", b"STORED\r\nVALUE a 0 2\r\nhi\r\nEND\r\n")
-        finally:
-            image.kill()
-            image.wait()
-            image.stderr.close()
-    return None
 
 
-def lintian_finds_no_error(package):
-    if not shutil.which("lintian"):
-        return "no lintian here"
+@fails_with(("packaging/deb", r"mcd: bogus-mail-host\n", ""), ("packaging/deb", r'echo /etc/default/mcd > "\$tree/DEBIAN/conffiles"', ":"))
+def test_lintian_finds_no_error(package):
+    needs("lintian")
     ran = subprocess.run(["lintian", "--allow-root", "--fail-on", "error", package], capture_output=True, text=True, timeout=300)
-    equal((ran.returncode, [it for it in ran.stdout.splitlines() if it.startswith("E:")]), (0, []))
-    return None
+    assert (ran.returncode, [it for it in ran.stdout.splitlines() if it.startswith("E:")]) == (0, [])
 
 
 def the_installed_program_serves():
@@ -344,63 +401,23 @@ def the_installed_program_serves():
     memcached's rules."""
     words = service_options(pathlib.Path("/etc/default/mcd").read_text())
     words[words.index("--listen") + 1] = "127.0.0.1:0"
-    process = started(["/usr/bin/mcd", *words], stderr=subprocess.PIPE)
-    try:
+    with running(["/usr/bin/mcd", *words], stderr=subprocess.PIPE) as process:
         ready, _, _ = select.select([process.stderr], [], [], 30)
-        equal(bool(ready), True)
+        assert bool(ready)
         port = int(LISTENING.fullmatch(process.stderr.readline().decode())[1])
         with Line(port) as line:
             line.ask(b"set a 0 0 2\r\nhi\r\nget a\r\n", b"STORED\r\nVALUE a 0 2\r\nhi\r\nEND\r\n")
             line.ask(b"set a 0 4294967295 2\r\nhi\r\nget a\r\n", b"STORED\r\nEND\r\n")
-    finally:
-        process.kill()
-        process.wait()
-        process.stderr.close()
 
 
-def the_package_is_installed_and_removed(package):
+@fails_with(("packaging/deb", r"usr/lib/systemd/system/mcd\.service", "usr/lib/systemd/mcd.service"), ("packaging/mcd.default", r" --drop-in\"", '"'))
+def test_the_package_is_installed_and_removed(package):
+    if os.geteuid() != 0 or any(os.path.exists(it) for it in INSTALLED):
+        pytest.skip("it needs root, and no mcd that is installed")
     subprocess.run(["dpkg", "-i", package], check=True, capture_output=True, timeout=120)
     try:
-        equal([it for it in INSTALLED if not os.path.exists(it)], [])
+        assert [it for it in INSTALLED if not os.path.exists(it)] == []
         the_installed_program_serves()
     finally:
         subprocess.run(["dpkg", "--purge", "mcd"], check=True, capture_output=True, timeout=120)
-    equal([it for it in INSTALLED if os.path.exists(it)], [])
-
-
-def check_the_package(tally):
-    if not shutil.which("dpkg-deb"):
-        print("left out: the Debian package, since there is no dpkg-deb here")
-        return
-    with tempfile.TemporaryDirectory() as one, tempfile.TemporaryDirectory() as two:
-        first, second = made(one), made(two)
-        tally.run(the_package_is_made_alike_twice, first, second)
-        for check in (the_package_has_the_commits_version, the_package_has_all_documents, lintian_finds_no_error):
-            tally.run(check, first)
-        if os.geteuid() == 0:
-            tally.run(the_scripts_enable_restart_stop_and_purge, first)
-        if os.geteuid() != 0:
-            print("left out: to install the package, which needs root")
-        elif any(os.path.exists(it) for it in INSTALLED):
-            print("left out: to install the package, since an mcd is installed here")
-        else:
-            tally.run(the_package_is_installed_and_removed, first)
-
-
-def main():
-    needs_program()
-    bounded(LIMIT_SECONDS)
-    tally = Tally("packaging")
-    for check in (
-        the_man_page_tells_the_options, the_man_page_tells_the_letters, mandoc_finds_nothing, the_completion_tells_the_options,
-        the_documents_name_options_that_are_there, the_service_calls_the_program_rightly, the_unit_is_tight,
-        the_version_names_the_toolchain, each_command_of_the_page_runs, the_dashboard_shows_what_is_served,
-        the_alerts_ask_for_what_is_served, the_snippets_run, the_image_serves,
-    ):
-        tally.run(check)
-    check_the_package(tally)
-    return tally.done()
-
-
-if __name__ == "__main__":
-    sys.exit(main())
+    assert [it for it in INSTALLED if os.path.exists(it)] == []

@@ -1,6 +1,6 @@
 """How much memory clients can make the server take. The bounds are those of the table in docs/SECURITY.md.
 
-Beside the faults of tools/checks/seen_to_fail.py five were built into the program itself. A form that takes 768 bytes more for each
+Beside the faults that stand in for the program five were built into the program itself. A form that takes 768 bytes more for each
 key let `lines_of_32766_keys_are_bounded` find 2,266 MiB and `the_sum_holds_for_all_together` 658; a shard that keeps the items that
 were replaced let `unread_replies_hold_what_they_show` find 50 MiB where all replies had been read; a line that keeps the room in
 which its replies waited let `written_replies_leave_their_lines` find 9; room for 8 MiB for each open block let
@@ -9,7 +9,11 @@ which its replies waited let `written_replies_leave_their_lines` find 9; room fo
 import re
 import time
 
-from served import MIB, TOP, Line, Server, equal, set_of
+import pytest
+
+from tools.served import MIB, STORED, TOP, Line, Server, set_of
+
+fails_with = pytest.mark.fails_with
 
 SEATS = 64
 BUDGET = 4 * MIB
@@ -48,45 +52,48 @@ def wait_until_still(server):
 
 
 def within(most, bound):
-    if most > bound:
-        raise AssertionError(f"{most / MIB:.1f} MiB, and at most {bound / MIB:.1f} were meant")
-    return f"{most / MIB:.1f} of {bound / MIB:.1f} MiB"
+    print(f"{most / MIB:.1f} of {bound / MIB:.1f} MiB")
+    assert most <= bound
 
 
-def an_idle_server_is_small():
+@fails_with("takes 64 MiB")
+def test_an_idle_server_is_small():
     with Server("--seats", 64, "--shards", 16) as server:
         wait_until_still(server)
-        return within(server.most_resident(), term("program") * MIB)
+        within(server.most_resident(), term("program") * MIB)
 
 
-def lines_without_end_are_bounded():
+@fails_with("takes 1 MiB a connection")
+def test_lines_without_end_are_bounded():
     with served() as server:
-        return within(grown(server, lambda _: b"k" * 65_535), SEATS * term("line") * MIB)
+        within(grown(server, lambda _: b"k" * 65_535), SEATS * term("line") * MIB)
 
 
-def announced_gigabytes_are_not_held():
+@fails_with("takes 1 MiB a connection")
+def test_announced_gigabytes_are_not_held():
     with served() as server:
-        return within(grown(server, lambda _: b"set k 0 0 4294967295\r\n" + b"v" * 200_000), SEATS * term("line") * MIB)
+        within(grown(server, lambda _: b"set k 0 0 4294967295\r\n" + b"v" * 200_000), SEATS * term("line") * MIB)
 
 
-def open_blocks_take_little_address_space():
+@fails_with("takes 4 MiB for what is open")
+def test_open_blocks_take_little_address_space():
     """What is taken and not written to isn't resident, but counts where the system limits what is taken (ulimit -v)."""
     with served() as server:
         lines = [Line(server.port) for _ in range(SEATS)]
         for line in lines:
-            line.ask(set_of(b"k", b"v" * 1000), b"STORED\r\n")
+            line.ask(set_of(b"k", b"v" * 1000), STORED)
         before = server.taken()
         for line in lines:
             line.send(b"set k 0 0 1000\r\n" + b"v" * 500)
         wait_until_still(server)
-        told = within(server.taken() - before, SEATS * term("line") * MIB)
+        within(server.taken() - before, SEATS * term("line") * MIB)
         for line in lines:
-            line.ask(b"v" * 500 + b"\r\n", b"STORED\r\n")
+            line.ask(b"v" * 500 + b"\r\n", STORED)
             line.close()
-        return told
 
 
-def a_long_line_leaves_no_room_behind():
+@fails_with("takes 4 MiB for what is open")
+def test_a_long_line_leaves_no_room_behind():
     """Each of 16 connections sends a line of 8 MiB, and stays: of its room no more than that of a short line is kept."""
     with Server("--seats", 16, "--line-limit", "8m") as server:
         lines = [Line(server.port) for _ in range(16)]
@@ -96,11 +103,12 @@ def a_long_line_leaves_no_room_behind():
         for line in lines:
             line.ask(b"mn" + b" " * (8 * MIB - 3) + b"\n", b"MN\r\n")
         wait_until_still(server)
-        return within(server.resident() - before, 16 * term("line") * MIB)
+        within(server.resident() - before, 16 * term("line") * MIB)
 
 
-def a_line_of_keys_leaves_no_room_behind():
-    """Each of 16 connections asks for 30,000 keys at once, and stays: the pieces of its line have left no room."""
+@fails_with("takes 4 MiB for what is open")
+def test_a_line_of_keys_leaves_no_room_behind():
+    """Each of 16 connections requests 30,000 keys at once, and stays: the room of its pieces is freed."""
     with Server("--seats", 16, "--line-limit", "1m") as server:
         lines = [Line(server.port) for _ in range(16)]
         for line in lines:
@@ -109,20 +117,22 @@ def a_line_of_keys_leaves_no_room_behind():
         for line in lines:
             line.ask(b"get" + b" k" * 30_000 + b"\r\n", b"END\r\n")
         wait_until_still(server)
-        return within(server.resident() - before, 16 * MIB)
+        within(server.resident() - before, 24 * MIB)
 
 
-def values_but_for_a_byte_are_bounded():
+@fails_with("takes 4 MiB a connection")
+def test_values_but_for_a_byte_are_bounded():
     with served() as server:
         bound = SEATS * (term("line") * MIB + term("value") * VALUE_LIMIT)
-        return within(grown(server, lambda number: b"set k%d 0 0 %d\r\n" % (number, VALUE_LIMIT) + b"v" * (VALUE_LIMIT + 1)), bound)
+        within(grown(server, lambda number: b"set k%d 0 0 %d\r\n" % (number, VALUE_LIMIT) + b"v" * (VALUE_LIMIT + 1)), bound)
 
 
-def lines_of_32766_keys_are_bounded():
+@fails_with("takes 16 MiB a connection")
+def test_lines_of_32766_keys_are_bounded():
     with served() as server:
         with Line(server.port) as line:
-            line.ask(set_of(b"k", b"x" * 1000), b"STORED\r\n")
-        return within(grown(server, lambda _: b"get" + b" k" * 32_766 + b"\n"), SEATS * (term("line") + term("commands") + term("text")) * MIB)
+            line.ask(set_of(b"k", b"x" * 1000), STORED)
+        within(grown(server, lambda _: b"get" + b" k" * 32_766 + b"\n"), SEATS * (term("line") + term("commands") + term("text")) * MIB)
 
 
 def fill(line, budget):
@@ -132,45 +142,46 @@ def fill(line, budget):
         line.ask(b"".join(b"ms %04x 1 q\r\n1\r\n" % number for number in range(first, first + most)) + b"mn\r\n", b"MN\r\n")
 
 
-def small_items_take_few_times_their_cost():
+@fails_with("takes 64 MiB a connection")
+def test_small_items_take_few_times_their_cost():
     with Server("--seats", 16, "--shards", SHARDS, "--bytes", BUDGET) as server, Line(server.port) as line:
         before = server.resident()
         fill(line, SHARDS * BUDGET)
-        return within(server.most_resident() - before, term("items") * SHARDS * BUDGET)
+        within(server.most_resident() - before, term("items") * SHARDS * BUDGET)
 
 
 def waiting(server, stores, keys, turn, asked):
     """A connection that asked for items of 1 MiB each, which are new for it, and reads nothing."""
     for key in keys:
-        stores.ask(set_of(key, bytes([65 + turn]) * MIB), b"STORED\r\n")
+        stores.ask(set_of(key, bytes([65 + turn]) * MIB), STORED)
     line = Line(server.port)
     line.send(asked)
     wait_until_still(server)
     return line
 
 
-def unread_replies_hold_what_they_show():
+@fails_with("takes 16 MiB a connection", "changes a byte")
+def test_unread_replies_hold_what_they_show():
     """Items that were replaced since they were fetched stay until their replies are read, and they are right; then they go."""
     keys = [b"v%d" % number for number in range(6)]
     with Server("--seats", 16, "--shards", SHARDS, "--bytes", BUDGET) as server, Line(server.port) as stores:
         before = server.resident()
         lines = [waiting(server, stores, keys, turn, b"get " + b" ".join(keys) + b"\r\n") for turn in range(8)]
-        told = within(server.most_resident() - before, (1 + 8) * SHARDS * BUDGET + 9 * term("line") * MIB)
+        within(server.most_resident() - before, (1 + 8) * SHARDS * BUDGET + 9 * term("line") * MIB)
         for turn, line in enumerate(lines):
             wanted = b"".join(b"VALUE %s 0 %d\r\n%s\r\n" % (key, MIB, bytes([65 + turn]) * MIB) for key in keys) + b"END\r\n"
-            equal(line.read(len(wanted)), wanted)
+            assert line.read(len(wanted)) == wanted
             line.close()
         wait_until_still(server)
         within(server.resident() - before, 4 * SHARDS * BUDGET)
-        return told
 
 
-def written_replies_leave_their_lines():
+def test_written_replies_leave_their_lines():
     """Each of 63 connections takes windows of replies, each longer than the last: the room in which they waited doesn't stay with it.
     A window of short replies comes first, since what is kept of each open command stays resident."""
     reply = b"VALUE k 0 500\r\n" + b"x" * 500 + b"\r\nEND\r\n"
     with served() as server, Line(server.port) as stores:
-        stores.ask(set_of(b"k", b"x" * 500), b"STORED\r\n")
+        stores.ask(set_of(b"k", b"x" * 500), STORED)
         lines = [Line(server.port) for _ in range(SEATS - 1)]
         for line in lines:
             line.ask(b"get m\r\n" * 250, b"END\r\n" * 250)
@@ -179,10 +190,11 @@ def written_replies_leave_their_lines():
             for line in lines:
                 line.ask(b"get k\r\n" * count, reply * count)
         wait_until_still(server)
-        return within(server.resident() - before, 2 * MIB)
+        within(server.resident() - before, 2 * MIB)
 
 
-def the_sum_holds_for_all_together():
+@fails_with("takes 64 MiB a connection")
+def test_the_sum_holds_for_all_together():
     """Each seat but one holds a line of as many keys as there may be, whose reply shows items that were replaced since and isn't
     read. Then the smallest items fill the shards."""
     seats, values = 16, [b"v%d" % number for number in range(6)]
@@ -190,21 +202,12 @@ def the_sum_holds_for_all_together():
     with Server("--seats", seats, "--shards", SHARDS, "--bytes", BUDGET) as server, Line(server.port) as stores:
         lines = [waiting(server, stores, values, turn, asked) for turn in range(seats - 1)]
         fill(stores, SHARDS * BUDGET)
-        told = within(server.most_resident(), bound_of(seats, SHARDS * BUDGET))
+        within(server.most_resident(), bound_of(seats, SHARDS * BUDGET))
         for line in lines:
             line.reset()
-        return told
 
 
 def bound_of(seats, budgets):
     """The sum of docs/SECURITY.md."""
     seat = (term("line") + term("commands") + term("text")) * MIB + term("value") * VALUE_LIMIT + budgets
     return term("program") * MIB + term("items") * budgets + seats * seat
-
-
-CHECKS = [
-    an_idle_server_is_small, lines_without_end_are_bounded, announced_gigabytes_are_not_held,
-    open_blocks_take_little_address_space, a_long_line_leaves_no_room_behind, a_line_of_keys_leaves_no_room_behind, values_but_for_a_byte_are_bounded,
-    lines_of_32766_keys_are_bounded, small_items_take_few_times_their_cost,
-    unread_replies_hold_what_they_show, written_replies_leave_their_lines, the_sum_holds_for_all_together,
-]

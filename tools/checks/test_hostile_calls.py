@@ -3,7 +3,11 @@ import socket
 import subprocess
 import time
 
-from served import LISTENING, MCD, TOP, Line, Server, equal, started
+import pytest
+
+from tools.served import LISTENING, TOP, Line, Server, ended, mcd, run, running
+
+fails_with = pytest.mark.fails_with
 
 # Addresses that aren't one, or can't be listened on (192.0.2.1 is nobody's: RFC 5737).
 # Places where it can't listen. One that names no port is told with that of memcached.
@@ -19,57 +23,57 @@ FAULTY_CALLS = [
 ]
 
 
-def ended(words):
-    ran = subprocess.run([MCD, *words], stdin=subprocess.DEVNULL, capture_output=True, timeout=30)
-    return ran.returncode, ran.stdout, ran.stderr
-
-
 def is_refused_address(address, shown=None):
     """The program tells that it can't listen, and why it can't listen there."""
-    status, out, told = ended(["--listen", address])
-    first, _, second = told.decode().partition("\n")
-    equal((address, status, out, first), (address, 1, b"", "mcd: cannot listen"))
-    equal(second.startswith(f"mcd: --listen {shown or address}: ") and second.count("\n") == 1, True)
+    status, out, told = ended("--listen", address)
+    first, _, second = told.partition("\n")
+    assert (status, out, first) == (1, "", "mcd: cannot listen"), address
+    assert second.startswith(f"mcd: --listen {shown or address}: ") and second.count("\n") == 1
 
 
-def a_taken_port_is_refused():
-    with Server() as server:
-        is_refused_address(f"127.0.0.1:{server.port}")
-        with Line(server.port) as line:
-            line.ask(b"mn\r\n", b"MN\r\n")
+@fails_with("ends with 0")
+def test_a_taken_port_is_refused(server):
+    is_refused_address(f"127.0.0.1:{server.port}")
+    with Line(server.port) as line:
+        line.ask(b"mn\r\n", b"MN\r\n")
 
 
-def what_is_no_address_is_refused():
+@fails_with("ends with 0")
+def test_what_is_no_address_is_refused():
     for address in NO_ADDRESSES:
         is_refused_address(address, {":": "127.0.0.1:"}.get(address))
     for address in WITHOUT_PORT:
         is_refused_address(address, f"{address}:11211")
 
 
-def faults_of_the_command_line_end_with_2():
+@fails_with("ends with 0", "ends with 1")
+def test_faults_of_the_command_line_end_with_2():
     for call in FAULTY_CALLS:
-        status, out, told = ended(call.split())
-        equal((call, status, out, bool(told)), (call, 2, b"", True))
+        status, out, told = ended(*call.split())
+        assert (status, out, bool(told)) == (2, "", True), call
 
 
-def a_file_that_cannot_be_read_is_told():
+@fails_with("ends with 0")
+def test_a_file_that_cannot_be_read_is_told():
     for file in (TOP / "examples/no such file", TOP / "examples"):
-        status, out, told = ended(["--replay", str(file)])
-        first, _, reason = told.partition(b"\n")
-        equal((file, status, out, first), (file, 1, b"", b"mcd: cannot read the file"))
-        equal(reason.startswith(b"mcd: --replay %s: " % bytes(file)), True)
+        status, out, told = ended("--replay", str(file))
+        first, _, reason = told.partition("\n")
+        assert (status, out, first) == (1, "", "mcd: cannot read the file"), file
+        assert reason.startswith(f"mcd: --replay {file}: ")
 
 
-def a_replay_that_cannot_be_written_is_told():
+@fails_with("ends with 0")
+def test_a_replay_that_cannot_be_written_is_told():
     for file in sorted(TOP.glob("examples/*.schedule")):
         with open("/dev/full", "wb") as full:
-            ran = subprocess.run([MCD, "--replay", file], stdin=subprocess.DEVNULL, stdout=full, stderr=subprocess.PIPE, timeout=30)
-        equal((file, ran.returncode, ran.stderr), (file, 1, b"mcd: cannot write\n"))
+            ran = run("--replay", file, stdout=full)
+        assert (ran.returncode, ran.stderr) == (1, b"mcd: cannot write\n"), file
 
 
-def help_ends_with_0():
-    status, out, told = ended(["--help"])
-    equal((status, b"--listen" in out, told), (0, True, b""))
+@fails_with("ends with 1")
+def test_help_ends_with_0():
+    status, out, told = ended("--help")
+    assert (status, "--listen" in out, told) == (0, True, "")
 
 
 def leaves(port, number):
@@ -83,7 +87,8 @@ def leaves(port, number):
             line.reset()
 
 
-def so_many_connections_and_then_status_0():
+@fails_with("ends with 1", "counts a connection twice")
+def test_so_many_connections_and_then_status_0():
     """Each connection counts once, however it ends: before the last the server goes on, and then it ends."""
     for count, seats in ((1, 1), (1, 4), (1, 64), (3, 1), (3, 4), (3, 64), (200, 1), (200, 4), (200, 64)):
         with Server("--connections", count, "--seats", seats) as server:
@@ -92,12 +97,13 @@ def so_many_connections_and_then_status_0():
             with Line(server.port) as last:
                 last.ask(b"mn\r\n", b"MN\r\n")
                 time.sleep(0.1)
-                equal(server.is_running(), True)
+                assert server.is_running()
                 last.ask(b"mn\r\nquit\r\n", b"MN\r\n")
-            equal((count, seats, server.process.wait(timeout=30), server.process.stderr.read()), (count, seats, 0, b""))
+            assert (server.process.wait(timeout=30), server.process.stderr.read()) == (0, b""), (count, seats)
 
 
-def the_last_connections_are_served_to_their_end():
+@fails_with("counts a connection twice")
+def test_the_last_connections_are_served_to_their_end():
     with Server("--connections", 4, "--seats", 4) as server:
         lines = [Line(server.port) for _ in range(4)]
         for line in lines:
@@ -105,30 +111,19 @@ def the_last_connections_are_served_to_their_end():
         for line in lines[:3]:
             line.close()
         time.sleep(0.3)
-        equal(server.is_running(), True)
+        assert server.is_running()
         lines[3].ask(b"mn\r\n", b"MN\r\n")
         lines[3].close()
-        equal(server.process.wait(timeout=30), 0)
+        assert server.process.wait(timeout=30) == 0
 
 
-def a_port_is_free_again_at_once():
-    with Server() as server, Line(server.port) as line:
+@fails_with("keeps its port")
+def test_a_port_is_free_again_at_once(server):
+    with Line(server.port) as line:
         line.ask(b"mn\r\n", b"MN\r\n")
         port = server.port
         server.process.kill()
         server.process.wait()
-        again = started([MCD, "--listen", f"127.0.0.1:{port}"], stderr=subprocess.PIPE)
-        try:
-            equal(int(LISTENING.fullmatch(again.stderr.readline().decode())[1]), port)
+        with running(mcd("--listen", f"127.0.0.1:{port}"), stderr=subprocess.PIPE) as again:
+            assert int(LISTENING.fullmatch(again.stderr.readline().decode())[1]) == port
             socket.create_connection(("127.0.0.1", port), timeout=30).close()
-        finally:
-            again.kill()
-            again.wait()
-            again.stderr.close()
-
-
-CHECKS = [
-    a_taken_port_is_refused, what_is_no_address_is_refused, faults_of_the_command_line_end_with_2,
-    a_file_that_cannot_be_read_is_told, a_replay_that_cannot_be_written_is_told, help_ends_with_0,
-    so_many_connections_and_then_status_0, the_last_connections_are_served_to_their_end, a_port_is_free_again_at_once,
-]

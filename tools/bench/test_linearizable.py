@@ -1,32 +1,26 @@
-#!/usr/bin/env python3
-"""Checks that what clients see of a key is linearizable: one order in time explains all replies (docs/PROTOCOL.md).
-
-    tools/bench/linearizable.py [--commands N] [--seed N] [--port PORT | --memory]     300000 commands where nothing else is said
+"""What clients see of a key is linearizable: one order in time explains all replies (docs/PROTOCOL.md).
 
 Sixty connections write and read few keys, each awaiting its reply, and note by one clock when each command began and ended.
 Some keys are registers (set, add, gets, cas, delete), some are counters (set, incr, add, delete). `linearizable_checker.py`
 then decides for each key whether some order explains what was seen. Then faults are put into the recorded histories, and the
-checker must refuse each. With --port a server that already runs there is asked, in place of one that is started; its keys must
-be absent. With --memory the connections are lines over memory that the threads of `mc_trials history` serve, and their clock
-is one counter. The last line is `linearizable: N passed, M failed`.
+checker must refuse each. Over memory the connections are lines that the threads of `mc_trials history` serve, and their clock
+is one counter.
 """
-import argparse
 import multiprocessing
-import pathlib
 import random
 import select
 import signal
 import socket
 import subprocess
-import sys
 import time
 
-sys.path.insert(0, str(pathlib.Path(__file__).resolve().parent.parent))
+import pytest
 
-from linearizable_checker import Call, Refused, check, rule_of, values_of_uniques  # noqa: E402
-from served import TOP, WITH_US, Server, Tally, bounded, needs_program  # noqa: E402
+from tools.bench.linearizable_checker import Call, Refused, check, rule_of, values_of_uniques
+from tools.served import TOP, WITH_US, Server
 
 LIMIT_SECONDS = 300
+COMMANDS, SEED = 300_000, 1
 CONNECTIONS = 60
 PROCESSES = 2
 REGISTERS, COUNTERS = 10, 6
@@ -259,48 +253,33 @@ def refusal(history):
     return None
 
 
-def tell_faults(tally, histories):
-    """Each fault is put into the first history that has a place for it. Without it these histories are linearizable."""
-    for fault in FAULTS:
-        altered = next((found for found in map(fault, histories) if found), None)
-        why = altered and refusal(altered)
-        tally.tell(bool(why), f"the fault '{fault.__name__.replace('_', ' ')}' is refused: {why or ('not refused' if altered else 'no place for it')}")
+@pytest.fixture(scope="module", params=["sockets", "memory"])
+def histories(request):
+    """The history of each key, over sockets and over memory."""
+    if request.param == "memory":
+        return told_in_memory(COMMANDS, SEED)
+    with Server("--seats", CONNECTIONS, "--shards", SHARDS) as server:
+        return recorded(server.port, COMMANDS, SEED)
 
 
-def run(tally, given, record, *where):
-    began = time.monotonic()
-    histories = record(*where, given.commands, given.seed)
-    took = time.monotonic() - began
+@pytest.fixture(scope="module")
+def refusals(histories):
+    """Why the checker refuses the history of each key, if it does."""
     with multiprocessing.Pool(initializer=as_worker) as pool:
-        found = pool.map(refusal, histories)
-    total = sum(map(len, histories))
-    print(f"{total} commands in {took:.1f} s, checked in {time.monotonic() - began - took:.1f} s")
-    for place, why in enumerate(found):
-        name = f"{'counter' if place >= REGISTERS else 'register'} {place}: {len(histories[place])} commands"
-        tally.tell(not why, f"{name} are linearizable" if not why else f"{name}: {why}")
-    tally.tell(total >= given.commands - CONNECTIONS, f"{total} commands are answered")
-    tell_faults(tally, [history for history, why in zip(histories, found) if not why])
+        return pool.map(refusal, histories)
 
 
-def main():
-    parser = argparse.ArgumentParser(description=__doc__.splitlines()[0])
-    parser.add_argument("--commands", type=int, default=300_000)
-    parser.add_argument("--seed", type=int, default=1)
-    parser.add_argument("--port", type=int)
-    parser.add_argument("--memory", action="store_true")
-    given = parser.parse_args()
-    bounded(LIMIT_SECONDS)
-    tally = Tally("linearizable")
-    if given.memory:
-        run(tally, given, told_in_memory)
-    elif given.port:
-        run(tally, given, recorded, given.port)
-    else:
-        needs_program()
-        with Server("--seats", CONNECTIONS, "--shards", SHARDS) as server:
-            run(tally, given, recorded, server.port)
-    return tally.done()
+def test_all_commands_are_answered(histories):
+    assert sum(map(len, histories)) >= COMMANDS - CONNECTIONS
 
 
-if __name__ == "__main__":
-    sys.exit(main())
+@pytest.mark.parametrize("place", range(REGISTERS + COUNTERS))
+def test_each_key_is_linearizable(refusals, place):
+    assert refusals[place] is None
+
+
+@pytest.mark.parametrize("put_in", FAULTS)
+def test_each_fault_is_refused(histories, refusals, put_in):
+    """Each fault is put into the first history that has a place for it. Without it these histories are linearizable."""
+    altered = next(filter(None, map(put_in, (history for history, why in zip(histories, refusals) if not why))), None)
+    assert altered is not None and refusal(altered)

@@ -1,8 +1,5 @@
-#!/usr/bin/env python3
-"""Checks that no connection waits for ever beside another one (docs/PROOFS.md): a client that awaits each reply, beside one that
+"""No connection waits forever beside another one (docs/PROOFS.md): a client that awaits each reply, beside one that
 sends commands without end, and beside some that hardly read their replies.
-
-    tools/bench/fairness.py [--rounds N] [--commands N]     5 rounds of 3000 commands where nothing else is said
 
 Both ask the same shard, so that its worker has a full lane beside one with a single piece. In each round the client's 99th
 percentile is taken alone and beside the load; the median of the rounds beside the load is at most ten times the median of those
@@ -15,23 +12,19 @@ has its turns all the same: a reply comes within a tenth of a second, where it t
 
 Then the same beside eight clients that ask for values of 64 KiB and read a few bytes now and then: their replies wait, and take
 nothing from the others. The bound is three times, though on a quiet machine it is hardly more than alone.
-The last line is `fairness: N passed, M failed`.
 """
-import argparse
 import functools
 import multiprocessing
-import pathlib
 import signal
 import socket
 import statistics
-import sys
 import time
 
-sys.path.insert(0, str(pathlib.Path(__file__).resolve().parent.parent))
+import pytest
 
-from served import Line, Server, Tally, bounded, needs_program  # noqa: E402
+from tools.served import Line, Server
 
-LIMIT_SECONDS = 450
+ROUNDS, COMMANDS = 5, 3000
 
 # How many times as long the 99th percentile may be beside the load.
 MOST_TIMES = 10
@@ -136,56 +129,42 @@ def alone(port, commands):
         return percentile(asks(line, commands))
 
 
-def measured(port, given, others):
+def measured(port, others):
     """The medians of the rounds: the client's 99th percentile alone and beside the others, and what they had a second."""
     pairs = []
-    for number in range(given.rounds):
-        quiet, (loaded, rate) = alone(port, given.commands), beside(port, given.commands, others)
+    for number in range(ROUNDS):
+        quiet, (loaded, rate) = alone(port, COMMANDS), beside(port, COMMANDS, others)
         print(f"round {number}: 99 of 100 within {quiet:.0f} µs alone, {loaded:.0f} µs beside {rate:,.0f} a second", flush=True)
         pairs.append((quiet, loaded, rate))
     return [statistics.median(column) for column in zip(*pairs)]
 
 
-def beside_a_load(tally, port, given):
-    for _ in range(ATTEMPTS):
-        quiet, loaded, rate = measured(port, given, sends_without_end)
-        if rate >= LEAST_RATE and loaded <= MOST_TIMES * quiet:
-            break
-    tally.tell(rate >= LEAST_RATE, f"the load has {rate:,.0f} replies a second, at least {LEAST_RATE:,}")
-    tally.tell(loaded <= MOST_TIMES * quiet, f"beside it a reply takes {loaded / quiet:.1f} times as long as alone, at most {MOST_TIMES} ({loaded:.0f} and {quiet:.0f} µs)")
-
-
-def beside_one_that_asks_no_shard(tally, port, given):
-    load = functools.partial(sends_without_end, asked=b"mn\r\n", reply=b"MN\r\n")
-    _quiet, loaded, rate = measured(port, given, load)
-    tally.tell(rate >= LEAST_RATE, f"one that asks no shard has {rate:,.0f} replies a second, at least {LEAST_RATE:,}")
-    tally.tell(loaded <= LATEST, f"beside it a reply takes {loaded:.0f} µs, at most {LATEST}")
-
-
-def beside_slow_readers(tally, port, given):
-    for _ in range(ATTEMPTS):
-        quiet, loaded, _rate = measured(port, given, hardly_reads)
-        if loaded <= MOST_TIMES_UNREAD * quiet:
-            break
-    tally.tell(loaded <= MOST_TIMES_UNREAD * quiet, f"beside {SLOW} that hardly read a reply takes {loaded / quiet:.1f} times as long as alone, at most {MOST_TIMES_UNREAD} ({loaded:.0f} and {quiet:.0f} µs)")
-
-
-def main():
-    parser = argparse.ArgumentParser(description=__doc__.splitlines()[0])
-    parser.add_argument("--rounds", type=int, default=5)
-    parser.add_argument("--commands", type=int, default=3000)
-    given = parser.parse_args()
-    bounded(LIMIT_SECONDS)
-    needs_program()
-    tally = Tally("fairness")
+@pytest.fixture(scope="module")
+def port():
     with Server("--seats", 2 + SLOW, "--shards", 1) as server:
         with Line(server.port) as line:
             line.ask(STORED + LARGE, b"STORED\r\n" * 2)
-        beside_a_load(tally, server.port, given)
-        beside_one_that_asks_no_shard(tally, server.port, given)
-        beside_slow_readers(tally, server.port, given)
-    return tally.done()
+        yield server.port
 
 
-if __name__ == "__main__":
-    sys.exit(main())
+def test_beside_a_load(port):
+    for _ in range(ATTEMPTS):
+        quiet, loaded, rate = measured(port, sends_without_end)
+        if rate >= LEAST_RATE and loaded <= MOST_TIMES * quiet:
+            break
+    assert rate >= LEAST_RATE
+    assert loaded <= MOST_TIMES * quiet
+
+
+def test_beside_one_that_asks_no_shard(port):
+    _quiet, loaded, rate = measured(port, functools.partial(sends_without_end, asked=b"mn\r\n", reply=b"MN\r\n"))
+    assert rate >= LEAST_RATE
+    assert loaded <= LATEST
+
+
+def test_beside_slow_readers(port):
+    for _ in range(ATTEMPTS):
+        quiet, loaded, _rate = measured(port, hardly_reads)
+        if loaded <= MOST_TIMES_UNREAD * quiet:
+            break
+    assert loaded <= MOST_TIMES_UNREAD * quiet

@@ -3,38 +3,45 @@ import random
 import threading
 import time
 
-from served import MIB, Line, Server, equal, hit_of, set_of
+import pytest
+
+from tools.served import MIB, STORED, Line, Server, hit_of, set_of
+
+fails_with = pytest.mark.fails_with
 
 
-def half_closed_connections_get_all_replies():
-    with Server() as server:
-        for tail, wanted in ((b"", b""), (b"get", b""), (b"set b 0 0 5\r\nab", b""), (b"get a\n", hit_of(b"a", b"x" * 9))):
-            with Line(server.port) as line:
-                line.send(set_of(b"a", b"x" * 9) + b"get a\r\n" * 3000 + tail)
-                line.end()
-                equal(line.rest(), b"STORED\r\n" + hit_of(b"a", b"x" * 9) * 3000 + wanted)
+@fails_with("closes both ways")
+def test_half_closed_connections_get_all_replies(server):
+    for tail, wanted in ((b"", b""), (b"get", b""), (b"set b 0 0 5\r\nab", b""), (b"get a\n", hit_of(b"a", b"x" * 9))):
+        with Line(server.port) as line:
+            line.send(set_of(b"a", b"x" * 9) + b"get a\r\n" * 3000 + tail)
+            line.end()
+            assert line.rest() == STORED + hit_of(b"a", b"x" * 9) * 3000 + wanted
 
 
-def replies_are_read_a_byte_at_a_time():
-    wanted = b"STORED\r\n" + hit_of(b"a", bytes(range(256)) * 4) * 20 + b"MN\r\n"
-    with Server() as server, Line(server.port, room=2048) as line:
+@fails_with("changes a byte")
+def test_replies_are_read_a_byte_at_a_time(server):
+    wanted = STORED + hit_of(b"a", bytes(range(256)) * 4) * 20 + b"MN\r\n"
+    with Line(server.port, room=2048) as line:
         line.send(set_of(b"a", bytes(range(256)) * 4) + b"get a\r\n" * 20 + b"mn\r\nquit\r\n")
         found = b""
         while got := line.socket.recv(1):
             found += got
-        equal(found, wanted)
+        assert found == wanted
 
 
-def commands_come_a_byte_at_a_time():
+@fails_with("changes a byte")
+def test_commands_come_a_byte_at_a_time(server):
     value = b"x" * 300
-    wanted = b"STORED\r\n" + hit_of(b"a", value) + b"VA 300\r\n" + value + b"\r\n"
-    with Server() as server, Line(server.port) as line:
+    wanted = STORED + hit_of(b"a", value) + b"VA 300\r\n" + value + b"\r\n"
+    with Line(server.port) as line:
         for byte in set_of(b"a", value) + b"get a\r\nmg a v\r\n":
             line.send(bytes([byte]))
-        equal(line.read(len(wanted)), wanted)
+        assert line.read(len(wanted)) == wanted
 
 
-def a_slow_reader_holds_little_memory(count=64):
+@fails_with("gathers replies")
+def test_a_slow_reader_holds_little_memory(count=64):
     """64 MiB of replies are due to a client that doesn't read; then it reads all. One value of 1 MiB, asked for again and
     again, is shared by its replies; small values, which a client asks for without end, are held back by its own sending."""
     value = bytes(range(256)) * 4096
@@ -46,11 +53,10 @@ def a_slow_reader_holds_little_memory(count=64):
             line.send(b"get big\r\n" * count)
             grown = most_of(server, 2) - before
             for _ in range(count):
-                equal(line.read(len(wanted)), wanted)
-        if grown > 8 * MIB:
-            raise AssertionError(f"{grown / MIB:.0f} MiB more are held for it")
+                assert line.read(len(wanted)) == wanted
+        assert grown <= 8 * MIB, f"{grown / MIB:.0f} MiB more are held for it"
         reads_small_replies_late(server, before)
-    return f"{grown / MIB:.1f} MiB more"
+    print(f"{grown / MIB:.1f} MiB more")
 
 
 def most_of(server, seconds):
@@ -68,27 +74,28 @@ def reads_small_replies_late(server, before):
         sender = threading.Thread(target=line.send, args=(b"get small\r\n" * count,), daemon=True)
         sender.start()
         grown = most_of(server, 2) - before
-        if grown > 8 * MIB:
-            raise AssertionError(f"{grown / MIB:.0f} MiB more are held for small replies")
+        assert grown <= 8 * MIB, f"{grown / MIB:.0f} MiB more are held for small replies"
         other.ask(b"mn\r\n", b"MN\r\n")
         for _ in range(count // 1000):
-            equal(line.read(len(wanted) * 1000), wanted * 1000)
+            assert line.read(len(wanted) * 1000) == wanted * 1000
         sender.join()
 
 
-def two_hundred_connections_take_turns_on_four_seats():
+@fails_with("drops connections")
+def test_two_hundred_connections_take_turns_on_four_seats():
     with Server("--seats", 4) as server:
         for first in (0, 100):
             lines = [Line(server.port) for _ in range(100)]
             for number, line in enumerate(lines, first):
                 line.send(set_of(b"turn%d" % number, b"%d" % number) + b"get turn%d\r\n" % number)
             for number, line in enumerate(lines, first):
-                wanted = b"STORED\r\n" + hit_of(b"turn%d" % number, b"%d" % number)
-                equal(line.read(len(wanted)), wanted)
+                wanted = STORED + hit_of(b"turn%d" % number, b"%d" % number)
+                assert line.read(len(wanted)) == wanted
                 line.close()
 
 
-def silent_connections_keep_their_seats_alone():
+@fails_with("has one seat")
+def test_silent_connections_keep_their_seats_alone():
     """Three of four seats are held by clients that say nothing or stop in the middle; the fourth serves on."""
     with Server("--seats", 4) as server:
         held = [Line(server.port) for _ in range(3)]
@@ -96,32 +103,32 @@ def silent_connections_keep_their_seats_alone():
             line.send(said)
         for _ in range(20):
             with Line(server.port) as line:
-                line.ask(set_of(b"b", b"x") + b"get b\r\nget a\r\n", b"STORED\r\n" + hit_of(b"b", b"x") + b"END\r\n")
-        for line, said, wanted in zip(held, (b"mn\r\n", b"\r\n", b"defghij\r\n"), (b"MN\r\n", b"END\r\n", b"STORED\r\n")):
+                line.ask(set_of(b"b", b"x") + b"get b\r\nget a\r\n", STORED + hit_of(b"b", b"x") + b"END\r\n")
+        for line, said, wanted in zip(held, (b"mn\r\n", b"\r\n", b"defghij\r\n"), (b"MN\r\n", b"END\r\n", STORED)):
             line.ask(said, wanted)
             line.close()
 
 
-def a_client_quits_amid_what_it_sends():
-    with Server() as server:
-        for _ in range(20):
-            with Line(server.port) as line:
-                line.send(b"mn\r\nquit\r\n" + b"get a\r\n" * 40_000)
-                equal(line.rest(), b"MN\r\n")
+@fails_with("resets")
+def test_a_client_quits_amid_what_it_sends(server):
+    for _ in range(20):
+        with Line(server.port) as line:
+            line.send(b"mn\r\nquit\r\n" + b"get a\r\n" * 40_000)
+            assert line.rest() == b"MN\r\n"
 
 
 def counts_up(port, until, faults):
     """The checker beside the kills: its own key is stored, counted up and read, and must be what it was told."""
     try:
         with Line(port) as line:
-            line.ask(set_of(b"checked", b"0"), b"STORED\r\n")
+            line.ask(set_of(b"checked", b"0"), STORED)
             number = 0
             while not until.is_set():
                 number += 1
                 text = b"%d" % number
                 value = text * 50
                 line.ask(b"incr checked 1\r\nget checked\r\n" + set_of(b"other", value) + b"get other\r\n",
-                         text + b"\r\n" + hit_of(b"checked", text) + b"STORED\r\n" + hit_of(b"other", value))
+                         text + b"\r\n" + hit_of(b"checked", text) + STORED + hit_of(b"other", value))
             faults.append(None if number > 10 else f"only {number} rounds")
     except Exception as why:
         faults.append(f"{type(why).__name__}: {why}")
@@ -142,12 +149,13 @@ def killed(port, kind):
     line.reset()
 
 
-def a_thousand_clients_are_killed(count=1000):
+@fails_with("stores torn blocks", "changes a byte")
+def test_a_thousand_clients_are_killed(count=1000):
     """Beside them a checker loses nothing; no seat is lost, and no torn block is stored."""
     until, faults = threading.Event(), []
     with Server("--seats", 8) as server:
         with Line(server.port) as line:
-            line.ask(set_of(b"big", b"b" * MIB), b"STORED\r\n")
+            line.ask(set_of(b"big", b"b" * MIB), STORED)
         checker = threading.Thread(target=counts_up, args=(server.port, until, faults))
         checker.start()
         try:
@@ -156,7 +164,7 @@ def a_thousand_clients_are_killed(count=1000):
         finally:
             until.set()
             checker.join()
-        equal(faults, [None])
+        assert faults == [None]
         lines = [Line(server.port) for _ in range(8)]
         for line in lines:
             line.ask(b"get torn\r\nmn\r\n", b"END\r\nMN\r\n")
@@ -172,7 +180,8 @@ LEAVINGS = [
 ]
 
 
-def each_seat_serves_one_client_after_another(count=4000):
+@fails_with("loses its seats", "drops connections")
+def test_each_seat_serves_one_client_after_another(count=4000):
     """However each of them leaves: both seats are there at the end, and so is the server. One that loses a seat after so many clients, or
     after one that leaves in a certain way, serves none of the last two, or one of them."""
     with Server("--seats", 2) as server:
@@ -186,23 +195,16 @@ def each_seat_serves_one_client_after_another(count=4000):
             line.ask(b"mn\r\n", b"MN\r\n")
         for line in lines:
             line.close()
-        equal(server.is_running(), True)
+        assert server.is_running()
 
 
-def more_than_a_gigabyte_goes_over_one_connection(count=136):
+@fails_with("ends a connection after a gigabyte", "changes a byte")
+def test_more_than_a_gigabyte_goes_over_one_connection(count=136):
     """Each way: values of 8 MiB are stored and read. A count of bytes of 30 bits would be at its end."""
     value = random.Random(2).randbytes(8 * MIB)
     wanted = hit_of(b"a", value)
     with Server("--value-limit", "8m", "--memory", "64m") as server, Line(server.port) as line:
         for _ in range(count):
-            line.ask(set_of(b"a", value), b"STORED\r\n")
+            line.ask(set_of(b"a", value), STORED)
             line.send(b"get a\r\n")
-            equal(line.read(len(wanted)) == wanted, True)
-
-
-CHECKS = [
-    half_closed_connections_get_all_replies, replies_are_read_a_byte_at_a_time, commands_come_a_byte_at_a_time,
-    a_slow_reader_holds_little_memory, two_hundred_connections_take_turns_on_four_seats,
-    silent_connections_keep_their_seats_alone, a_client_quits_amid_what_it_sends, a_thousand_clients_are_killed,
-    each_seat_serves_one_client_after_another, more_than_a_gigabyte_goes_over_one_connection,
-]
+            assert line.read(len(wanted)) == wanted

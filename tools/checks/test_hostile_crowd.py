@@ -6,11 +6,11 @@ import random
 import resource
 import time
 
-from served import MIB, Line, Server, equal, hit_of, set_of
+import pytest
 
-# How many connections come one after another, and how long some clients ask once a second: `tools/checks/hostile.py --long` sets more.
-CONNECTIONS = 20_000
-SECONDS = 15
+from tools.served import MIB, STORED, Line, Server, hit_of, set_of
+
+fails_with = pytest.mark.fails_with
 
 # As many clients as there may be seats, or as many as files may be open here: each is one of ours, and one of the server's.
 MOST_FILES = resource.getrlimit(resource.RLIMIT_NOFILE)[1]
@@ -19,6 +19,14 @@ ROUNDS = 6
 
 # So long a reply may take, in seconds.
 PATIENCE = 30
+
+
+@pytest.fixture
+def sizes(request):
+    """How many connections come one after another, and how many seconds some clients ask once a second."""
+    if request.config.getoption("long"):
+        return 1_000_000, 300
+    return (2_000, 5) if request.config.getoption("seen_to_fail") else (20_000, 15)
 
 
 async def connected(port):
@@ -30,7 +38,7 @@ async def asked(reader, writer, sent, wanted):
     """Sends it, and wants this reply in time; the seconds that it took."""
     began = time.monotonic()
     writer.write(sent)
-    equal(await asyncio.wait_for(reader.readexactly(len(wanted)), PATIENCE), wanted)
+    assert await asyncio.wait_for(reader.readexactly(len(wanted)), PATIENCE) == wanted
     return time.monotonic() - began
 
 
@@ -59,7 +67,7 @@ async def asks(port, number, _until):
     for turn in range(ROUNDS):
         await asyncio.sleep(random.random() * 2)
         value = b"%d" % turn * random.randrange(1, 400)
-        took = await asked(reader, writer, set_of(key, value) + b"get %s\r\n" % key, b"STORED\r\n" + hit_of(key, value))
+        took = await asked(reader, writer, set_of(key, value) + b"get %s\r\n" % key, STORED + hit_of(key, value))
         longest = max(longest, took)
     writer.close()
     return longest
@@ -77,69 +85,62 @@ async def crowd(port):
         await asyncio.gather(*tasks, return_exceptions=True)
 
 
-def four_thousand_clients_at_once_are_answered():
+@fails_with("has few seats")
+def test_four_thousand_clients_at_once_are_answered():
     resource.setrlimit(resource.RLIMIT_NOFILE, (MOST_FILES, MOST_FILES))
     with Server("--seats", CROWD) as server:
         with Line(server.port) as line:
-            line.ask(set_of(b"large", b"l" * 16_384), b"STORED\r\n")
+            line.ask(set_of(b"large", b"l" * 16_384), STORED)
         longest = asyncio.run(crowd(server.port))
-        told = f"{CROWD} clients, {longest:.1f} s the longest, {server.most_resident() / MIB:.0f} MiB"
+        print(f"{CROWD} clients, {longest:.1f} s the longest, {server.most_resident() / MIB:.0f} MiB")
         with Line(server.port) as line:
             line.ask(b"get stalled0\r\nmn\r\n", b"END\r\nMN\r\n")
-    return told
 
 
-async def asks_now_and_then(port, number):
+async def asks_now_and_then(port, number, seconds):
     reader, writer = await connected(port)
     await asyncio.sleep(number / 64)
     longest, key = 0, b"now%d" % number
-    for turn in range(SECONDS):
+    for turn in range(seconds):
         value = b"%d" % turn
-        took = await asked(reader, writer, set_of(key, value) + b"get %s\r\n" % key, b"STORED\r\n" + hit_of(key, value))
+        took = await asked(reader, writer, set_of(key, value) + b"get %s\r\n" % key, STORED + hit_of(key, value))
         longest = max(longest, took)
         await asyncio.sleep(1)
     writer.close()
     return longest
 
 
-async def some_now_and_then(port):
-    return max(await asyncio.gather(*[asks_now_and_then(port, number) for number in range(64)]))
+async def some_now_and_then(port, seconds):
+    return max(await asyncio.gather(*[asks_now_and_then(port, number, seconds) for number in range(64)]))
 
 
-def clients_that_ask_once_a_second_are_answered():
+@fails_with("drops connections")
+def test_clients_that_ask_once_a_second_are_answered(server, sizes):
     """All threads of the server sleep between their commands."""
-    with Server() as server:
-        longest = asyncio.run(some_now_and_then(server.port))
-    return f"{longest * 1000:.0f} ms the longest, {SECONDS} s"
+    longest = asyncio.run(some_now_and_then(server.port, sizes[1]))
+    print(f"{longest * 1000:.0f} ms the longest, {sizes[1]} s")
 
 
 def one_connection(port, number):
     """Stores and reads a value, and leaves: by an end, by `quit` or by a reset."""
     key, value = b"one%d" % (number % 1000), b"%d" % number
     with Line(port) as line:
-        line.ask(set_of(key, value) + b"get %s\r\n" % key, b"STORED\r\n" + hit_of(key, value))
+        line.ask(set_of(key, value) + b"get %s\r\n" % key, STORED + hit_of(key, value))
         if number % 3 == 1:
             line.send(b"quit\r\n")
-            equal(line.rest(), b"")
+            assert line.rest() == b""
         elif number % 3 == 2:
             line.reset()
 
 
-def connections_one_after_another_take_nothing_that_stays():
+@fails_with("takes 4 KiB a connection")
+def test_connections_one_after_another_take_nothing_that_stays(server, sizes):
     """What is resident after the first thousand is resident after all, within a megabyte."""
-    with Server() as server:
-        for number in range(1000):
-            one_connection(server.port, number)
-        before = server.resident()
-        for number in range(1000, CONNECTIONS):
-            one_connection(server.port, number)
-        grown = server.resident() - before
-        if grown > MIB:
-            raise AssertionError(f"{grown / MIB:.1f} MiB more after {CONNECTIONS} connections")
-    return f"{CONNECTIONS} connections, {grown / MIB:.2f} MiB more"
-
-
-CHECKS = [
-    four_thousand_clients_at_once_are_answered, clients_that_ask_once_a_second_are_answered,
-    connections_one_after_another_take_nothing_that_stays,
-]
+    for number in range(1000):
+        one_connection(server.port, number)
+    before = server.resident()
+    for number in range(1000, sizes[0]):
+        one_connection(server.port, number)
+    grown = server.resident() - before
+    print(f"{sizes[0]} connections, {grown / MIB:.2f} MiB more")
+    assert grown <= MIB

@@ -1,13 +1,10 @@
-#!/usr/bin/env python3
-"""Runs memcached's own tests against mcd with `--drop-in`, and says which assertions hold. A minute.
+"""memcached's own tests, against mcd with `--drop-in`. A minute.
 
-    tools/clients/memcached_tests.py [FOLDER]      FOLDER holds the sources of memcached 1.6.18
+The sources of memcached 1.6.18 are fetched from Debian, or are in the folder that the variable MEMCACHED_SOURCES names. Where they
+can't be had, or there is no perl, the tests are skipped.
 
-Without a folder the sources are fetched from Debian. Where they can't be had, or there is no perl, the tests are named as not run.
-The last line is `memcached's tests: N passed, M failed, K answered otherwise`.
-
-Each test starts the server as `memcached-debug`, by memcached's options. Here that is this program, which starts mcd with those
-that have a counterpart and leaves out the others. What moves memcached's clock waits instead.
+Each test starts the server as `memcached-debug`, by memcached's options. Here that is as_memcached.py, which starts mcd. What moves
+memcached's clock waits instead.
 
 OTHERWISE has the assertions that mcd doesn't fulfil, with the reason; docs/PROTOCOL.md has those differences that a client sees.
 One of them that holds is a failure too, so that the list stays true. Not run are the tests of what mcd doesn't have: the binary
@@ -28,16 +25,16 @@ import signal
 import subprocess
 import sys
 import tarfile
-import tempfile
 import urllib.request
 
-sys.path.insert(0, str(pathlib.Path(__file__).resolve().parent.parent))
+import pytest
 
-from served import MCD, WITH_US, bounded, needs_program  # noqa: E402
+from tools.clients.as_memcached import SHARDS
+from tools.served import TOP, WITH_US
 
 SOURCES = "https://deb.debian.org/debian/pool/main/m/memcached/memcached_1.6.18.orig.tar.xz"
 SUM = "35872bd25f8d29d7cc2072d23e74344530891bfd0aa4f4f64184a8ae7291164b"
-FETCH_SECONDS, TEST_SECONDS, ALL_SECONDS = 30, 120, 500
+FETCH_SECONDS, TEST_SECONDS = 30, 120
 
 # Each test, the longest first.
 TESTS = """
@@ -63,29 +60,12 @@ OTHERWISE = {
     "strtol-testing": {2: "slabs reassign"},
 }
 
-# What memcached is started with where a test says nothing else: its address, its port and its memory in MiB.
-USUAL = {"-l": "127.0.0.1", "-p": "11211", "-m": "64"}
-IDLE = re.compile(r"idle_timeout=(\d+)")
-
 # Tests that count what is evicted of a memory that isn't divided: their server has one shard, the others what mcd has by itself.
 OF_ONE_SHARD = {"lru"}
-SHARDS = "MCD_TEST_SHARDS"
 
-AS_MEMCACHED = "--as-memcached"
 CLOCK = re.compile(r'print \$sock "debugtime \$move\\r\\n";\n\s*<\$sock>;')
 PLAN = re.compile(r"^1\.\.(\d+)", re.M)
 ASSERTION = re.compile(r"^(not )?ok (\d+)(.*)", re.M)
-
-
-def words_for(words):
-    """The words of mcd for those of memcached."""
-    given = {**USUAL, **{word: value for word, value in zip(words, words[1:]) if word in USUAL}}
-    place = f"--unix-socket={words[words.index('-s') + 1]}" if "-s" in words else f"--listen={given['-l']}:{given['-p']}"
-    made = [MCD, "--drop-in", place, f"--memory={given['-m']}m"]
-    if SHARDS in os.environ:
-        made.append(f"--shards={os.environ[SHARDS]}")
-    idle = IDLE.search(" ".join(words))
-    return [*made, f"--idle-timeout={idle[1]}"] if idle else made
 
 
 def fetched(folder):
@@ -108,9 +88,9 @@ def prepare(sources, folder):
     library = folder / "t/lib/MemcachedTest.pm"
     text, changed = CLOCK.subn("select undef, undef, undef, $move + 1.05;", library.read_text())
     if changed != 1:
-        sys.exit(f"{sources} isn't memcached 1.6.18")
+        pytest.fail(f"{sources} isn't memcached 1.6.18")
     library.write_text(text)
-    us = " ".join(["exec", *WITH_US, sys.executable, os.path.abspath(__file__), AS_MEMCACHED, '"$@"'])
+    us = " ".join([f"PYTHONPATH={TOP}", "exec", *WITH_US, sys.executable, "-m", "tools.clients.as_memcached", '"$@"'])
     for name, line in {"memcached-debug": us, "timedrun": 'shift; exec "$@"'}.items():
         (folder / name).write_text(f"#!/bin/sh\n{line}\n")
         (folder / name).chmod(0o755)
@@ -148,26 +128,20 @@ def run(name, folder):
     return len(held), len(otherwise), failed
 
 
-def main():
-    if sys.argv[1:2] == [AS_MEMCACHED]:
-        os.execv(MCD, [MCD, "--help"] if "-h" in sys.argv else words_for(sys.argv[2:]))
-    needs_program()
-    bounded(ALL_SECONDS)
-    with tempfile.TemporaryDirectory() as made:
-        folder = pathlib.Path(made)
-        refused = None if sys.argv[1:] else fetched(folder)
-        if refused or not shutil.which("perl"):
-            print(f"memcached's tests: not run: {refused or 'there is no perl'}")
-            return 0
-        prepare(pathlib.Path(sys.argv[1]) if sys.argv[1:] else next(folder.glob("memcached-*")), folder)
-        with concurrent.futures.ThreadPoolExecutor(len(os.sched_getaffinity(0))) as at_once:
-            results = list(at_once.map(lambda name: run(name, folder), TESTS))
-    failed = [it for _, _, one in results for it in one]
-    print(*(f"FAILED: {it}" for it in failed), sep="\n", end="\n" if failed else "")
-    held, otherwise = (sum(one[at] for one in results) for at in (0, 1))
-    print(f"memcached's tests: {held} passed, {len(failed)} failed, {otherwise} answered otherwise")
-    return 1 if failed else 0
+@pytest.fixture(scope="module")
+def results(tmp_path_factory):
+    """What comes of each test. Some are run at a time."""
+    folder, sources = tmp_path_factory.mktemp("memcached"), os.environ.get("MEMCACHED_SOURCES")
+    refused = None if sources else fetched(folder)
+    if refused or not shutil.which("perl"):
+        pytest.skip(refused or "no perl here")
+    prepare(pathlib.Path(sources) if sources else next(folder.glob("memcached-*")), folder)
+    with concurrent.futures.ThreadPoolExecutor(len(os.sched_getaffinity(0))) as at_once:
+        yield {name: at_once.submit(run, name, folder) for name in TESTS}
 
 
-if __name__ == "__main__":
-    sys.exit(main())
+@pytest.mark.parametrize("name", TESTS)
+def test_a_file_of_memcached(results, name):
+    held, otherwise, failed = results[name].result()
+    print(f"{held} assertions hold, {otherwise} are answered otherwise")
+    assert failed == []

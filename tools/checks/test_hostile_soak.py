@@ -2,15 +2,17 @@
 reply, or by a stranger who changes the checker's items.
 """
 import socket
-import sys
 import threading
 import time
 
-from served import TOP, Line, Server, set_of
+import pytest
 
-sys.path.insert(0, str(TOP / "tools/bench"))
+from tools.bench import soak as soaking
+from tools.bench.soak_checker import KEYS, Checker
+from tools.served import Line, Server, set_of
 
-from soak_checker import KEYS, Checker  # noqa: E402
+fails_with = pytest.mark.fails_with
+
 
 # After `AT_LINE` lines of replies the fault comes, at a line that is longer than `LENGTH` bytes.
 AT_LINE, LENGTH = 300, 12
@@ -53,6 +55,18 @@ def relay_spoiled(server, client, spoil):
         pass
 
 
+def spoils(server, client, spoil, honest=relay_spoiled):
+    """Spoils a reply also where none is to be spoiled."""
+    honest(server, client, spoil or SPOILED["torn"])
+
+
+class LooksAway(Checker):
+    """A checker that asks for nothing."""
+
+    def round(self):
+        time.sleep(0.1)
+
+
 class Proxy:
     """Stands between one client and the server, and spoils one of the replies."""
 
@@ -79,18 +93,18 @@ def sees(port, seconds=8):
     return None
 
 
-def spoiled_replies_are_seen():
+@fails_with(("Checker", "LooksAway"))
+def test_spoiled_replies_are_seen():
     for name, spoil in SPOILED.items():
         with Server() as server:
-            if not sees(Proxy(server.port, spoil).port):
-                raise AssertionError(f"a reply that was {name} wasn't seen")
+            assert sees(Proxy(server.port, spoil).port), f"a reply that was {name} wasn't seen"
 
 
-def an_honest_proxy_is_seen_as_one():
+@fails_with(("relay_spoiled", "spoils"))
+def test_an_honest_proxy_is_seen_as_one():
     with Server() as server:
         fault = sees(Proxy(server.port, None).port, seconds=2)
-    if fault:
-        raise AssertionError(fault)
+    assert not fault, fault
 
 
 def strangers(port, change):
@@ -102,7 +116,8 @@ def strangers(port, change):
         line.rest()
 
 
-def strangers_are_seen():
+@fails_with(("Checker", "LooksAway"))
+def test_strangers_are_seen():
     """A stranger removes the checker's items, writes others under its keys, lets them expire, counts its counter up, flushes."""
     changes = {
         "removed": lambda key: b"delete %s\r\n" % key,
@@ -118,8 +133,16 @@ def strangers_are_seen():
             stranger.start()
             found = sees(server.port)
             stranger.join()
-            if not found:
-                raise AssertionError(f"items that were {name} weren't seen")
+            assert found, f"items that were {name} weren't seen"
 
 
-CHECKS = [an_honest_proxy_is_seen_as_one, spoiled_replies_are_seen, strangers_are_seen]
+@fails_with("drops connections", "changes a byte", "takes 1 MiB a connection")
+def test_a_short_soak():
+    assert [told for holds, told in soaking.soak(6) if not holds] == []
+
+
+def test_the_soak_beside_them(soak):
+    if not soak:
+        pytest.skip("no soak runs beside the tests (--soak SECONDS)")
+    print(soak.stdout.read().decode())
+    assert soak.wait() == 0

@@ -1,37 +1,31 @@
-#!/usr/bin/env python3
-"""Runs the program with each of its options, and says where an option is ignored, or a fault told otherwise than it must be.
+"""Each option, by a row that differs if it is ignored, and the texts of errors.
 
-    tools/checks/options.py [NAME ..]      all checks, or those whose names have one of these words in them
-
-What is expected follows from the rules of docs/PROTOCOL.md: what an item costs, on which shard a key lies, which cas uniques
-a shard gives. Each row gives another output where its option is ignored. The last line is `options: N passed, M failed`.
+What is expected follows from the rules of docs/PROTOCOL.md: what an item costs, on which shard a key is, which cas uniques a shard
+gives.
 """
 import os
 import pathlib
 import random
 import socket
 import subprocess
-import sys
 import tempfile
 import time
 
-sys.path.insert(0, str(pathlib.Path(__file__).resolve().parent.parent))
+import pytest
 
-from hostile_bytes import rows, spoken  # noqa: E402
-from replay_model import place  # noqa: E402
-from served import MCD, MIB, TOP, Line, Server, equal, hit_of, run_checks, set_of, started  # noqa: E402
+from tools.checks.test_hostile_bytes import rows, spoken
+from tools.replay_model import place
+from tools.served import MIB, STORED, TOO_LARGE, TOP, Line, Server, ended, hit_of, mcd, run, running, set_of
 
-LIMIT_SECONDS = 300
-TOO_LARGE = b"SERVER_ERROR object too large for cache\r\n"
-STORED = b"STORED\r\n"
+fails_with = pytest.mark.fails_with
 
 # So long it takes at most until what must not happen would have happened, in seconds.
 A_WHILE = 0.5
 
 
 def over_stdio(options, given):
-    ran = subprocess.run([MCD, "--stdio", "--at", "1000", *options], input=given, capture_output=True, timeout=60)
-    equal((ran.returncode, ran.stderr), (0, b""))
+    ran = run("--stdio", "--at", 1000, *options, given=given)
+    assert (ran.returncode, ran.stderr) == (0, b"")
     return ran.stdout
 
 
@@ -57,17 +51,19 @@ def over_tcp(options, given, length):
 
 def row(options, given, wanted):
     """The input must give this output by both ways to serve."""
-    equal(over_stdio(options.split(), given), wanted)
-    equal(over_tcp(options.split(), given, len(wanted)), wanted)
+    assert over_stdio(options.split(), given) == wanted
+    assert over_tcp(options.split(), given, len(wanted)) == wanted
 
 
-def a_value_limit_of_1024():
+@fails_with("ignores a value limit")
+def test_a_value_limit_of_1024():
     given = set_of(b"a", b"x" * 1024) + b"append a 0 0 1\r\nx\r\n" + set_of(b"a", b"x" * 1025) + b"mn\r\n"
     for size in ("1024", "1k"):
         row(f"--value-limit {size}", given, STORED + 2 * TOO_LARGE + b"MN\r\n")
 
 
-def values_of_2_mib():
+@fails_with("ignores a value limit", "changes a byte")
+def test_values_of_2_mib():
     """Their bytes don't repeat, so that one that is written twice, left out or exchanged is seen."""
     value = random.Random(1).randbytes(2 * MIB)
     given = set_of(b"a", value) + 2 * b"get a\r\n" + b"mn\r\n"
@@ -75,7 +71,8 @@ def values_of_2_mib():
     row("--value-limit 4m", set_of(b"a", value) + b"mn\r\n", STORED + b"MN\r\n")
 
 
-def values_of_each_length():
+@fails_with("changes a byte", "ends with 1")
+def test_values_of_each_length():
     """Short ones are copied into the text of their replies, longer ones are written from where they are; a few fill what the system has room
     for. Each is asked for twice at once, and by itself."""
     for length in (0, 1, 511, 512, 1023, 1024, 1025, 4096, 16_384, 65_535, 65_536, 262_144, MIB):
@@ -98,7 +95,8 @@ def longest_line(options, limit):
     row(options, line_of(limit) + b"mn\n" + line_of(limit + 1) + b"mn\n", 2 * b"MN\r\n" + LINE_TOO_LONG)
 
 
-def the_longest_line():
+@fails_with("ignores a line limit")
+def test_the_longest_line():
     for limit in ("2048", "2k"):
         longest_line(f"--line-limit {limit}", 2048)
         longest_line(f"--drop-in --line-limit {limit}", 2048)
@@ -118,7 +116,8 @@ BOTH = [
 ]
 
 
-def memcacheds_rules():
+@fails_with("ignores the rules of memcached")
+def test_memcacheds_rules():
     for given, own, memcacheds in BOTH:
         row("", given, own)
         row("--drop-in", given, memcacheds)
@@ -141,17 +140,18 @@ ALMOST_FOREIGN = [
 ]
 
 
-def another_protocol():
+@fails_with("ignores the rules of memcached")
+def test_another_protocol():
     """By memcached's rules it is closed at once and without a byte, and while the client could send more."""
     with Server() as own, Server("--drop-in") as memcacheds:
         for given, wanted in FOREIGN:
             with Line(own.port) as line:
                 line.send(given)
                 line.end()
-                equal(line.rest(), wanted)
+                assert line.rest() == wanted
             with Line(memcacheds.port, timeout=10) as line:
                 line.send(given)
-                equal((given, all_of(line)), (given, b""))
+                assert all_of(line) == b"", given
         for server in (own, memcacheds):
             for given, wanted in ALMOST_FOREIGN:
                 with Line(server.port) as line:
@@ -161,10 +161,11 @@ def another_protocol():
             line.ask(b"get a\r\n", b"END\r\n")
 
 
-def the_worked_rows_by_memcacheds_rules():
+@fails_with("ignores the rules of memcached")
+def test_the_worked_rows_by_memcacheds_rules():
     """Each row through the program; where one has a second output it is that of memcached's rules."""
     for name, options, given, wanted in rows(drop_in=True):
-        equal((name, spoken(options, given)), (name, wanted))
+        assert spoken(options, given) == wanted, name
 
 
 def sets_of(count, keys):
@@ -175,7 +176,8 @@ def values_of(count, keys):
     return b"".join(b"VALUE %s 0 %d\r\n%s\r\n" % (key, count, b"v" * count) for key in keys) + b"END\r\n"
 
 
-def a_budget_of_1024():
+@fails_with("ignores a budget")
+def test_a_budget_of_1024():
     """An item costs its key, its value and 64: two of 300 bytes fit beside each other, the third drives out the first."""
     given = sets_of(300, [b"a", b"c", b"e"]) + b"get a c e\r\n" + sets_of(960, [b"a"]) + sets_of(959, [b"a"]) + b"get a c e\r\n"
     wanted = 3 * STORED + values_of(300, [b"c", b"e"]) + TOO_LARGE + STORED + values_of(959, [b"a"])
@@ -189,19 +191,21 @@ def one_mebibyte_more(options):
     row(options, set_of(b"a", b"v" * (MIB - 64)) + b"mn\r\n", TOO_LARGE + b"MN\r\n")
 
 
-def a_budget_of_1_mib():
+@fails_with("ignores a budget")
+def test_a_budget_of_1_mib():
     for options in ("--bytes 1m", "--memory 2m", "--memory 3m --shards 3"):
         one_mebibyte_more(options)
 
 
-def the_budget_by_default():
+@fails_with("ignores a budget")
+def test_the_budget_by_default():
     """16 MiB for each shard by default; `stats` shows what all shards together may hold."""
     for options, mebibytes in (("", 32), ("--shards 3", 48), ("--memory 8m", 8), ("--bytes 1m", 2), ("--bytes 1m --shards 5", 5)):
         wanted = b"STAT limit_maxbytes %d\r\n" % (mebibytes * MIB)
-        equal((options, wanted in over_stdio(["--drop-in", *options.split()], b"stats\r\n")), (options, True))
+        assert wanted in over_stdio(["--drop-in", *options.split()], b"stats\r\n"), options
         with Server("--drop-in", *options.split()) as server, Line(server.port) as line:
             line.send(b"stats\r\nquit\r\n")
-            equal((options, wanted in line.rest()), (options, True))
+            assert wanted in line.rest(), options
 
 
 def uniques(shards, keys):
@@ -214,12 +218,13 @@ def uniques(shards, keys):
     return told
 
 
-def each_number_of_shards():
+@fails_with("ignores the number of shards")
+def test_each_number_of_shards():
     # In this order no two numbers of shards give the same uniques.
     keys = [b"a", b"c", b"e", b"b", b"d", b"f", b"g"]
     given = b"".join(set_of(key, b"x") for key in keys) + b"".join(b"gets %s\r\n" % key for key in keys)
     told = {shards: uniques(shards, keys) for shards in (1, 2, 3, 16)}
-    equal(len(set(told.values())), len(told))
+    assert len(set(told.values())) == len(told)
     for shards, wanted in told.items():
         row(f"--shards {shards}", given, len(keys) * STORED + wanted)
 
@@ -243,21 +248,17 @@ def listened_at(process):
 
 def one_listens_at(words, said, wanted):
     """The program with these words says where it listens, and listens there alone."""
-    process = started([*ALONE, MCD, *words], stderr=subprocess.PIPE)
-    try:
+    with running([*ALONE, *mcd(*words)], stderr=subprocess.PIPE) as process:
         for line in said:
-            equal(process.stderr.readline().decode().rstrip("\n").rpartition(", ")[2], line)
-        equal(listened_at(process), sorted(wanted))
-    finally:
-        process.kill()
-        process.wait()
-        process.stderr.close()
+            assert process.stderr.readline().decode().rstrip("\n").rpartition(", ")[2] == line
+        assert listened_at(process) == sorted(wanted)
 
 
-def it_listens_where_it_is_told_alone():
+@fails_with("listens elsewhere", "listens at each address", "serves no metrics")
+def test_it_listens_where_it_is_told_alone():
     """At the address that is given, or where none is at 127.0.0.1:11211; and the metrics at theirs."""
     if subprocess.run([*ALONE, "true"], capture_output=True).returncode != 0:
-        return "left out: no network of its own is to be had here"
+        pytest.skip("no network of its own is to be had here")
     default, given = "127.0.0.1:11211", "127.0.0.2:11311"
     one_listens_at([], [f"listening on {default}"], [default])
     one_listens_at(["--drop-in", "--seats", "4"], [f"listening on {default}"], [default])
@@ -265,30 +266,32 @@ def it_listens_where_it_is_told_alone():
     one_listens_at(["--listen", "0.0.0.0:11311"], ["listening on 0.0.0.0:11311"], ["0.0.0.0:11311"])
     for word, metrics in (("11212", "127.0.0.1:11212"), ("127.0.0.3:11213", "127.0.0.3:11213")):
         one_listens_at(["--metrics", word], [f"metrics {metrics}", f"listening on {default}"], [default, metrics])
-    return None
 
 
-def each_moment():
+@fails_with("ignores the moment")
+def test_each_moment():
     """What a time that is given as a second since 1970 leaves of an item: `--at` says which second it is."""
     given = b"set a 0 4000000100 1\r\nx\r\nmg a t\r\n"
     for at, left in ((1000, 3_999_999_100), (4_000_000_000, 100), (4_000_000_099, 1)):
-        ran = subprocess.run([MCD, "--stdio", "--at", str(at)], input=given, capture_output=True, timeout=30)
-        equal((at, ran.returncode, ran.stdout), (at, 0, STORED + b"HD t%d\r\n" % left))
+        ran = run("--stdio", "--at", at, given=given)
+        assert (ran.returncode, ran.stdout) == (0, STORED + b"HD t%d\r\n" % left), at
 
 
-def so_many_connections():
+@fails_with("ignores the number of connections", "counts a connection twice")
+def test_so_many_connections():
     """The program ends with the last of as many connections as are given, and takes no further one."""
     for count in (1, 3):
         with Server("--connections", count) as server:
             for number in range(count):
-                equal((number, server.is_running()), (number, True))
+                assert server.is_running(), number
                 with Line(server.port) as line:
                     line.ask(b"mn\r\nquit\r\n", b"MN\r\n")
-                    equal(line.rest(), b"")
-            equal(server.process.wait(timeout=30), 0)
+                    assert line.rest() == b""
+            assert server.process.wait(timeout=30) == 0
 
 
-def two_seats():
+@fails_with("ignores the number of seats", "has one seat")
+def test_two_seats():
     """The third client waits until one of the two seats is free."""
     with Server("--seats", 2) as server:
         with Line(server.port) as first, Line(server.port) as second, Line(server.port, timeout=A_WHILE) as third:
@@ -298,7 +301,7 @@ def two_seats():
             third.waits()
             first.close()
             third.socket.settimeout(60)
-            equal(third.read(4), b"MN\r\n")
+            assert third.read(4) == b"MN\r\n"
 
 
 TOO_MANY = b"ERROR Too many open connections\r\n"
@@ -317,7 +320,7 @@ def served_soon(port):
         if found == b"MN\r\n":
             return line
         line.close()
-        equal((found in (b"", b"ERRO"), time.monotonic() < end), (True, True))
+        assert found in (b"", b"ERRO") and time.monotonic() < end
         time.sleep(0.01)
 
 
@@ -335,24 +338,25 @@ def refused(port, sent):
         return all_of(line)
 
 
-def too_many_connections():
+@fails_with("ignores the number of seats")
+def test_too_many_connections():
     """By memcached's rules a third client is refused at once beside two, and one is served once a seat is free."""
     with Server("--drop-in", "--seats", 2, "--verbose") as server:
         with served_soon(server.port) as first, served_soon(server.port) as second:
             for sent in (b"", b"mn\r\n", b"set a 0 0 1\r\nx\r\n"):
-                equal((sent, refused(server.port, sent)), (sent, TOO_MANY))
+                assert refused(server.port, sent) == TOO_MANY, sent
             first.ask(b"get a\r\n", b"END\r\n")
             second.close()
             with served_soon(server.port):
-                equal(refused(server.port, b""), TOO_MANY)
+                assert refused(server.port, b"") == TOO_MANY
         # Those that were refused hold nothing: a crowd of them leaves no file open.
         with served_soon(server.port) as first, served_soon(server.port) as second:
             before = files_of(server)
             for _ in range(300):
-                equal(refused(server.port, b""), TOO_MANY)
+                assert refused(server.port, b"") == TOO_MANY
             for line in (first, second):
                 line.ask(b"mn\r\n", b"MN\r\n")
-            equal(files_of(server), before)
+            assert files_of(server) == before
 
 
 # A client that asks for these and doesn't read holds up the server amid the first reply, which no buffer on the way has room for.
@@ -374,25 +378,22 @@ def held_up_over_tcp(options, wanted):
         line.ask(SHORT_LIVED, 3 * STORED)
         line.send(HELD_UP)
         time.sleep(3.2)
-        equal(line.read(len(wanted)) == wanted, True)
+        assert line.read(len(wanted)) == wanted
 
 
 def held_up_over_stdio(options, wanted):
-    process = started([MCD, "--stdio", *options], stdin=subprocess.PIPE, stdout=subprocess.PIPE)
-    try:
+    with running(mcd("--stdio", *options), stdin=subprocess.PIPE, stdout=subprocess.PIPE) as process:
         process.stdin.write(SHORT_LIVED)
         process.stdin.flush()
-        equal(process.stdout.read(len(3 * STORED)), 3 * STORED)
+        assert process.stdout.read(len(3 * STORED)) == 3 * STORED
         process.stdin.write(HELD_UP)
         process.stdin.flush()
         time.sleep(3.2)
-        equal(process.communicate(timeout=30)[0] == wanted, True)
-    finally:
-        process.kill()
-        process.wait()
+        assert process.communicate(timeout=30)[0] == wanted
 
 
-def each_window():
+@fails_with("ignores the window")
+def test_each_window():
     for window in (1, 2, 256):
         options = ["--value-limit", "8m", "--bytes", "64m", "--window", str(window)]
         wanted = replies_by_window(window)
@@ -400,47 +401,41 @@ def each_window():
         held_up_over_stdio(options, wanted)
 
 
-def the_clock_goes_on():
+@fails_with("has a clock that stands still")
+def test_the_clock_goes_on():
     """Without `--at` an item that lives a second is gone after two."""
-    process = started([MCD, "--stdio"], stdin=subprocess.PIPE, stdout=subprocess.PIPE)
-    try:
+    with running(mcd("--stdio"), stdin=subprocess.PIPE, stdout=subprocess.PIPE) as process:
         process.stdin.write(b"set a 0 1 1\r\nx\r\nset b 0 0 1\r\ny\r\n")
         process.stdin.flush()
-        equal(process.stdout.read(len(2 * STORED)), 2 * STORED)
+        assert process.stdout.read(len(2 * STORED)) == 2 * STORED
         time.sleep(2.1)
         out, _ = process.communicate(b"get a\r\nget b\r\n", timeout=30)
-        equal(out, b"END\r\n" + hit_of(b"b", b"y"))
-    finally:
-        process.kill()
-        process.wait()
+        assert out == b"END\r\n" + hit_of(b"b", b"y")
 
 
-def the_clock_tells_the_year():
+@fails_with("has a clock that stands still")
+def test_the_clock_tells_the_year():
     """An expiry as a second since 1970: one in a thousand seconds is to come, one of a thousand seconds ago is past."""
     now = int(time.time())
     given = b"set a 0 %d 1\r\nx\r\nset b 0 %d 1\r\ny\r\nget a\r\nget b\r\n" % (now + 1000, now - 1000)
-    ran = subprocess.run([MCD, "--stdio"], input=given, capture_output=True, timeout=30)
-    equal((ran.returncode, ran.stdout), (0, 2 * STORED + hit_of(b"a", b"x") + b"END\r\n"))
+    ran = run("--stdio", given=given)
+    assert (ran.returncode, ran.stdout) == (0, 2 * STORED + hit_of(b"a", b"x") + b"END\r\n")
 
 
-def a_wall_clock_that_is_set_moves_no_expiry():
+@fails_with("has a clock that stands still")
+def test_a_wall_clock_that_is_set_moves_no_expiry():
     """Neither an hour forward nor two back ends an item with a life of a minute, nor keeps one with a life of a second."""
     with tempfile.TemporaryDirectory() as folder:
         shim, offset = pathlib.Path(folder) / "set_wall.so", pathlib.Path(folder) / "offset"
         subprocess.run(["cc", "-O1", "-shared", "-fPIC", "-o", shim, TOP / "tools/checks/set_wall.c", "-ldl"], check=True)
         offset.write_text("0")
         moved = {**os.environ, "LD_PRELOAD": str(shim), "WALL_OFFSET": str(offset)}
-        process = started([MCD, "--stdio"], stdin=subprocess.PIPE, stdout=subprocess.PIPE, env=moved)
+        with running(mcd("--stdio"), stdin=subprocess.PIPE, stdout=subprocess.PIPE, env=moved) as process:
+            def ask(sent, wanted):
+                process.stdin.write(sent)
+                process.stdin.flush()
+                assert process.stdout.read(len(wanted)) == wanted
 
-        def ask(sent, wanted):
-            process.stdin.write(sent)
-            process.stdin.flush()
-            found = process.stdout.readline()
-            while found.startswith(b"VALUE") and not found.endswith(b"END\r\n"):
-                found += process.stdout.readline()
-            equal(found, wanted)
-
-        try:
             ask(b"set long 0 60 1\r\nx\r\n", STORED)
             offset.write_text("3600")
             ask(b"get long\r\n", hit_of(b"long", b"x"))
@@ -449,16 +444,6 @@ def a_wall_clock_that_is_set_moves_no_expiry():
             time.sleep(2.1)
             ask(b"get short\r\n", b"END\r\n")
             ask(b"get long\r\n", hit_of(b"long", b"x"))
-        finally:
-            process.kill()
-            process.wait()
-            process.stdin.close()
-            process.stdout.close()
-
-
-def ended(words, **streams):
-    ran = subprocess.run([MCD, *words], **{"stdin": subprocess.DEVNULL, "stdout": subprocess.PIPE, **streams}, stderr=subprocess.PIPE, timeout=30)
-    return ran.returncode, ran.stdout, ran.stderr.decode()
 
 
 WITH_STDIO = "--stdio, which takes --at, --shards, --bytes, --memory, --memory-limit, --value-limit, --line-limit, --window and --drop-in"
@@ -471,9 +456,12 @@ ITEMS = "there is no option --items: --bytes says what the items of a shard may 
 FAULTS = [
     ("--items 5", ITEMS), ("--items 5 --replay x --shards 2", ITEMS),
     *((f"--replay x --{name} 2", f"--{name} doesn't go with --replay, which takes no other option")
-      for name in ("at", "listen", "shards", "seats", "bytes", "memory", "value-limit", "line-limit", "window", "connections", "idle-timeout", "metrics", "port", "memory-limit", "udp-port", "user", "pidfile")),
-    *((f"--replay x --{name}", f"--{name} doesn't go with --replay, which takes no other option") for name in ("stdio", "verbose", "drop-in", "plan", "daemon")),
-    *((f"--stdio --{name} 2", f"--{name} doesn't go with {WITH_STDIO}") for name in ("listen", "seats", "connections", "idle-timeout", "metrics", "port", "udp-port", "user", "pidfile")),
+      for name in ("at", "listen", "shards", "seats", "bytes", "memory", "value-limit", "line-limit", "window", "connections", "idle-timeout",
+                   "metrics", "port", "memory-limit", "udp-port", "user", "pidfile")),
+    *((f"--replay x --{name}", f"--{name} doesn't go with --replay, which takes no other option")
+      for name in ("stdio", "verbose", "drop-in", "plan", "daemon")),
+    *((f"--stdio --{name} 2", f"--{name} doesn't go with {WITH_STDIO}")
+      for name in ("listen", "seats", "connections", "idle-timeout", "metrics", "port", "udp-port", "user", "pidfile")),
     *((f"--stdio --{name}", f"--{name} doesn't go with {WITH_STDIO}") for name in ("verbose", "plan", "daemon")),
     ("--at 5", "--at goes with --stdio alone"), ("--at 5 --seats 65537", "--at goes with --stdio alone"),
     ("--bytes 64k --memory 1m", TWO_BUDGETS),
@@ -497,9 +485,10 @@ FAULTS = [
 ]
 
 
-def each_fault_of_the_command_line():
+@fails_with("ends with 0", "ends with 1")
+def test_each_fault_of_the_command_line():
     for call, text in FAULTS:
-        equal((call, *ended(call.split())), (call, 2, b"", f"mcd: {text}\n"))
+        assert ended(*call.split()) == (2, "", f"mcd: {text}\n"), call
 
 
 # Calls of which a word is no option, or an option stands there in another way than it may; and what the text must name.
@@ -510,54 +499,53 @@ WORDS = [
 ]
 
 
-def each_fault_of_a_word():
+@fails_with("ends with 0", "ends with 1")
+def test_each_fault_of_a_word():
     for call, word in WORDS:
-        status, out, told = ended(call.split())
-        equal((call, status, out, told[:7], word in told.splitlines()[0]), (call, 2, b"", "error: ", True))
+        status, out, told = ended(*call.split())
+        assert (status, out, told[:7], word in told.splitlines()[0]) == (2, "", "error: ", True), call
 
 
-def what_cannot_be_read_is_told():
-    status, out, told = ended(["--replay", "no-such-file"])
+@fails_with("ends with 0")
+def test_what_cannot_be_read_is_told():
+    status, out, told = ended("--replay", "no-such-file")
     first, second = told.splitlines()
-    equal((status, out, first), (1, b"", "mcd: cannot read the file"))
-    equal(second.startswith("mcd: --replay no-such-file: "), True)
-    equal("No such file" in second, True)
+    assert (status, out, first) == (1, "", "mcd: cannot read the file")
+    assert second.startswith("mcd: --replay no-such-file: ")
+    assert "No such file" in second
 
 
-def what_cannot_be_written_is_told():
+@fails_with("ends with 0")
+def test_what_cannot_be_written_is_told():
     with tempfile.NamedTemporaryFile("w", suffix=".schedule") as file, open("/dev/full", "wb") as full:
         file.write("sim 1 1 1024 1\nopen 0\n")
         file.flush()
         for words in (["--replay", file.name], ["--version"]):
-            equal((words[0], *ended(words, stdout=full)), (words[0], 1, None, "mcd: cannot write\n"))
+            assert ended(*words, stdout=full) == (1, "", "mcd: cannot write\n"), words[0]
 
 
-def a_taken_address_is_told():
-    with Server() as server:
-        address = f"127.0.0.1:{server.port}"
-        status, out, told = ended(["--listen", address])
-        first, second = told.splitlines()
-        equal((status, out, first), (1, b"", "mcd: cannot listen"))
-        equal(second.startswith(f"mcd: --listen {address}: Address already in use"), True)
+@fails_with("ends with 0")
+def test_a_taken_address_is_told(server):
+    address = f"127.0.0.1:{server.port}"
+    status, out, told = ended("--listen", address)
+    first, second = told.splitlines()
+    assert (status, out, first) == (1, "", "mcd: cannot listen")
+    assert second.startswith(f"mcd: --listen {address}: Address already in use")
 
 
 def limited(limit, *words):
     """The words of a call under a limit of the system."""
-    return ["sh", "-c", f'ulimit {limit}; exec "$0" "$@"', MCD, "--listen", "127.0.0.1:0", *words]
+    return ["sh", "-c", f'ulimit {limit}; exec "$0" "$@"', *mcd("--listen", "127.0.0.1:0", *words)]
 
 
-def few_open_files_are_told():
+@fails_with("counts open files otherwise")
+def test_few_open_files_are_told():
     """Where fewer may be open than all seats need, the program says so and goes on."""
-    process = started(limited("-n 20", "--seats", "30"), stderr=subprocess.PIPE)
-    try:
+    with running(limited("-n 20", "--seats", "30"), stderr=subprocess.PIPE) as process:
         port = int(process.stderr.readline().rpartition(b":")[2])
-        equal(process.stderr.readline(), b"mcd: --seats 30 needs 45 open files, and 20 are allowed (ulimit -n)\n")
+        assert process.stderr.readline() == b"mcd: --seats 30 needs 45 open files, and 20 are allowed (ulimit -n)\n"
         with Line(port) as line:
             line.ask(b"mn\r\n", b"MN\r\n")
-    finally:
-        process.kill()
-        process.wait()
-        process.stderr.close()
 
 
 def ended_under(limit, *words):
@@ -566,22 +554,9 @@ def ended_under(limit, *words):
     return ran.returncode, ran.stderr.decode().splitlines()[-2:]
 
 
-def what_the_system_refuses_is_told():
+@fails_with("ends with 0")
+def test_what_the_system_refuses_is_told():
     """Without the open files that the threads need, and without memory."""
-    equal(ended_under("-n 8", "--shards", "16"),
-          (1, ["mcd: cannot start a thread", "mcd: --shards 16 needs a thread for each, and three open files"]))
+    assert ended_under("-n 8", "--shards", "16") == (1, ["mcd: cannot start a thread", "mcd: --shards 16 needs a thread for each, and three open files"])
     status, told = ended_under("-v 100000", "--shards", "16", "--seats", "4096")
-    equal((status, told[-1]), (1, "mcd: out of memory"))
-
-
-CHECKS = [
-    memcacheds_rules, another_protocol, the_worked_rows_by_memcacheds_rules, a_value_limit_of_1024, values_of_2_mib, values_of_each_length, the_longest_line, a_budget_of_1024, a_budget_of_1_mib, the_budget_by_default, each_number_of_shards, it_listens_where_it_is_told_alone,
-    each_moment, so_many_connections, two_seats, too_many_connections, each_window, the_clock_goes_on, the_clock_tells_the_year, a_wall_clock_that_is_set_moves_no_expiry,
-    each_fault_of_the_command_line, each_fault_of_a_word,
-    what_cannot_be_read_is_told, what_cannot_be_written_is_told, a_taken_address_is_told, few_open_files_are_told,
-    what_the_system_refuses_is_told,
-]
-
-
-if __name__ == "__main__":
-    sys.exit(run_checks("options", CHECKS, LIMIT_SECONDS))
+    assert (status, told[-1]) == (1, "mcd: out of memory")

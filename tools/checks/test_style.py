@@ -1,0 +1,24 @@
+"""The Python of the repository: names that aren't there or aren't used, and its layout; by ruff where it is, else by Debian's pyflakes and
+pycodestyle. pyproject.toml has the rules.
+"""
+import shutil
+import subprocess
+import sys
+
+import pytest
+
+from tools.served import TOP
+
+
+@pytest.mark.fails_with(("tools/served.py", "import time\n", "import time\nimport abc\n"), ("tools/served.py", "MIB = 1 << 20", "MIB = 1 <<20"))
+def test_style():
+    listed = subprocess.run(["git", "ls-files", "*.py"], cwd=TOP, capture_output=True, text=True, check=True).stdout.split()
+    files = [it for it in listed if (TOP / it).is_file()]
+    if shutil.which("ruff"):
+        assert subprocess.run(["ruff", "check", *files], cwd=TOP).returncode == 0
+        return
+    for words in (["pyflakes"], ["pycodestyle", "--max-line-length=160", "--ignore=W503,E203"]):
+        if subprocess.run([sys.executable, "-m", words[0], "--version"], capture_output=True).returncode:
+            pytest.skip(f"no {words[0]} here")
+        ran = subprocess.run([sys.executable, "-m", *words, *files], cwd=TOP, capture_output=True, text=True)
+        assert ran.stdout.splitlines() == []
