@@ -115,7 +115,7 @@ def test_a_line_of_keys_leaves_no_room_behind():
             line.ask(b"mn\r\n", b"MN\r\n")
         before = server.resident()
         for line in lines:
-            line.ask(b"get" + b" k" * 30_000 + b"\r\n", b"END\r\n")
+            line.ask(b"get" + b" key" * 30_000 + b"\r\n", b"END\r\n")
         wait_until_still(server)
         within(server.resident() - before, 24 * MIB)
 
