@@ -51,12 +51,14 @@ seats_over {S} {L} (one ∷ seats) (sat ∷ sats) sight told session now shards 
     let P : Phase L → Type 0 = λ p. SeatStands sight shards rules may_answer sat (told one) (session one) p in
     (subst P all.0 zips.0, seats_over seats sats sight told session now shards rules may_answer all.1 zips.1)
 
--- The seat at a place may be stepped.
-pub seat_steps : {S L : Type 0} (seats : List S) (sats : List SeatAt) (place : ℕ) (one : S) (sight : L → Sight) (told : S → DoorTold) (session : S → Session) (now : S → Phase L) (shards : ℕ) (rules : Rules) (may_answer : ℕ → Type 0)
-    → slice_get seats place ≡ Some one → Zips (Stands sight told session now shards rules may_answer) sats seats → CanStep (now one) (session one)
-seat_steps seats sats place one sight told session now shards rules may_answer here zips =
+-- The seat at a place may be stepped, once it is what it became.
+pub seat_steps : {S L : Type 0} (seats : List S) (sats : List SeatAt) (place : ℕ) (one next : S) (sight : L → Sight) (told : S → DoorTold) (session : S → Session) (now : S → Phase L) (shards : ℕ) (rules : Rules) (may_answer : ℕ → Type 0)
+    → slice_get seats place ≡ Some one
+    → ((sat : SeatAt) → Stands sight told session now shards rules may_answer sat one → Stands sight told session now shards rules may_answer sat next)
+    → Zips (Stands sight told session now shards rules may_answer) sats seats → CanStep (now next) (session next)
+seat_steps seats sats place one next sight told session now shards rules may_answer here became zips =
     let met = met_at (Stands sight told session now shards rules may_answer) sats seats place one zips here in
-    can_step shards rules may_answer sight met.one (told one) (session one) (now one) met.met
+    can_step shards rules may_answer sight met.one (told next) (session next) (now next) (became met.one met.met)
 
 -- The workers of a thread are before their first turn.
 pub workers_begin : {W : Type 0} (workers : List W) (desk : W → Desk) → Zips Goes (map desk workers) (map desk workers)

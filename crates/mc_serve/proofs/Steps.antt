@@ -1,6 +1,7 @@
 -- A seat's steps, one by one.
-use Rattle.std.proofs.Common.{◌≡◌, ℕ, Bool, true, false, [], length, Some, refl, sym, subst, ◌∙◌}
+use Rattle.std.proofs.Common.{◌≡◌, ℕ, Bool, true, false, [], length, Some, Ok, Err, OnErr, OnOk, Result, refl, sym, subst, ◌∙◌}
 use Rattle.std.specs.Prelude.{◌↔◌, IsTrue}
+use Rattle.std.specs.Result.{is_ok}
 use Rattle.mc_wire.specs.Outlet.{Sight}
 use Rattle.mc_ring.specs.Lane.{Near}
 use Rattle.mc_ring.specs.Ends.{Ends}
@@ -61,6 +62,26 @@ module _ (shards : ℕ) (rules : Rules) (may_answer : ℕ → Type 0) where
   -- The line waits, with the session as it was.
   pub still_begins : (sat : SeatAt) (door : DoorTold) (begin : Sight) (session session' : Session) → session' ≡ session → SitsBeginning shards rules may_answer sat door begin session → SitsBeginning shards rules may_answer sat door begin session'
   still_begins sat door begin session session' same came = let S : Session → Type 0 = λ s. SitsBeginning shards rules may_answer sat door begin s in subst S (sym same) came
+
+  -- The line begins to be served where there was memory for it; else it waits.
+  pub begins_where : {L E : Type 0} (sight : L → Sight) (sat : SeatAt) (door : DoorTold) (line : L) (session session' : Session) (tried : Result (Unit {0}) E)
+      → OnOk tried ((rules : Rules) (window : ℕ) (begin : Sight) → IsVacant rules window session → IsServingLine (length (seat_ends session).lanes) rules may_answer begin begin (seat_ends session) session')
+      → OnErr tried (session' ≡ session)
+      → SitsBeginning shards rules may_answer sat door (sight line) session → SeatStands sight shards rules may_answer sat door session' (phase.Out line (is_ok tried))
+  begins_where sight sat door line session session' (Ok done) serves same came = begins sat door (sight line) session session' serves came
+  begins_where sight sat door line session session' (Err refused) serves same came = still_begins sat door (sight line) session session' same came
+
+  -- The line that is out is looked at again, with nothing read or written meanwhile.
+  pub stands_out : {L : Type 0} (sight : L → Sight) (sat : SeatAt) (door : DoorTold) (session : Session) (now : Phase L) (line line' : L) (begun : Bool) → now ≡ phase.Out line begun → sight line' ≡ sight line
+      → SeatStands sight shards rules may_answer sat door session now → SeatStands sight shards rules may_answer sat door session (phase.Out line' begun)
+  stands_out {L} sight sat door session now line line' false is same stands =
+      let P : Phase L → Type 0 = λ p. SeatStands sight shards rules may_answer sat door session p in
+      let S : Sight → Type 0 = λ seen. SitsBeginning shards rules may_answer sat door seen session in
+      subst S (sym same) (subst P is stands)
+  stands_out {L} sight sat door session now line line' true is same stands =
+      let P : Phase L → Type 0 = λ p. SeatStands sight shards rules may_answer sat door session p in
+      let S : Sight → Type 0 = λ seen. SitsServing shards rules may_answer sat door seen session in
+      subst S (sym same) (subst P is stands)
 
   -- No line comes any more.
   pub comes_none : (sat : SeatAt) (door door' : DoorTold) (session : Session) → door' ≡ closed door → IsDone door → SitsFree shards rules may_answer sat door session → SitsClosing shards rules may_answer 0 sat door' (seat_ends session)
@@ -163,8 +184,7 @@ module _ (shards : ℕ) (rules : Rules) (may_answer : ℕ → Type 0) where
       → ((served : Ends Near) → EndsFirst count served (seat_ends old) → ClosesOn served now (seat_ends new))
       → SitsClosing shards rules may_answer count sat door (seat_ends old) → SeatStands sight shards rules may_answer sat door new now
   closes_on sight sat count door old new phase.Free closes sits = absurd (closes sits.served sits.closed)
-  closes_on sight sat count door old new (phase.Came line) closes sits = absurd (closes sits.served sits.closed)
-  closes_on sight sat count door old new (phase.Serving line) closes sits = absurd (closes sits.served sits.closed)
+  closes_on sight sat count door old new (phase.Out line begun) closes sits = absurd (closes sits.served sits.closed)
   closes_on sight sat count door old new (phase.Closing more) closes sits = record { served = sits.served; serves = sits.serves; closed = closes sits.served sits.closed }
   closes_on sight sat count door old new phase.Over closes sits =
       let serves = sits.serves in
@@ -173,7 +193,7 @@ module _ (shards : ℕ) (rules : Rules) (may_answer : ℕ → Type 0) where
   -- A seat that stands may go a step further.
   pub can_step : {L : Type 0} (sight : L → Sight) (sat : SeatAt) (door : DoorTold) (session : Session) (now : Phase L) → SeatStands sight shards rules may_answer sat door session now → CanStep now session
   can_step sight sat door session phase.Free stands = tt
-  can_step sight sat door session (phase.Came line) stands = tt
-  can_step sight sat door session (phase.Serving line) stands = may_serve shards rules may_answer stands.begin (sight line) stands.ends session.courier session.service stands.serving
+  can_step sight sat door session (phase.Out line false) stands = tt
+  can_step sight sat door session (phase.Out line true) stands = may_serve shards rules may_answer stands.begin (sight line) stands.ends session.courier session.service stands.serving
   can_step sight sat door session (phase.Closing count) stands = tt
   can_step sight sat door session phase.Over stands = tt

@@ -1,5 +1,5 @@
 -- What a seat's thread promises of its door.
-use Rattle.std.specs.Prelude.{ℕ, ◌≡◌, List, [], ◌∷◌, length}
+use Rattle.std.specs.Prelude.{ℕ, ◌≡◌, true, false, List, [], ◌∷◌, length}
 use Rattle.mc_wire.specs.Outlet.{Sight}
 use Rattle.mc_ring.specs.Lane.{Near}
 use Rattle.mc_ring.specs.Ends.{Ends}
@@ -109,8 +109,8 @@ pub record SitsClosing (shards : ℕ) (rules : Rules) (may_answer : ℕ → Type
 -- How a seat stands between two steps, since it began like this.
 abbrev pub SeatStands : {L : Type 0} → (L → Sight) → ℕ → Rules → (ℕ → Type 0) → SeatAt → DoorTold → Session → Phase L → Type 0
 SeatStands sight shards rules may_answer sat door session phase.Free = SitsFree shards rules may_answer sat door session
-SeatStands sight shards rules may_answer sat door session (phase.Came line) = SitsBeginning shards rules may_answer sat door (sight line) session
-SeatStands sight shards rules may_answer sat door session (phase.Serving line) = SitsServing shards rules may_answer sat door (sight line) session
+SeatStands sight shards rules may_answer sat door session (phase.Out line false) = SitsBeginning shards rules may_answer sat door (sight line) session
+SeatStands sight shards rules may_answer sat door session (phase.Out line true) = SitsServing shards rules may_answer sat door (sight line) session
 SeatStands sight shards rules may_answer sat door session (phase.Closing count) = SitsClosing shards rules may_answer count sat door (seat_ends session)
 SeatStands sight shards rules may_answer sat door session phase.Over = SeatServes shards rules may_answer sat (seat_at door (seat_ends session))
 
@@ -125,15 +125,14 @@ pub record HasSatDown {L : Type 0} (shards : ℕ) (rules : Rules) (door : DoorTo
 -- Where a line is served, the session serves it.
 abbrev pub CanStep : {L : Type 0} → Phase L → Session → Type 0
 CanStep phase.Free session = Unit {0}
-CanStep (phase.Came line) session = Unit {0}
-CanStep (phase.Serving line) session = MayStep session
+CanStep (phase.Out line false) session = Unit {0}
+CanStep (phase.Out line true) session = MayStep session
 CanStep (phase.Closing count) session = Unit {0}
 CanStep phase.Over session = Unit {0}
 
 -- One lane more was closed, or none; or all of them were closed before.
 abbrev pub ClosesOn : {L : Type 0} → Ends Near → Phase L → Ends Near → Type 0
 ClosesOn served phase.Free ends = ⊥
-ClosesOn served (phase.Came line) ends = ⊥
-ClosesOn served (phase.Serving line) ends = ⊥
+ClosesOn served (phase.Out line begun) ends = ⊥
 ClosesOn served (phase.Closing count) ends = EndsFirst count served ends
 ClosesOn served phase.Over ends = EndsAll served ends

@@ -35,7 +35,7 @@ impl<D: Door + Drop> Seats<D> {
         Ok(Seats { all, due, left })
     }
 
-    /// Steps each seat that has to be, once, and tells whether one of them did something.
+    /// Steps each seat that has to be, and tells whether there was one.
     pub(crate) fn step<K: Clock>(
         &mut self,
         sleeper: &mut Sleeper,
@@ -96,7 +96,7 @@ impl<D: Door + Drop> Seats<D> {
             }
         }
         self.note(word, again, over);
-        again != 0
+        marked != 0
     }
 
     /// Notes which seats of a word did something, and how many found that all their lanes are closed.
@@ -117,7 +117,7 @@ impl<D: Door + Drop> Seats<D> {
         }
     }
 
-    /// Steps the seat at this place, if there is one.
+    /// Steps the seat at this place, if there is one; where it did something, once more: what it took is sent at once.
     fn step_at<K: Clock>(
         &mut self,
         place: usize,
@@ -142,7 +142,10 @@ impl<D: Door + Drop> Seats<D> {
         }
         let ready = ready_by(sleeper.ready(place));
         let sitting = &mut self.all[place];
-        sitting.step(ready, clock, rooms)
+        match sitting.step(ready, clock, rooms) {
+            Stepped::Did => sitting.step(None, clock, rooms),
+            stepped => stepped,
+        }
     }
 
     /// Whether all lanes of all seats were closed.

@@ -5,8 +5,8 @@ ghost use Rattle.std.specs.Prelude.{◌≡◌, ◌<◌, ℕ, IfOk, IsTrue, lengt
 ghost use Rattle.mc_ring.specs.Ends.{Ends};
 ghost use Rattle.mc_ring.specs.Lane.{Near};
 ghost use Rattle.mc_threads.specs.Ending.{EndsFirst};
-ghost use Rattle.mc_threads.specs.Session.{IsVacant, MayStep, seat_ends};
-ghost use Rattle.mc_serve.specs.Seats.{CanStep, ClosesOn, SeatAt, SeatStands, SitsBeginning, SitsFree, SitsServing};
+ghost use Rattle.mc_threads.specs.Session.{IsVacant, seat_ends};
+ghost use Rattle.mc_serve.specs.Seats.{CanStep, ClosesOn, SeatAt, SeatStands};
 ghost use Rattle.mc_serve.specs.declared.sitting.Phase.TheVariants as phase;
 
 use mc_doors::{Arrival, Door};
@@ -34,10 +34,8 @@ pub enum Stepped {
 pub enum Phase<L> {
     /// No line is out.
     Free,
-    /// This line is out, and waits for the memory that it is served by.
-    Came(L),
-    /// This line is out, and is served.
-    Serving(L),
+    /// This line is out. It is served once it has begun, for which memory may have to come first.
+    Out { line: L, begun: bool },
     /// No line comes any more, and this number of lanes were closed, the first ones.
     Closing(usize),
     /// All lanes were closed.
@@ -87,7 +85,7 @@ impl<D: Door + Drop> Sitting<D> {
         })
     }
 
-    /// Goes a step further: asks the door for a line, begins to serve the line that is out, serves it on, or closes a lane. The
+    /// Makes a step: asks the door for a line, begins to serve the line that is out, serves it on, or closes a lane. The
     /// line is told first what its socket is ready for, if something is known of that.
     pub(crate) fn step<K: Clock>(
         &mut self,
@@ -102,84 +100,44 @@ impl<D: Door + Drop> Sitting<D> {
             SeatStands (λ line. D.Line.sight line) shards rules (K.may_answer clock.now) sat
             (D.told self.new.door) self.new.session self.new.phase }
     {
-        match mem::replace(&mut self.phase, Phase::Over) {
-            Phase::Free => self.accept(clock),
-            Phase::Came(line) => self.begin(roused(line, ready), clock),
-            Phase::Serving(line) => self.serve(roused(line, ready), clock, rooms),
-            Phase::Closing(count) => self.close(count),
-            Phase::Over => Stepped::Waits,
-        }
-    }
-
-    /// Asks the door for a line, and begins to serve it.
-    fn accept<K: Clock>(&mut self, clock: &K) -> Stepped
-        ensures { (shards : ℕ) (rules : Rules) (sat : SeatAt) →
-            SitsFree shards rules (K.may_answer clock.now) sat (D.told self.old.door)
-            self.old.session →
-            SeatStands (λ line. D.Line.sight line) shards rules (K.may_answer clock.now) sat
-            (D.told self.new.door) self.new.session self.new.phase }
-    {
-        match self.door.accept() {
-            Arrival::Came(line) => self.begin(line, clock),
-            Arrival::NotYet => {
-                self.phase = Phase::Free;
-                Stepped::Waits
-            }
-            Arrival::Over => {
-                self.phase = Phase::Closing(0);
+        match &mut self.phase {
+            Phase::Free => {
+                self.phase = match self.door.accept() {
+                    Arrival::Came(line) => Phase::Out { line, begun: false },
+                    Arrival::NotYet => return Stepped::Waits,
+                    Arrival::Over => Phase::Closing(0),
+                };
                 Stepped::Did
             }
-        }
-    }
-
-    /// Begins to serve the line that is out. Where memory for it is refused the line waits, and the next step asks again.
-    fn begin<K: Clock>(&mut self, line: D::Line, clock: &K) -> Stepped
-        ensures { (shards : ℕ) (rules : Rules) (sat : SeatAt) →
-            SitsBeginning shards rules (K.may_answer clock.now) sat (D.told self.old.door)
-            (D.Line.sight line) self.old.session →
-            SeatStands (λ line. D.Line.sight line) shards rules (K.may_answer clock.now) sat
-            (D.told self.new.door) self.new.session self.new.phase }
-    {
-        match self.session.begin(clock) {
-            Ok(()) => {
-                self.phase = Phase::Serving(line);
-                Stepped::Did
-            }
-            Err(_refused) => {
-                self.phase = Phase::Came(line);
-                Stepped::Did
-            }
-        }
-    }
-
-    /// Serves the line that is out a step further, and gives it back once it was served.
-    fn serve<K: Clock>(&mut self, line: D::Line, clock: &K, rooms: &mut Rooms) -> Stepped
-        requires { MayStep self.old.session }
-        ensures { (shards : ℕ) (rules : Rules) (sat : SeatAt) →
-            SitsServing shards rules (K.may_answer clock.now) sat (D.told self.old.door)
-            (D.Line.sight line) self.old.session →
-            SeatStands (λ line. D.Line.sight line) shards rules (K.may_answer clock.now) sat
-            (D.told self.new.door) self.new.session self.new.phase }
-    {
-        let mut line = line;
-        match self.session.step(&mut line, clock, rooms) {
-            LineStep::Did => {
-                self.phase = Phase::Serving(line);
-                Stepped::Did
-            }
-            LineStep::Waits => {
-                self.phase = Phase::Serving(line);
-                Stepped::Waits
-            }
-            LineStep::Ended(served) => {
-                self.door.give_back(line, served.commands, served.broke);
-                if self.session.renew() {
-                    self.phase = Phase::Free;
+            Phase::Out { line, begun } => {
+                if let Some(ready) = ready {
+                    line.rouse(ready);
+                }
+                if !*begun {
+                    *begun = self.session.begin(clock).is_ok();
                     return Stepped::Did;
                 }
-                self.phase = Phase::Closing(0);
-                Stepped::Did
+                match self.session.step(line, clock, rooms) {
+                    LineStep::Did => Stepped::Did,
+                    LineStep::Waits => Stepped::Waits,
+                    LineStep::Ended(served) => {
+                        let Phase::Out { line, .. } = mem::replace(&mut self.phase, Phase::Free)
+                        else {
+                            unreachable!()
+                        };
+                        self.door.give_back(line, served.commands, served.broke);
+                        if !self.session.renew() {
+                            self.phase = Phase::Closing(0);
+                        }
+                        Stepped::Did
+                    }
+                }
             }
+            Phase::Closing(count) => {
+                let count = *count;
+                self.close(count)
+            }
+            Phase::Over => Stepped::Waits,
         }
     }
 
@@ -224,16 +182,4 @@ impl<D: Door + Drop> Sitting<D> {
         } = self;
         (session.into_ends(), door)
     }
-}
-
-/// The line, once it was told what its socket is ready for, if something is known of that.
-fn roused<L: Line>(line: L, ready: Option<Ready>) -> L
-    ensures { L.sight result ≡ L.sight line }
-{
-    let mut line = line;
-    let Some(ready) = ready else {
-        return line;
-    };
-    line.rouse(ready);
-    line
 }

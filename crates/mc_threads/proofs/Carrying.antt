@@ -92,10 +92,10 @@ pub stays_more : (ends ends' last : Ends Near) (ways ways' left : List ℕ) (con
 stays_more ends ends' last ways ways' left conn conn' new one two =
     moves_trans NoneOut NoneOut NoneOut ends ends' last ways ways' left conn conn' new (λ told mid lent accepted out a b. b ∙ a) one two
 
--- where no piece has left after the last step, what was said of it still holds
-pub moves_then_none : (so where' : Type 0) (ends ends' last : Ends Near) (ways ways' left : List ℕ) (conn conn' new : Conn) → (where' → so) → MovesOn (AllOutWhere so) ends ways conn ends' ways' conn' → MovesOn NoneOut ends' ways' conn' last left new → MovesOn (AllOutWhere where') ends ways conn last left new
-moves_then_none so where' ends ends' last ways ways' left conn conn' new from one two =
-    moves_trans (AllOutWhere so) NoneOut (AllOutWhere where') ends ends' last ways ways' left conn conn' new (λ told mid lent accepted out a b holds. b ∙ a (from holds)) one two
+-- What the last step says of all pieces is so after both.
+pub moves_then : (first : Told → ℕ → Type 0) (so where' : Type 0) (ends ends' last : Ends Near) (ways ways' left : List ℕ) (conn conn' new : Conn) → (where' → so) → MovesOn first ends ways conn ends' ways' conn' → MovesOn (AllOutWhere so) ends' ways' conn' last left new → MovesOn (AllOutWhere where') ends ways conn last left new
+moves_then first so where' ends ends' last ways ways' left conn conn' new from one two =
+    moves_trans first (AllOutWhere so) (AllOutWhere where') ends ends' last ways ways' left conn conn' new (λ told mid lent accepted out a b holds. b (from holds)) one two
 
 -- where the condition does not hold, nothing is claimed
 pub moves_unless : (first : Told → ℕ → Type 0) (so : Type 0) (ends last : Ends Near) (ways left : List ℕ) (conn new : Conn) → (so → ⊥) → MovesOn first ends ways conn last left new → MovesOn (AllOutWhere so) ends ways conn last left new

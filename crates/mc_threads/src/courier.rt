@@ -72,50 +72,22 @@ impl Courier {
         self.under_way.iter().all(|count| *count == 0)
     }
 
-    /// Sends what there is room for and takes in what has come, and tells whether there was something. Each shard of which a
-    /// reply is awaited was called then, after the last piece was sent.
-    pub(crate) fn carry(&mut self, conn: &mut Conn) -> bool
+    /// Sends pieces while there is room, and calls the shards.
+    fn send_all(&mut self, conn: &mut Conn)
         requires { CanCarry self.old conn.old }
-        ensures goes { CourierGoesOn (AllOutWhere ((result ≡ false) × (self.new.blocked ≡ false)))
-            self.old conn.old self.new conn.new }
+        ensures goes { CourierGoesOn (AllOutWhere (self.new.blocked ≡ false)) self.old conn.old
+            self.new conn.new }
         ensures called { self.new.uncalled ≡ false }
-        ensures places { self.new.places ≡ self.old.places }
-    {
-        if self.send_all(conn) {
-            self.receive_all(conn);
-            return true;
-        }
-        self.receive_all(conn)
-    }
-
-    /// Sends pieces while there is room, and calls the shards; tells whether one was sent.
-    fn send_all(&mut self, conn: &mut Conn) -> bool
-        requires { CanCarry self.old conn.old }
-        ensures goes { CourierGoesOn (AllOutWhere ((result ≡ false) × (self.new.blocked ≡ false)))
-            self.old conn.old self.new conn.new }
-        ensures called { self.new.uncalled ≡ false }
-        ensures places { self.new.places ≡ self.old.places }
-    {
-        if !self.send_next(conn) {
-            self.call_shards();
-            return false;
-        }
-        self.send_more(conn);
-        self.call_shards();
-        true
-    }
-
-    /// Sends pieces while there is room.
-    fn send_more(&mut self, conn: &mut Conn)
-        requires { CanCarry self.old conn.old }
-        ensures goes { CourierGoesOn AnyOut self.old conn.old self.new conn.new }
         ensures places { self.new.places ≡ self.old.places }
     {
         for _ in 0..u64::MAX {
             if !self.send_next(conn) {
+                self.call_shards();
                 return;
             }
         }
+        self.blocked = true;
+        self.call_shards();
     }
 
     /// Sends the next piece, and tells whether it did: not where none is left, and where as many are under way to its shard as
@@ -174,25 +146,21 @@ impl Courier {
         self.uncalled = false;
     }
 
-    /// Takes in the replies that have come; tells whether there was one.
-    fn receive_all(&mut self, conn: &mut Conn) -> bool
+    /// Takes in the replies that have come.
+    fn receive_all(&mut self, conn: &mut Conn)
         requires { CanCarry self.old conn.old }
         ensures goes { CourierGoesOn NoneOut self.old conn.old self.new conn.new }
         ensures blocked { self.new.blocked ≡ self.old.blocked }
         ensures called { self.new.uncalled ≡ self.old.uncalled }
         ensures places { self.new.places ≡ self.old.places }
     {
-        let mut received = false;
         for shard in 0..self.under_way.len() {
-            if self.receive_from(conn, shard) {
-                received = true;
-            }
+            self.receive_from(conn, shard);
         }
-        received
     }
 
-    /// Takes in the replies that have come from one shard; tells whether there was one.
-    fn receive_from(&mut self, conn: &mut Conn, shard: usize) -> bool
+    /// Takes in the replies that have come from one shard.
+    fn receive_from(&mut self, conn: &mut Conn, shard: usize)
         requires shard { shard < length self.old.under_way.items }
         requires carries { CanCarry self.old conn.old }
         ensures goes { CourierGoesOn NoneOut self.old conn.old self.new conn.new }
@@ -201,14 +169,11 @@ impl Courier {
         ensures same { length self.new.under_way.items ≡ length self.old.under_way.items }
         ensures places { self.new.places ≡ self.old.places }
     {
-        let mut received = false;
         for _ in 0..self.under_way[shard] {
             if !self.receive_next(conn, shard) {
-                return received;
+                return;
             }
-            received = true;
         }
-        received
     }
 
     /// Takes in the next reply from one shard, and tells whether it did: not where none is awaited, and where none has come.
@@ -233,8 +198,9 @@ impl Courier {
         true
     }
 
-    /// Serves the line a step further: sends what there is room for and takes in what has come; and where every reply has come,
-    /// goes on with the line, as [`Service::go_on`] does. No step waits for a shard.
+    /// Makes a step with the line: receives the replies that have come, and sends pieces while there is room. Once every reply
+    /// has come it goes on with the line, as [`Service::go_on`] does. It waits for no shard. It receives before it sends: where
+    /// a lane is full then, replies are still to come on it, which end the wait.
     pub(crate) fn step<L: Line, K: Clock>(
         &mut self,
         service: &mut Service,
@@ -256,9 +222,8 @@ impl Courier {
             AwaitsShards self.new ⊎ WaitsForLine service.new }
         ensures places { self.new.places ≡ self.old.places }
     {
-        if self.carry(&mut service.conn) {
-            return LineStep::Did;
-        }
+        self.receive_all(&mut service.conn);
+        self.send_all(&mut service.conn);
         if !self.is_idle() {
             return LineStep::Waits;
         }

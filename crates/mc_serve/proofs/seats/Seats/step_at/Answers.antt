@@ -1,4 +1,4 @@
--- The seat at the place is stepped, and the others stay.
+-- The seat at the place is stepped, perhaps twice, and the others stay.
 use Rattle.std.proofs.Common.{◌<◌, length, refl, arith}
 use Rattle.std.proofs.lemmas.Option.{slice_get_read}
 use Rattle.mc_serve.proofs.Parts.{seat_steps}
@@ -14,10 +14,26 @@ step-requires g c =
     let below : c.args.place < length items = omega arith in
     let old = c.index_mut-sitting.result.now in
     let here = slice_get_read items (length items) c.args.place old refl below c.index_mut-sitting.ensures.value in
-    seat_steps items c.requires.2 c.args.place old (λ line. g.D.Line.Outlet.sight line) (λ one. g.D.Door.told one.door) (λ one. one.session) (λ one. one.phase) c.requires.0 c.requires.1 (g.K.Clock.may_answer c.args.clock.now) here c.requires.3
+    seat_steps items c.requires.2 c.args.place old old (λ line. g.D.Line.Outlet.sight line) (λ one. g.D.Door.told one.door) (λ one. one.session) (λ one. one.phase) c.requires.0 c.requires.1 (g.K.Clock.may_answer c.args.clock.now) here (λ sat stands. stands) c.requires.3
 
-pub returns : goal.returns
-returns g c shards rules sats zips =
+pub step-requires-in-Did : goal.step-requires-in-Did
+step-requires-in-Did g c =
+    let items = c.args.self.now.all.items in
+    let below : c.args.place < length items = omega arith in
+    let old = c.index_mut-sitting.result.now in
+    let here = slice_get_read items (length items) c.args.place old refl below c.index_mut-sitting.ensures.value in
+    seat_steps items c.requires.2 c.args.place old c.step.new.self (λ line. g.D.Line.Outlet.sight line) (λ one. g.D.Door.told one.door) (λ one. one.session) (λ one. one.phase) c.requires.0 c.requires.1 (g.K.Clock.may_answer c.args.clock.now) here (c.step.ensures c.requires.0 c.requires.1) c.requires.3
+
+pub returns-in-Did : goal.returns-in-Did
+returns-in-Did g c shards rules sats zips =
+    let items = c.args.self.now.all.items in
+    let below : c.args.place < length items = omega arith in
+    let old = c.index_mut-sitting.result.now in
+    let here = slice_get_read items (length items) c.args.place old refl below c.index_mut-sitting.ensures.value in
+    zips_set _ sats items c.args.place old c.step-in-Did.new.self here (λ sat stands. c.step-in-Did.ensures shards rules sat (c.step.ensures shards rules sat stands)) zips
+
+pub returns-in_default : goal.returns-in_default
+returns-in_default g c shards rules sats zips =
     let items = c.args.self.now.all.items in
     let below : c.args.place < length items = omega arith in
     let old = c.index_mut-sitting.result.now in

@@ -1,28 +1,41 @@
--- What the seat does says how it goes on.
-use Rattle.std.proofs.Common.{sym, ◌∙◌}
-use Rattle.mc_serve.proofs.Steps.{closes_on}
+-- The line that is out begins, is served on, or was served and goes back.
+use Rattle.std.proofs.Common.{◌≡◌, refl}
+use Rattle.mc_serve.proofs.Steps.{begins_where, serves_another, serves_no_more, stands_out}
 use Rattle.mc_serve.proofs.sitting.Sitting.step.Goals as goal
+use Rattle.mc_serve.proofs.sitting.Sitting.step.Goals.{in-Some, in_default}
 
-pub serve-requires : goal.serve-requires
-serve-requires g c = rw (sym c.replace.ensures.value ∙ c.in-Serving.is) at c.requires
+pub returns-then-not-begun : goal.returns-then-not-begun
+returns-then-not-begun g c shards rules sat stands =
+    let may_answer = g.K.Clock.may_answer c.args.clock.now in
+    let line : g.D.Line.Outlet.sight c.match-ready.line ≡ g.D.Line.Outlet.sight c.in-Out.line = elim c.match-ready.branch [
+      | in-Some w ↦ rw w.line-is w.rouse.ensures
+      | in_default w ↦ rw w.line-is refl
+    ] in
+    let out = stands_out shards rules may_answer (λ line. g.D.Line.Outlet.sight line) sat (g.D.Door.told c.args.self.now.door) c.args.self.now.session c.args.self.now.phase c.in-Out.line c.match-ready.line c.in-Out.begun c.in-Out.is line stands in
+    rw c.is_ok.ensures.value
+    (begins_where shards rules may_answer (λ line. g.D.Line.Outlet.sight line) sat _ c.match-ready.line c.args.self.now.session c.begin.new.self c.begin.result c.begin.ensures.serving c.begin.ensures.refused (rw c.if-not-begun.true at out))
 
-pub returns-in-Free : goal.returns-in-Free
-returns-in-Free g c shards rules sat stands = c.accept.ensures shards rules sat (rw (sym c.replace.ensures.value ∙ c.in-Free.is) at stands)
+pub returns-then-not-renew : goal.returns-then-not-renew
+returns-then-not-renew g c shards rules sat stands =
+    let may_answer = g.K.Clock.may_answer c.args.clock.now in
+    let line : g.D.Line.Outlet.sight c.match-ready.line ≡ g.D.Line.Outlet.sight c.in-Out.line = elim c.match-ready.branch [
+      | in-Some w ↦ rw w.line-is w.rouse.ensures
+      | in_default w ↦ rw w.line-is refl
+    ] in
+    let out = stands_out shards rules may_answer (λ line. g.D.Line.Outlet.sight line) sat (g.D.Door.told c.args.self.now.door) c.args.self.now.session c.args.self.now.phase c.in-Out.line c.match-ready.line c.in-Out.begun c.in-Out.is line stands in
+    let held : c.in-Out-replace.line ≡ c.step.new.line = (let had = c.replace.ensures.value in let is = c.in-Out-replace.is in cc) in
+    serves_no_more shards rules may_answer sat _ _ _ _ _ _ _ c.args.self.now.session c.step.new.self c.renew.new.self (λ begin before. c.in-Ended.ensures.says shards rules begin before) (rw held at c.give_back.ensures)
+    (record { when = c.renew.ensures.when; vacant = c.renew.ensures.vacant; ends = c.renew.ensures.ends }) (rw c.if-not-begun.false at out) c.if-not-renew.true
 
-pub returns-in-Came : goal.returns-in-Came
-returns-in-Came g c shards rules sat stands =
-    let is = sym c.replace.ensures.value ∙ c.in-Came.is in
-    c.begin.ensures shards rules sat (rw c.roused.ensures (rw is at stands))
-
-pub returns-in-Serving : goal.returns-in-Serving
-returns-in-Serving g c shards rules sat stands =
-    let is = sym c.replace.ensures.value ∙ c.in-Serving.is in
-    c.serve.ensures shards rules sat (rw c.roused-in-Serving.ensures (rw is at stands))
-
-pub returns-in-Closing : goal.returns-in-Closing
-returns-in-Closing g c shards rules sat stands =
-    rw c.close.ensures.door
-    (closes_on shards rules (g.K.Clock.may_answer c.args.clock.now) (λ line. g.D.Line.Outlet.sight line) sat c.in-Closing.count _ c.args.self.now.session c.close.new.self.session c.close.new.self.phase c.close.ensures.closes (rw (sym c.replace.ensures.value ∙ c.in-Closing.is) at stands))
-
-pub returns-in-Over : goal.returns-in-Over
-returns-in-Over g c shards rules sat stands = rw c.replace.ensures.after (rw (sym c.replace.ensures.value ∙ c.in-Over.is) at stands)
+pub returns-else-not-renew : goal.returns-else-not-renew
+returns-else-not-renew g c shards rules sat stands =
+    let may_answer = g.K.Clock.may_answer c.args.clock.now in
+    let line : g.D.Line.Outlet.sight c.match-ready.line ≡ g.D.Line.Outlet.sight c.in-Out.line = elim c.match-ready.branch [
+      | in-Some w ↦ rw w.line-is w.rouse.ensures
+      | in_default w ↦ rw w.line-is refl
+    ] in
+    let out = stands_out shards rules may_answer (λ line. g.D.Line.Outlet.sight line) sat (g.D.Door.told c.args.self.now.door) c.args.self.now.session c.args.self.now.phase c.in-Out.line c.match-ready.line c.in-Out.begun c.in-Out.is line stands in
+    let held : c.in-Out-replace.line ≡ c.step.new.line = (let had = c.replace.ensures.value in let is = c.in-Out-replace.is in cc) in
+    rw c.replace.ensures.after
+    (serves_another shards rules may_answer sat _ _ _ _ _ _ _ c.args.self.now.session c.step.new.self c.renew.new.self (λ begin before. c.in-Ended.ensures.says shards rules begin before) (rw held at c.give_back.ensures)
+    (record { when = c.renew.ensures.when; vacant = c.renew.ensures.vacant; ends = c.renew.ensures.ends }) (rw c.if-not-begun.false at out) c.if-not-renew.false)

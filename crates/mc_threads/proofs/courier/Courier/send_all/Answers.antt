@@ -1,15 +1,27 @@
--- The first piece is sent, and then more.
+-- Each round sends one piece more, until none is left or one is held back.
+use Rattle.std.proofs.Common.{refl, ◌∙◌}
 use Rattle.mc_threads.specs.internal.Carrying.{AnyOut}
-use Rattle.mc_threads.proofs.Carrying.{may_still, moves_more, moves_unless}
+use Rattle.mc_threads.proofs.Carrying.{may_still, moves_more, moves_refl, moves_then, moves_unless}
 use Rattle.mc_threads.proofs.courier.Courier.send_all.Goals as goal
 
-pub send_more-requires : goal.send_more-requires
-send_more-requires c = may_still _ _ _ _ _ _ _ c.requires c.send_next.ensures.goes
+pub loop-init : goal.loop-init
+loop-init c = record { goes = moves_refl c.args.self.now.ends c.args.self.now.under_way.items c.args.conn.now; places = refl }
+
+pub send_next-requires : goal.send_next-requires
+send_next-requires c = may_still AnyOut _ _ _ _ _ _ c.requires c.loop.invariant.goes
 
 pub returns-then-not-send_next-clause-goes : goal.returns-then-not-send_next-clause-goes
-returns-then-not-send_next-clause-goes c = rw (c.call_shards.ensures.ends, c.call_shards.ensures.under_way, c.call_shards.ensures.blocked) c.if-not-send_next.ensures.goes
+returns-then-not-send_next-clause-goes c =
+    rw (c.call_shards.ensures.ends, c.call_shards.ensures.under_way, c.call_shards.ensures.blocked)
+    (moves_then AnyOut _ _ _ _ _ _ _ _ _ _ _ (λ so. (refl, so)) c.loop.invariant.goes c.if-not-send_next.ensures.goes)
 
 pub returns-clause-goes : goal.returns-clause-goes
 returns-clause-goes c =
-    rw (c.call_shards-2.ensures.ends, c.call_shards-2.ensures.under_way)
-    (moves_unless AnyOut _ _ _ _ _ _ _ (λ so. let bad = so.0 in absurd (cc)) (moves_more _ AnyOut _ _ _ _ _ _ _ _ _ c.send_next.ensures.goes c.send_more.ensures.goes))
+    rw (c.call_shards-2.ensures.ends, c.call_shards-2.ensures.under_way, c.call_shards-2.ensures.blocked)
+    (moves_unless AnyOut _ _ _ _ _ _ _ (λ so. absurd (cc)) c.loop.invariant.goes)
+
+pub loop-preserved : goal.loop-preserved
+loop-preserved c = record {
+  goes = moves_more AnyOut _ _ _ _ _ _ _ _ _ _ c.loop.invariant.goes c.send_next.ensures.goes;
+  places = c.send_next.ensures.places ∙ c.loop.invariant.places;
+}

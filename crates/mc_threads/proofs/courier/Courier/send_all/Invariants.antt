@@ -1,7 +1,7 @@
 -- Pieces have left.
 use Rattle.std.proofs.Common.{◌≡◌}
 use Rattle.mc_threads.specs.internal.Carrying.{AnyOut, MovesOn}
-use Rattle.mc_threads.proofs.courier.Courier.send_more.Given as goal
+use Rattle.mc_threads.proofs.courier.Courier.send_all.Given as goal
 
 abbrev pub invariant-loop : goal.invariant-loop
 invariant-loop l = record {
