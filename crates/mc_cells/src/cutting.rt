@@ -1,0 +1,70 @@
+//! Answers that are cut from pages.
+ghost use Rattle.std.specs.Prelude.{◌≡◌, ◌<◌, ◌≤◌, [], length, IfOk, OnOk};
+ghost use Rattle.mc_cells.specs.declared.TheConstants.{PAGE, TEXT_LIMIT};
+
+use crate::chain::copy;
+use crate::keeping::Cells;
+use crate::{PAGE, TEXT_LIMIT};
+use bytes::{Bytes, BytesMut};
+use std::alloc::{AllocError, Global};
+
+/// A page that texts are copied to, one behind the other. Each is shared out as `Bytes` of its own, and the page lives as
+/// long as one of them does.
+#[derive(Drop)]
+pub struct Page {
+    alloc: Global,
+    /// What is left of the page.
+    block: BytesMut,
+    ghost empty: { block.items ≡ [] },
+}
+
+/// Makes room for so many bytes: in the page where no text of it is in use, or else in a new one.
+#[cold]
+#[inline(never)]
+fn turn(block: &mut BytesMut, alloc: Global, len: usize) -> Result<(), AllocError>
+    requires empty { block.old.items ≡ [] }
+    requires short { len ≤ PAGE }
+    ensures empty { block.new.items ≡ [] }
+    ensures room { OnOk result (len ≤ block.new.spare) }
+{
+    if !block.try_reclaim(len) {
+        *block = BytesMut::with_capacity(alloc, PAGE)?;
+    }
+    Ok(())
+}
+
+impl Page {
+    ghost use Rattle.mc_cells.specs.Chains.{Lies, text_at};
+
+    /// A page that is still to be taken from the allocator.
+    pub fn new(alloc: Global) -> Page {
+        Page {
+            alloc,
+            block: BytesMut::new(alloc),
+        }
+    }
+
+    /// The text of `len` bytes whose first cell is at a place.
+    #[inline(always)]
+    pub fn cut(&mut self, cells: &Cells, first: u32, len: usize) -> Result<Bytes, AllocError>
+        requires short { len ≤ TEXT_LIMIT }
+        requires lies { Lies cells.now.all.items first len }
+        ensures { IfOk result (λ text. text ≡ text_at cells.now.all.items first len) }
+    {
+        if len == 0 {
+            return Ok(Bytes::new());
+        }
+        if self.block.capacity() < len {
+            turn(&mut self.block, self.alloc, len)?;
+        }
+        copy(&mut self.block, &cells.all, first, len);
+        let end = self.block.len();
+        match self.block.freeze_to(end) {
+            Ok(text) => Ok(text),
+            Err(refused) => {
+                self.block.clear();
+                Err(refused)
+            }
+        }
+    }
+}
