@@ -7,7 +7,7 @@ use Rattle.mc_cells.specs.declared.keeping.Cells.{Cells}
 use Rattle.mc_cells.specs.Sizes.{cells_of}
 use Rattle.mc_cells.specs.Chains.{no_cell, next_of, bytes_of, behind, Lies}
 use Rattle.mc_cells.proofs.Chains.{Lies-last}
-use Rattle.mc_cells.proofs.Kept.{Lies-kept, Released, KeepsOn-released}
+use Rattle.mc_cells.proofs.Kept.{Lies-kept, KeepsOn-released}
 use Rattle.mc_cells.proofs.keeping.Cells.release.Goals as goal
 
 -- a cell with other links and the same bytes is put at a place
