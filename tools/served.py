@@ -13,7 +13,7 @@ import sys
 import time
 
 TOP = pathlib.Path(__file__).resolve().parent.parent
-MCD = str(TOP / "crates/mcd/out/mcd")
+MCD = os.environ.get("MCD") or str(TOP / "crates/mcd/out/mcd")
 MIB = 1 << 20
 STORED, TOO_LARGE = b"STORED\r\n", b"SERVER_ERROR object too large for cache\r\n"
 NO_OP, NO_OP_REPLY = b"mn\r\n", b"MN\r\n"

@@ -1,12 +1,10 @@
 """Stands in for mcd with one fault put in, so that `pytest --seen-to-fail` can see which tests find it.
 
-    python3 -m tools.checks.faulty FAULT PROGRAM [WORD ..]     FAULT is a key of STATUSES, INPUTS, PAGES, CALLS, SIGNALS, TEXTS
-                                                                or LINES below, PROGRAM the real one
+    python3 -m tools.checks.faulty FAULT PROGRAM [WORD ..]     FAULT is a key of STATUSES, INPUTS, CALLS, SIGNALS, TEXTS, LINES
+                                                                below, or of PAGES (faulty_pages.py), PROGRAM the real one
 
 With a fault of LINES, calls that serve connections go through a proxy of this process, so what a check reads of the memory of the server is its.
 """
-import http.client
-import http.server
 import os
 import re
 import signal
@@ -362,47 +360,6 @@ def instead(name, value):
     return lambda words: [*without([name])(words), name, value]
 
 
-# Faults of what the metrics' port serves.
-PAGES = {
-    "counts otherwise": lambda text: re.sub(r"(?m)(?<=[ >])([\d,]+)(?=$|[ <])", lambda it: f"{int(it[1].replace(',', '') or 0) + 7:,}", text),
-    "serves half a page": lambda text: text[: len(text) // 2],
-}
-
-
-class Page(http.server.BaseHTTPRequestHandler):
-    """Passes on what is asked at the metrics' port of the real program, and changes what it answers."""
-
-    def do_GET(self):
-        asked = http.client.HTTPConnection("127.0.0.1", self.server.behind)
-        asked.request(self.command, self.path)
-        answer = asked.getresponse()
-        body = self.server.change(answer.read().decode()).encode()
-        self.send_response(answer.status)
-        for name, value in {"Content-Type": answer.headers["Content-Type"], "Content-Length": len(body)}.items():
-            self.send_header(name, value)
-        self.end_headers()
-        self.wfile.write(body)
-
-    do_HEAD = do_POST = do_GET
-
-    def log_message(self, *_):
-        """Nothing is logged."""
-
-
-def serve_pages(change, program, words):
-    """Runs the program, before whose metrics' port this process is."""
-    real = started([program, *words], stderr=subprocess.PIPE)
-    for line in real.stderr:
-        if found := re.fullmatch(rb"metrics 127\.0\.0\.1:(\d+)\n", line):
-            front = http.server.ThreadingHTTPServer(("127.0.0.1", 0), Page)
-            front.behind, front.change = int(found[1]), change
-            threading.Thread(target=front.serve_forever, daemon=True).start()
-            line = b"metrics 127.0.0.1:%d\n" % front.server_port
-        sys.stderr.buffer.write(line)
-        sys.stderr.flush()
-    return real.wait()
-
-
 # Faults of how the program is called.
 CALLS = {
     "has few seats": few_seats, "listens elsewhere": elsewhere, "refuses capital letters": refuses_capitals, "listens before it does": says_at_once,
@@ -492,8 +449,11 @@ def main():
         return converse(fault, program, words)
     if fault in CALLS:
         os.execv(program, [program, *CALLS[fault](words)])
-    if fault in PAGES:
-        return serve_pages(PAGES[fault], program, words)
+    if fault == "counts otherwise" or fault == "serves half a page":
+        # What this takes of the memory isn't there for the other faults.
+        from tools.checks.faulty_pages import serve_pages
+
+        return serve_pages(fault, program, words)
     if fault in SIGNALS:
         return SIGNALS[fault](program, words)
     if fault in TEXTS:

@@ -127,7 +127,7 @@ def test_values_but_for_a_byte_are_bounded():
         within(grown(server, lambda number: b"set k%d 0 0 %d\r\n" % (number, VALUE_LIMIT) + b"v" * (VALUE_LIMIT + 1)), bound)
 
 
-@fails_with("takes 16 MiB a connection")
+@fails_with("takes 64 MiB a connection")
 def test_lines_of_32766_keys_are_bounded():
     with served() as server:
         with Line(server.port) as line:

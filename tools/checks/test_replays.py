@@ -2,6 +2,7 @@
 examples/NAME.expected; files with a bad line; and random schedules with a small model (`tools/replay_model.py`). Each of these ends
 with rounds of all events, after which every connection must be at rest.
 """
+import itertools
 import typing
 
 import hypothesis
@@ -75,13 +76,14 @@ def schedules(draw):
     for seat in range(seats):
         plan.event("open", seat)
     name, c, s, moment = st.just, st.integers(0, seats - 1), st.integers(0, shards - 1), st.integers(1000, 1003)
-    fed = st.tuples(st.lists(commands(shards), min_size=1, max_size=5), st.sampled_from([*[[]] * 9, [QUIT]])).map(lambda both: both[0] + both[1])
+    fed = st.tuples(st.lists(commands(shards), min_size=1, max_size=5), st.sampled_from([*[[]] * 9, [QUIT]])).map(itertools.chain.from_iterable).map(list)
     feed, take, send = st.tuples(name("feed"), c, fed), st.tuples(name("take"), c, moment), st.tuples(name("send"), c)
     pop, give, receive = st.tuples(name("pop"), s, c), st.tuples(name("give"), s), st.tuples(name("receive"), c, s)
     last = st.tuples(st.sampled_from(["hand"] * 16 + ["open"] * 16 + ["end", "break"]), c)
-    kinds = st.sampled_from([feed] * 4 + [take] * 5 + [send] * 5 + [pop] * 4 + [give] * 3 + [receive] * 3 + [last] * 4)
+    kinds = [feed] * 4 + [take] * 5 + [send] * 5 + [pop] * 4 + [give] * 3 + [receive] * 3 + [last] * 4
+    some_kind = st.integers(0, len(kinds) - 1)
     for _ in range(draw(st.integers(20, 200))):
-        kind, *given = draw(draw(kinds))
+        kind, *given = draw(kinds[draw(some_kind)])
         (plan.feed if kind == "feed" else plan.event)(*([] if kind == "feed" else [kind]), *given)
     while plan.round():
         pass

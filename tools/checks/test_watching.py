@@ -274,8 +274,9 @@ def test_what_finds_no_room_is_counted():
             with Line(server.port) as line:
                 line.ask(NO_OP + b"quit\r\n", NO_OP_REPLY)
                 assert line.rest() == b""
-        told, dropped = 0, 0
+        told, dropped, until = 0, 0, time.monotonic() + 120
         while told + dropped < 2 * rounds:
+            assert time.monotonic() < until
             if not select.select([server.process.stderr], [], [], 1)[0]:
                 # What was dropped last is shown with the next line.
                 with Line(server.port) as line:

@@ -106,15 +106,32 @@ def joined(*parts):
     return st.tuples(*(it if isinstance(it, st.SearchStrategy) else st.sampled_from([it] if isinstance(it, bytes) else it) for it in parts)).map(b"".join)
 
 
+# What makes texts of the parts of an example: named, since hypothesis looks up the source of a lambda each time.
+def stored(head, value, last, behind):
+    return b"%b %d%b\r\n%b%b" % (head, len(value), last, value, behind)
+
+
+def stored_by_meta(named, value, rest, behind):
+    return b"ms %b %d%b%b\r\n%b%b" % (named[0], len(value), named[1], rest, value, behind)
+
+
+def without_block(name, named, rest):
+    return b"%b %b%b%b\r\n" % (name, *named, rest)
+
+
+def of_key(line, key):
+    return line.replace(b"%b", key)
+
+
 def with_block(head, value, last, behind=b"\r\n"):
     """A storage line and its block."""
-    return st.builds(lambda head, value, last, behind: b"%b %d%b\r\n%b%b" % (head, len(value), last, value, behind), head, value, joined(last), joined(behind))
+    return st.builds(stored, head, value, joined(last), joined(behind))
 
 
 KEY = st.sampled_from(KEYS)
 NUMBER = st.one_of(*map(st.just, (b"0", b"1", b"7", b"99", b"18446744073709551615")), st.integers(0, 2**32 - 1).map(b"%d".__mod__))
 EXPTIME = [b"0", b"0", b"0", b"1000", b"2592000", b"-1", b"2592001", b"4000000000", b"4294967295"]
-VALUE = st.one_of(*map(st.just, (b"5", b"", b"10", b"99", b"abc", b"18446744073709551615", b"a\r\nb")), st.integers(1, 199).map(lambda size: b"x" * size))
+VALUE = st.one_of(*map(st.just, (b"5", b"", b"10", b"99", b"abc", b"18446744073709551615", b"a\r\nb")), st.integers(1, 199).map(b"x".__mul__))
 BEHIND = [*[b"\r\n"] * 9, b"xy"]
 UNIQUE, OTHER = b"<unique>", b"4000000001"
 # A key as a meta command has it, plain or in base64, with the flag that says so.
@@ -143,11 +160,11 @@ def flags(letters, most, drop_in):
 
 def meta(name, *rest):
     """A meta command that has no block."""
-    return st.builds(lambda named, rest: b"%b %b%b%b\r\n" % (name, *named, rest), META_KEY, joined(*rest))
+    return st.builds(without_block, st.just(name), META_KEY, joined(*rest))
 
 
 def broken(lines):
-    return st.builds(lambda line, key: line.replace(b"%b", key) + b"\r\n", st.sampled_from(lines), KEY)
+    return st.builds(of_key, st.sampled_from([line + b"\r\n" for line in lines]), KEY)
 
 
 def too_large(drop_in, noreply):
@@ -157,8 +174,8 @@ def too_large(drop_in, noreply):
     yield from [with_block(joined(b"ms ", KEY), st.just(value), [b"", *[b" ME", b" MA", b" MR"] * drop_in])] * 2
     if drop_in:
         joins = joined([b"append %b 0 0 2000", b"prepend %b 0 0 2000"], noreply) | st.sampled_from([b"ms %b 2000 MA c q", b"ms %b 2000 k MP"])
-        text = b"set %%b 3 0 %d\r\n%b\r\n" % (len(large), large)
-        yield from [st.builds(lambda key, line: (text + line + b"\r\n" + more + b"\r\nmg %b s f\r\n").replace(b"%b", key), KEY, joins)] * 3
+        texts = joined(b"set %%b 3 0 %d\r\n%b\r\n" % (len(large), large), joins, b"\r\n" + more + b"\r\nmg %b s f\r\n")
+        yield from [st.builds(of_key, texts, KEY)] * 3
 
 
 def commands(drop_in):
@@ -171,9 +188,8 @@ def commands(drop_in):
                                b" ", EXPTIME),
                         VALUE, noreply, BEHIND)
     compares = with_block(joined(b"cas ", KEY, b" 3 0"), VALUE, joined(b" ", [UNIQUE, OTHER], noreply))
-    meta_stores = st.builds(lambda named, value, rest, behind: b"ms %b %d%b%b\r\n%b%b" % (named[0], len(value), named[1], rest, value, behind), META_KEY, VALUE,
-                            joined(flags(b"kOqcFT" + b"IN" * drop_in, 5, drop_in), [b"", b"", b"", b" ME", b" MA", b" MP", b" MR", b" MS"], compared),
-                            joined(BEHIND))
+    modes = [b"", b"", b"", b" ME", b" MA", b" MP", b" MR", b" MS"]
+    meta_stores = st.builds(stored_by_meta, META_KEY, VALUE, joined(flags(b"kOqcFT" + b"IN" * drop_in, 5, drop_in), modes, compared), joined(BEHIND))
     kinds = [
         *[stores] * 12, *[compares] * 2, *read,
         *[joined([b"incr ", b"decr "], KEY, b" ", NUMBER, noreply, end)] * 4,
@@ -186,7 +202,7 @@ def commands(drop_in):
         *[meta(b"ma", flags(b"kOqvctDNJT", 6, drop_in), [b"", b" MI", b" MD", b" M+", b" M-"])] * 6,
         *[broken(BROKEN)] * 2, broken(BROKEN_BY_MEMCACHED if drop_in else BROKEN), st.one_of(*too_large(drop_in, noreply)),
     ]
-    return st.sampled_from(kinds).flatmap(lambda kind: kind).map(Sent)
+    return st.integers(0, len(kinds) - 1).flatmap(kinds.__getitem__).map(Sent)
 
 
 def comparable(reply):
