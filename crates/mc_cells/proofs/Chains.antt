@@ -43,6 +43,7 @@ pub agree_later : (old new : List Cell) (first count : ℕ) → Agree old new fi
     → Agree old new (next_of old first) count
 agree_later old new first count agree place used = agree place (let e = uses-more old first count place in omega arith)
 
+-- the same places are used
 pub uses-agree : (old new : List Cell) (first count place : ℕ) → Agree old new first count
     → uses new first count place ≡ uses old first count place
 unfolding uses
@@ -54,6 +55,7 @@ uses-agree old new first (suc count) place agree =
           new first count agree),
     )
 
+-- the same place is behind
 pub behind-agree : (old new : List Cell) (first count : ℕ) → Agree old new first count
     → behind new first count ≡ behind old first count
 unfolding behind
@@ -69,6 +71,7 @@ behind-agree old new first (suc count) agree =
 abbrev pub SameBytes : List Cell → List Cell → ℕ → ℕ → Type 0
 SameBytes old new first count = (place : ℕ) → 0 < uses old first count place → bytes_of new place ≡ bytes_of old place
 
+-- It is the same text where the bytes are the same too.
 pub text-agree : (old new : List Cell) (first count len : ℕ) → Agree old new first count
     → SameBytes old new first count → text_in new first count len ≡ text_in old first count len
 unfolding text_in
@@ -91,6 +94,7 @@ uses-append cells first (suc count) more place =
     let later = uses-append cells (next_of cells first) count more place in
     rw (e, later) (omega arith)
 
+-- behind one cell more
 pub behind-more : (cells : List Cell) (first count : ℕ) → behind cells first (suc count) ≡ next_of cells (behind
     cells first count)
 unfolding behind
