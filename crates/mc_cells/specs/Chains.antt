@@ -29,7 +29,8 @@ uses cells first (suc count) place = (if first == place then 1 else 0) + uses ce
 -- the text of so many bytes in so many cells of a chain
 unfoldable pub text_in : List Cell → ℕ → ℕ → ℕ → List ℕ
 text_in cells first zero len = []
-text_in cells first (suc count) len = take (min len CELL) (bytes_of cells first) ++ text_in cells (next_of cells first) count (len - CELL)
+text_in cells first (suc count) len = take (min len CELL) (bytes_of cells first) ++ text_in cells (next_of cells
+    first) count (len - CELL)
 
 -- the text of so many bytes in the chain that begins at a place
 abbrev pub text_at : List Cell → ℕ → ℕ → List ℕ

@@ -1,5 +1,5 @@
 -- Texts that are kept in cells.
-use Rattle.std.specs.Prelude.{ℕ, ◌≡◌, ◌+◌, ◌<◌, ◌≤◌, List, ◌++◌, ◌∷◌, map, length, vec_capacity}
+use Rattle.std.specs.Prelude.{ℕ, ◌≡◌, ◌+◌, ◌<◌, ◌≤◌, List, map, length, vec_capacity}
 use Rattle.std.specs.List.{sum_by}
 use Rattle.mc_cells.specs.declared.TheConstants.{GREATEST_CELLS}
 use Rattle.mc_cells.specs.declared.chain.Cell.{Cell}

@@ -1,5 +1,5 @@
 //! Chains of cells.
-ghost use Rattle.std.specs.Prelude.{◌≡◌, ◌+◌, ◌-◌, ◌<◌, ◌≤◌, ◌++◌, ◌^◌, ℕ, drop, length, slice_set};
+ghost use Rattle.std.specs.Prelude.{◌≡◌, ◌+◌, ◌-◌, ◌<◌, ◌≤◌, [], ℕ, length, take};
 ghost use Rattle.mc_cells.specs.declared.TheConstants.{CELL, TEXT_LIMIT};
 ghost use Rattle.mc_cells.specs.Sizes.{cells_of};
 ghost use Rattle.mc_cells.specs.Chains.{Lies, Written, Wrote, behind, next_of, text_at, uses};
@@ -72,14 +72,17 @@ pub(crate) fn last_of(cells: &[Cell], first: u32, count: usize) -> u32
     at
 }
 
-/// Copies a text out of its cells to the end of a buffer that has room for it.
+/// Copies the cells of a text to an empty buffer that has room for the text and one cell more. The bytes behind the text are
+/// what else its last cell holds.
 #[inline(always)]
 pub(crate) fn copy(out: &mut BytesMut, cells: &[Cell], first: u32, len: usize)
+    requires empty { out.old.items ≡ [] }
     requires short { len ≤ TEXT_LIMIT }
     requires some { 0 < len }
     requires lies { Lies cells.now first len }
-    requires room { len ≤ out.old.spare }
-    ensures { out.new.items ≡ out.old.items ++ text_at cells.now first len }
+    requires room { len + CELL ≤ out.old.spare }
+    ensures long { len ≤ length out.new.items }
+    ensures text { take len out.new.items ≡ text_at cells.now first len }
 {
     let mut at = first;
     let mut left = len;
@@ -90,5 +93,6 @@ pub(crate) fn copy(out: &mut BytesMut, cells: &[Cell], first: u32, len: usize)
         at = cell.next;
         left -= CELL;
     }
-    out.extend_reserved(&cells[at as usize].bytes[..left]);
+    let (piece, _none) = cells[at as usize].bytes.split_at(CELL);
+    out.extend_reserved(piece);
 }

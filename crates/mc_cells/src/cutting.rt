@@ -1,32 +1,44 @@
 //! Answers that are cut from pages.
-ghost use Rattle.std.specs.Prelude.{◌≡◌, ◌<◌, ◌≤◌, [], length, IfOk, OnOk};
+ghost use Rattle.std.specs.Prelude.{◌≡◌, ◌≤◌, [], IfOk, OnOk};
 ghost use Rattle.mc_cells.specs.declared.TheConstants.{PAGE, TEXT_LIMIT};
 
 use crate::chain::copy;
 use crate::keeping::Cells;
-use crate::{PAGE, TEXT_LIMIT};
+use crate::{CELL, PAGE, TEXT_LIMIT};
 use bytes::{Bytes, BytesMut};
 use std::alloc::{AllocError, Global};
+use std::mem::swap;
 
 /// A page that texts are copied to, one behind the other. Each is shared out as `Bytes` of its own, and the page lives as
-/// long as one of them does.
+/// long as one of them does. The page before it is used again once none of its texts is left.
 #[derive(Drop)]
 pub struct Page {
     alloc: Global,
     /// What is left of the page.
     block: BytesMut,
+    /// The page before it.
+    last: BytesMut,
     ghost empty: { block.items ≡ [] },
+    ghost last_empty: { last.items ≡ [] },
 }
 
-/// Makes room for so many bytes: in the page where no text of it is in use, or else in a new one.
+/// Makes room for so many bytes: in the other page where no text of it is left, or else in a new one.
 #[cold]
 #[inline(never)]
-fn turn(block: &mut BytesMut, alloc: Global, len: usize) -> Result<(), AllocError>
+fn turn(
+    block: &mut BytesMut,
+    last: &mut BytesMut,
+    alloc: Global,
+    len: usize,
+) -> Result<(), AllocError>
     requires empty { block.old.items ≡ [] }
+    requires last_empty { last.old.items ≡ [] }
     requires short { len ≤ PAGE }
     ensures empty { block.new.items ≡ [] }
+    ensures last_empty { last.new.items ≡ [] }
     ensures room { OnOk result (len ≤ block.new.spare) }
 {
+    swap(block, last);
     if !block.try_reclaim(len) {
         *block = BytesMut::with_capacity(alloc, PAGE)?;
     }
@@ -41,6 +53,7 @@ impl Page {
         Page {
             alloc,
             block: BytesMut::new(alloc),
+            last: BytesMut::new(alloc),
         }
     }
 
@@ -54,17 +67,12 @@ impl Page {
         if len == 0 {
             return Ok(Bytes::new());
         }
-        if self.block.capacity() < len {
-            turn(&mut self.block, self.alloc, len)?;
+        if self.block.capacity() < len + CELL {
+            turn(&mut self.block, &mut self.last, self.alloc, len + CELL)?;
         }
         copy(&mut self.block, &cells.all, first, len);
-        let end = self.block.len();
-        match self.block.freeze_to(end) {
-            Ok(text) => Ok(text),
-            Err(refused) => {
-                self.block.clear();
-                Err(refused)
-            }
-        }
+        let text = self.block.freeze_to(len);
+        self.block.clear();
+        text
     }
 }

@@ -1,10 +1,7 @@
-use Rattle.std.proofs.Common.{◌≡◌, ◌∙◌, ◌<◌, ℕ, List, [], length, take, drop, arith, sym}
+use Rattle.std.proofs.Common.{◌∙◌, length, arith, sym}
 use Rattle.std.proofs.lemmas.Bool.{eqb-true, eqb-false}
-use Rattle.mc_cells.specs.declared.chain.Cell.{Cell}
-use Rattle.mc_cells.specs.Chains.{next_of, behind, Wrote, Written}
-use Rattle.mc_cells.specs.Sizes.{cells_of}
 use Rattle.mc_cells.proofs.Chains.{Lies-first}
-use Rattle.mc_cells.proofs.Fills.{Filling, Filling-more, Filling-none, Filling-last, ends_none, ends_last}
+use Rattle.mc_cells.proofs.Fills.{Filling-more, Filling-none, Filling-last, ends_none, ends_last}
 use Rattle.mc_cells.proofs.chain.fill.Goals as goal
 
 pub write-at-requires-clause-there : goal.write-at-requires-clause-there
@@ -13,7 +10,9 @@ write-at-requires-clause-there c = Lies-first _ _ (length c.loop-left.left.now) 
 pub loop-left-preserved : goal.loop-left-preserved
 loop-left-preserved c =
     let wrote = rw c.split_at.ensures.front at c.write-at.ensures.wrote in
-    rw (c.write-at.ensures.next, c.split_at.ensures.back) (Filling-more c.args.cells.now c.loop-left.cells c.write-at.new.cells c.args.first c.loop-left.at c.args.text.now c.loop-left.left.now c.loop-left.invariant c.loop-left-test.true wrote)
+    rw (c.write-at.ensures.next, c.split_at.ensures.back) (Filling-more c.args.cells.now c.loop-left.cells
+    c.write-at.new.cells c.args.first c.loop-left.at c.args.text.now c.loop-left.left.now c.loop-left.invariant
+    c.loop-left-test.true wrote)
 
 pub returns-then-is_empty-clause-written : goal.returns-then-is_empty-clause-written
 returns-then-is_empty-clause-written c =

@@ -1,4 +1,4 @@
-use Rattle.std.proofs.Common.{◌≡◌, ◌+◌, ◌-◌, ◌<◌, ◌≤◌, ℕ, length}
+use Rattle.std.proofs.Common.{◌≡◌, ◌+◌, ◌-◌, ◌<◌, ℕ, length}
 use Rattle.mc_cells.specs.Chains.{behind, uses}
 use Rattle.mc_cells.proofs.chain.last_of.Given as goal
 

@@ -14,7 +14,8 @@ loop-init c = record {
 
 pub loop-preserved : goal.loop-preserved
 loop-preserved c = record {
-  kept = λ kept keeps. let before = c.loop.invariant.kept kept keeps in KeepsOn-then _ _ _ kept before (c.add_free.ensures.kept kept before.keeps);
+  kept = λ kept keeps. let before = c.loop.invariant.kept kept keeps in KeepsOn-then _ _ _ kept before
+      (c.add_free.ensures.kept kept before.keeps);
   free = omega (arith, c.loop.invariant.free, c.add_free.ensures.count);
   size = omega (arith, c.loop.invariant.size, c.add_free.ensures.size);
   room = omega (arith, c.loop.invariant.room, c.add_free.ensures.room);
