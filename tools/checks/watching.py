@@ -17,6 +17,7 @@ import shutil
 import socket
 import subprocess
 import sys
+import tempfile
 import threading
 import time
 import urllib.error
@@ -131,6 +132,15 @@ def each_connection_is_told():
             f"mcd: 127.0.0.1:{port} on seat 0: opened",
             f"mcd: 127.0.0.1:{port} on seat 0: its client quit; 4 commands, 36 bytes read, 34 bytes written",
         ])
+
+
+def a_client_of_a_unix_socket_is_told():
+    with tempfile.TemporaryDirectory() as folder, Server("--verbose", "--seats", 1, "--listen", f"unix:{folder}/mcd") as server:
+        with socket.socket(socket.AF_UNIX) as line:
+            line.connect(f"{folder}/mcd")
+            line.sendall(b"mn\r\nquit\r\n")
+            equal(line.recv(100), NO_OP_REPLY)
+            equal(told_of(server, 2), ["mcd: unix on seat 0: opened", "mcd: unix on seat 0: its client quit; 2 commands, 10 bytes read, 4 bytes written"])
 
 
 def each_connection_has_one_seat():
@@ -534,6 +544,36 @@ def those_who_wait_are_counted():
         eventually(found, [0, 0])
 
 
+def those_who_wait_anywhere_are_counted():
+    """At the second address too, and at a port of both addresses once."""
+    with Watched("--seats", 1, "--listen", "127.0.0.1:0") as server:
+        ports = [server.port, int(server.further[0].rpartition(":")[2])]
+        lines = []
+        try:
+            for there, port in enumerate((ports[0], ports[0], ports[1], ports[1], ports[1])):
+                lines.append(Line(port))
+                eventually(lambda: server.values()["mcd_connections_waiting"], there)
+        finally:
+            for line in lines:
+                line.close()
+
+
+def those_who_are_refused_are_counted():
+    """By memcached's rules, beside two that are served."""
+    with Watched("--drop-in", "--seats", 2) as server, Line(server.port) as first, Line(server.port) as second:
+        for line in (first, second):
+            line.ask(NO_OP, NO_OP_REPLY)
+        equal(server.values()["mcd_connections_rejected_total"], 0)
+        for count in (1, 2):
+            eventually(lambda: refused_at_once(server.port), True)
+            eventually(lambda: server.values()["mcd_connections_rejected_total"], count)
+
+
+def refused_at_once(port):
+    with Line(port) as line:
+        return line.rest() == b"ERROR Too many open connections\r\n"
+
+
 # What is asked, what is answered, and which counts that moves: the kind of command and what came of it.
 ASKED = [
     (b"set a 0 0 1\r\n7\r\n", b"STORED\r\n", "set hit"),
@@ -678,13 +718,14 @@ def bad_http_harms_nobody():
 
 CHECKS = [
     an_idle_client_is_closed, one_that_never_sent_is_closed, one_that_sends_stays, none_is_closed_unasked, one_amid_a_block_is_closed,
-    one_that_takes_nothing_is_closed, dead_connections_free_their_seats, each_connection_is_told, each_connection_has_one_seat, one_that_breaks_is_told,
+    one_that_takes_nothing_is_closed, dead_connections_free_their_seats, each_connection_is_told, a_client_of_a_unix_socket_is_told, each_connection_has_one_seat, one_that_breaks_is_told,
     one_that_is_idle_is_told, each_reason_is_told_and_counted,
     all_seats_taken_is_told, the_journal_gets_priorities, no_line_is_lost_at_2000_connections_a_second, vanished_clients_are_asked_for,
     what_finds_no_room_is_counted, an_accept_that_fails_is_told, each_counter_follows_a_conversation,
     no_count_is_lost, the_page_shows_what_is_counted, the_page_has_a_peak, the_hit_ratio_is_a_percentage, the_page_has_axes_and_limits,
     the_page_names_its_server, the_page_stands_alone, the_page_shows_the_process,
-    the_process_is_measured, open_files_are_counted, the_most_open_files_are_the_limit, those_who_wait_are_counted, each_command_is_counted_by_what_came_of_it, items_and_evictions_are_told,
+    the_process_is_measured, open_files_are_counted, the_most_open_files_are_the_limit, those_who_wait_are_counted, those_who_wait_anywhere_are_counted, those_who_are_refused_are_counted,
+    each_command_is_counted_by_what_came_of_it, items_and_evictions_are_told,
     the_version_is_the_programs, promtool_reads_the_text, the_other_pages, it_is_told_to_this_machine_alone, a_taken_address_is_told,
     bad_http_harms_nobody,
 ]

@@ -1,10 +1,11 @@
 //! Where connections are accepted: at an address of TCP, or at a path.
 use crate::socket::Socket;
 use mc_wake::Wakers;
+use mc_watch::Peer;
 use mio::net::{TcpListener, UnixListener, UnixStream};
 use std::fs::{Files, Permissions};
 use std::io::ErrorKind;
-use std::net::{Ipv4Addr, Net, SocketAddr, SocketAddrV4};
+use std::net::{Net, SocketAddr};
 use std::os::unix::fs::{FileTypeExt, PermissionsExt};
 use std::{fs, io, net};
 
@@ -57,23 +58,18 @@ impl Listener {
     }
 
     /// The next connection, and whose it is: of a Unix socket's clients nothing is known. `WouldBlock` where none has come.
-    pub(crate) fn accept(&self) -> io::Result<(Socket, SocketAddr)> {
+    pub(crate) fn accept(&self) -> io::Result<(Socket, Peer)> {
         match self {
             Listener::Tcp(listener) => {
                 let (stream, peer) = listener.accept()?;
-                Ok((Socket::Tcp(stream), peer))
+                Ok((Socket::Tcp(stream), Peer::At(peer)))
             }
             Listener::Unix(listener) => {
                 let (stream, _) = listener.accept()?;
-                Ok((Socket::Unix(stream), nowhere()))
+                Ok((Socket::Unix(stream), Peer::Unix))
             }
         }
     }
-}
-
-/// The address of a client that has none.
-fn nowhere() -> SocketAddr {
-    SocketAddr::V4(SocketAddrV4::new(Ipv4Addr::UNSPECIFIED, 0))
 }
 
 /// Removes a socket at which nobody listens any more.

@@ -42,7 +42,7 @@ module _ {C : Type 0} (told : C → ℕ → Type 0) where
   -- read count who waits, and what its process uses the system said
   abbrev pub AreMetrics : Facts → Counts C → ℕ → List ℕ → Type 0
   AreMetrics facts counts uptime text =
-      (totals : Totals) × (waiting : ℕ) × (process : Process) × AreTotals told counts totals × AreWaiting facts.port waiting
+      (totals : Totals) × (waiting : ℕ) × (process : Process) × AreTotals told counts totals × AreWaiting facts.ports.now waiting
       × (text ≡ metrics_text (record { facts = facts; totals = totals; waiting = waiting; uptime = uptime; process = process }))
 
   -- the text at the target: the metrics, and behind them what each shard's own counters told. No clause says what the page shows.

@@ -7,8 +7,8 @@ use mc_watch::Totals;
 pub struct Facts {
     /// The version of the program.
     pub version: &'static str,
-    /// The port at which it listens for clients.
-    pub port: u16,
+    /// The ports at which it listens for clients, each once, that of the first place first.
+    pub ports: &'static [u16],
     /// How many shards there are; each has a thread.
     pub shards: u64,
     /// How many connections are served at a time.

@@ -28,6 +28,7 @@ enum Number {
     Accepted,
     Broken,
     Failed,
+    Rejected,
     Commands,
     Read,
     Written,
@@ -72,7 +73,7 @@ const GAUGE: &str = "gauge";
 const COUNTER: &str = "counter";
 
 /// All metrics of one number, in the order in which they are told. Those with names that memcached's exporter has mean the same.
-const METRICS: [Metric; 21] = [
+const METRICS: [Metric; 22] = [
     Metric {
         name: "memcached_up",
         kind: GAUGE,
@@ -132,6 +133,12 @@ const METRICS: [Metric; 21] = [
         kind: COUNTER,
         help: "Failed attempts to accept a connection.",
         number: Number::Failed,
+    },
+    Metric {
+        name: "mcd_connections_rejected_total",
+        kind: COUNTER,
+        help: "Connections refused because all seats were taken.",
+        number: Number::Rejected,
     },
     Metric {
         name: "mcd_commands_total",
@@ -392,6 +399,7 @@ impl Number {
             Number::Accepted => reading.totals.accepted,
             Number::Broken => reading.totals.broken,
             Number::Failed => reading.totals.failed,
+            Number::Rejected => reading.totals.rejected,
             Number::Commands => reading.totals.commands,
             Number::Read => reading.totals.read,
             Number::Written => reading.totals.written,

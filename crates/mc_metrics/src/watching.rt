@@ -83,7 +83,7 @@ pub enum Ended {
     Cut,
 }
 
-/// Starts to watch what is wished of a server of this version at this port, of these sizes: what the server has to tell, and
+/// Starts to watch what is wished of a server of this version at these ports, of these sizes: what the server has to tell, and
 /// the threads that tell it on.
 pub fn start_watching<
     R: Threads
@@ -101,7 +101,7 @@ pub fn start_watching<
 >(
     rt: &R,
     version: &'static str,
-    port: u16,
+    ports: &'static [u16],
     sizes: Sizes,
     wishes: Wishes<'_>,
 ) -> Result<(Watch, Watching), NotWatching>
@@ -111,7 +111,7 @@ pub fn start_watching<
         tellers: Vec::new(rt.alloc()),
         shutdown: None,
     };
-    match watching.begin(rt, version, port, sizes, wishes) {
+    match watching.begin(rt, version, ports, sizes, wishes) {
         Ok(watch) => Ok((watch, watching)),
         Err(fault) => {
             let _ = watching.end(rt);
@@ -138,13 +138,13 @@ impl Watching {
         &mut self,
         rt: &R,
         version: &'static str,
-        port: u16,
+        ports: &'static [u16],
         sizes: Sizes,
         wishes: Wishes<'_>,
     ) -> Result<Watch, NotWatching>
         ensures { IfOk result (λ watch. AreFollowed wishes.entry sizes watch) }
     {
-        let facts = facts_of(version, port, started(rt), sizes);
+        let facts = facts_of(version, ports, started(rt), sizes);
         let prefix = prefix_of(wishes.is_journal);
         Ok(Watch {
             idle_limit: idle_limit_of(rt.alloc(), wishes.idle_timeout)?,
@@ -222,7 +222,7 @@ impl Watching {
         let Some(word) = word else {
             return Ok(None);
         };
-        let counts = Counts::new(rt.alloc(), shards)?;
+        let counts = Counts::new(rt.alloc(), shards, shards)?;
         let pages = Pages::new(rt, rt.alloc(), facts, &counts)?;
         self.tell_metrics(rt, word, pages)?;
         Ok(Some(counts))
@@ -320,9 +320,14 @@ fn idle_limit_of(alloc: Global, limit: Option<u64>) -> Result<Option<IdleLimit>,
 }
 
 /// What is told of the server beside what it counts.
-fn facts_of(version: &'static str, port: u16, started: u64, sizes: Sizes) -> Facts
+fn facts_of(
+    version: &'static str,
+    ports: &'static [u16],
+    started: u64,
+    sizes: Sizes,
+) -> Facts
     ensures version { result.version.now ≡ version.now }
-    ensures port { result.port ≡ port }
+    ensures ports { result.ports.now ≡ ports.now }
     ensures started { result.started ≡ started }
     ensures shards { result.shards ≡ sizes.shards }
     ensures seats { result.seats ≡ sizes.seats }
@@ -331,7 +336,7 @@ fn facts_of(version: &'static str, port: u16, started: u64, sizes: Sizes) -> Fac
     let shards = sizes.shards as u64;
     Facts {
         version,
-        port,
+        ports,
         shards,
         seats: sizes.seats as u64,
         limit_bytes: shards.saturating_mul(sizes.bytes as u64),

@@ -1,12 +1,12 @@
 -- What is reported of a connection that is served no more.
 use Rattle.std.specs.Prelude.{ℕ}
-use Rattle.std.specs.declared.net.socket_addr.SocketAddr.{SocketAddr}
 use Rattle.mc_watch.specs.declared.event.ConnectionEvent.TheVariants.{Closed}
+use Rattle.mc_watch.specs.declared.event.Peer.{Peer}
 use Rattle.mc_watch.specs.declared.meter.Meter.{Meter}
 use Rattle.mc_watch.specs.declared.reporter.Reporter.{Reporter}
 use Rattle.mc_watch.specs.Reports.{Tells}
 
 -- it was reported with its peer and its seat, how many commands it took, and why it ended and how many bytes it moved by its meter
-abbrev pub TellsClosed : {C : Type 0} → SocketAddr → ℕ → Meter C → ℕ → Reporter → Reporter → Type 0
+abbrev pub TellsClosed : {C : Type 0} → Peer → ℕ → Meter C → ℕ → Reporter → Reporter → Type 0
 TellsClosed peer seat meter commands old new =
     Tells old (Closed peer seat meter.manner commands meter.read meter.written) new

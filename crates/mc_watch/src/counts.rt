@@ -52,6 +52,8 @@ pub struct EntranceCounts<C = Counter> {
     pub accepted: C,
     /// Accepts that failed.
     pub failed: C,
+    /// Connections that were refused, since all seats were taken.
+    pub rejected: C,
 }
 
 /// How many connections have ended, by the reasons of `EndCounts`.
@@ -73,6 +75,8 @@ pub struct Totals {
     pub accepted: u64,
     /// Accepts that failed.
     pub failed: u64,
+    /// Connections that were refused, since all seats were taken.
+    pub rejected: u64,
     /// Connections that have ended, those that broke among them.
     pub ended: u64,
     /// Connections that broke or were idle for too long.
@@ -193,19 +197,21 @@ impl Totals {
 }
 
 impl Counts<Counter> {
-    /// Nothing was counted yet, by `threads` threads that serve, each with a shard, and the one that accepts.
-    pub fn new(alloc: Global, threads: usize) -> Result<Counts, AllocError>
+    /// Nothing was counted yet, by `threads` threads that serve, `shards` shards that show what they hold, and the thread that
+    /// accepts.
+    pub fn new(alloc: Global, threads: usize, shards: usize) -> Result<Counts, AllocError>
         ensures threads { IfOk result (λ counts. length counts.threads.items ≡ threads) }
-        ensures shards { IfOk result (λ counts. shard_count counts ≡ threads) }
+        ensures shards { IfOk result (λ counts. shard_count counts ≡ shards) }
     {
         let entrance = EntranceCounts {
             accepted: Counter::new(),
             failed: Counter::new(),
+            rejected: Counter::new(),
         };
         let mut counts = Counts {
             entrance: Arc::new(alloc, CachePadded::new(entrance))?,
             threads: Vec::with_capacity(alloc, threads)?,
-            shards: new_shards(alloc, threads)?,
+            shards: new_shards(alloc, shards)?,
         };
         for _ in 0..threads {
             let thread = Arc::new(alloc, CachePadded::new(SeatCounts::new()))?;
@@ -277,6 +283,7 @@ impl<C: Count> Counts<C> {
         }
         totals.accepted = self.entrance.accepted.get();
         totals.failed = self.entrance.failed.get();
+        totals.rejected = self.entrance.rejected.get();
         totals.shards = ShardTotals::default().and_each(&self.shards);
         totals
     }

@@ -29,17 +29,26 @@ pub enum Manner {
     Shutdown,
 }
 
+/// Who a connection comes from.
+#[derive(Clone, Copy)]
+pub enum Peer {
+    /// A client at this address.
+    At(SocketAddr),
+    /// A client of a Unix socket, of which no more is known.
+    Unix,
+}
+
 /// What happened.
 #[derive(Clone, Copy)]
 pub enum ConnectionEvent {
     /// A connection is served from now on.
     Opened {
-        peer: SocketAddr,
+        peer: Peer,
         seat: usize,
     },
     /// A connection is served no more.
     Closed {
-        peer: SocketAddr,
+        peer: Peer,
         seat: usize,
         manner: Manner,
         /// How many commands it took.
@@ -86,6 +95,20 @@ impl fmt::Display for Manner {
             Manner::NoMemory => "no memory was left for its replies",
             Manner::Shutdown => "the server ends",
         })
+    }
+}
+
+impl fmt::Display for Peer {
+    ghost use Rattle.std.specs.Prelude.{Some};
+    ghost use Rattle.mc_watch.specs.EventText.{peer_text};
+
+    ghost output = { λ peer. Some (peer_text peer) };
+
+    fn fmt<W: fmt::Write>(&self, f: &mut fmt::Formatter<W>) -> fmt::Result {
+        match self {
+            Peer::At(address) => address.fmt(f),
+            Peer::Unix => f.write_str("unix"),
+        }
     }
 }
 

@@ -9,7 +9,7 @@ ghost use Rattle.mc_watch.specs.declared.event.ConnectionEvent.TheVariants.{NotA
 
 use crate::counter::{Count, Counter};
 use crate::counts::{Counts, EntranceCounts, SeatCounts};
-use crate::event::ConnectionEvent;
+use crate::event::{ConnectionEvent, Peer};
 use crate::meter::Meter;
 use crate::pulse::{Pulse, Seconds};
 use crate::reporter::Reporter;
@@ -17,7 +17,6 @@ use crate::shard_counts::ShardCounts;
 use crate::shutdown::{Drain, Shutdown};
 use crossbeam_utils::CachePadded;
 use std::alloc::{AllocError, Global};
-use std::net::SocketAddr;
 use std::sync::Arc;
 
 /// How long a connection may be idle.
@@ -61,7 +60,7 @@ pub struct SeatWatch<C = Counter> {
     shutdown: Option<Shutdown<C>>,
     reporter: Reporter,
     /// Who the last connection came from.
-    peer: Option<SocketAddr>,
+    peer: Option<Peer>,
 }
 
 impl<C: Drop> Drop for SeatWatch<C> {
@@ -237,7 +236,7 @@ impl<C: Count> Watch<C> {
 
 impl<C: Count> SeatWatch<C> {
     /// A connection of this peer is served from now on. What it measures of itself.
-    pub fn open(&mut self, peer: SocketAddr) -> Meter<C>
+    pub fn open(&mut self, peer: Peer) -> Meter<C>
         ensures read { result.read ≡ 0 }
         ensures written { result.written ≡ 0 }
         ensures commands { result.commands ≡ 0 }
@@ -340,6 +339,17 @@ impl<C: Count> EntranceWatch<C> {
         }
     }
 
+    /// A connection was accepted and refused, since all seats are taken.
+    pub fn rejected(&mut self)
+        ensures counted { IfSome self.old.counts
+            (λ counts. C.was_added (shared_value counts).rejected 1) }
+        ensures same { self.new ≡ self.old }
+    {
+        if let Some(counts) = &self.counts {
+            counts.rejected.add(1);
+        }
+    }
+
     /// None could be accepted, for the reason of this number, if the system told one.
     pub fn failed(&mut self, fault: Option<i32>)
         ensures counted { IfSome self.old.counts
@@ -371,12 +381,7 @@ impl<C: Count> EntranceWatch<C> {
 }
 
 /// What is reported of a connection that is served no more.
-fn closed<C: Count>(
-    peer: SocketAddr,
-    seat: usize,
-    commands: u64,
-    meter: &Meter<C>,
-) -> ConnectionEvent
+fn closed<C: Count>(peer: Peer, seat: usize, commands: u64, meter: &Meter<C>) -> ConnectionEvent
     ensures { result ≡
         ConnectionEvent.Closed peer seat meter.now.manner commands meter.now.read
         meter.now.written }

@@ -47,12 +47,12 @@ pub fn listen<
     let Opened {
         listeners,
         names,
-        port,
+        ports,
     } = match Opened::at(rt, places) {
         Ok(opened) => opened,
         Err(status) => return status,
     };
-    let (watch, watching) = match start_watching(rt, VERSION, port, sizes, wishes) {
+    let (watch, watching) = match start_watching(rt, VERSION, ports.leak(), sizes, wishes) {
         Ok(begun) => begun,
         Err(fault) => return refuse_watching(rt, fault, sizes.shards, wishes.metrics),
     };
