@@ -559,14 +559,25 @@ def those_who_wait_anywhere_are_counted():
 
 
 def those_who_are_refused_are_counted():
-    """By memcached's rules, beside two that are served."""
+    """By memcached's rules: in the metrics, and by `stats`, which shows the same of all connections."""
     with Watched("--drop-in", "--seats", 2) as server, Line(server.port) as first, Line(server.port) as second:
         for line in (first, second):
             line.ask(NO_OP, NO_OP_REPLY)
-        equal(server.values()["mcd_connections_rejected_total"], 0)
-        for count in (1, 2):
-            eventually(lambda: refused_at_once(server.port), True)
-            eventually(lambda: server.values()["mcd_connections_rejected_total"], count)
+        eventually(lambda: refused_at_once(server.port), True)
+        eventually(lambda: refused_at_once(server.port), True)
+        eventually(lambda: server.values()["mcd_connections_rejected_total"] >= 2, True)
+        shown, values = stats_of(first), server.values()
+        equal(int(shown[b"rejected_connections"]), values["mcd_connections_rejected_total"])
+        equal((int(shown[b"curr_connections"]), int(shown[b"total_connections"]), int(shown[b"max_connections"])), (2, 2, 2))
+
+
+def stats_of(line):
+    """What `stats` shows, by name."""
+    line.send(b"stats\r\n")
+    text = b""
+    while not text.endswith(b"END\r\n"):
+        text += line.socket.recv(1 << 16)
+    return dict(re.findall(rb"STAT (\w+) (\S+)\r\n", text))
 
 
 def refused_at_once(port):

@@ -28,7 +28,9 @@ import random
 import re
 import shutil
 import socket
+import subprocess
 import sys
+import time
 
 import counted
 from run import free_port, install, is_up, say, skip, told
@@ -44,8 +46,12 @@ FOR_A_PROXY = [b"P", b"L"]
 ALL_SECONDS = 560
 
 
-# What `stats` counts by itself on one of the servers: what is held, when memcached's own threads remove what is dead.
-NOT_COUNTED = {"limit_maxbytes", "bytes", "curr_items", "evictions", "threads"}
+# What `stats` shows of the server, and of its traffic, which the commands that read it are a part of.
+OF_SERVER = {
+    "pid", "uptime", "time", "max_connections", "curr_connections", "total_connections", "rejected_connections", "bytes_read", "bytes_written",
+}
+# What it counts by itself on one of the servers: what is held, when memcached's own threads remove what is dead.
+NOT_COUNTED = {"limit_maxbytes", "bytes", "curr_items", "evictions", "threads"} | OF_SERVER
 
 
 class Peer:
@@ -412,6 +418,7 @@ def main():
     bounded(ALL_SECONDS)
     if asked.drop_in:
         judge_rows()
+        judge_server()
     if shutil.which("memcached"):
         with concurrent.futures.ProcessPoolExecutor(initializer=bounded, initargs=(ALL_SECONDS,)) as at_once:
             for lines, unnamed in at_once.map(sent_twice, *zip(*((asked, seed) for seed in asked.seed))):
@@ -453,6 +460,49 @@ def judge_rows():
                 failed.append(f"  {row[0]}: {[shown(reply) for reply, _ in found]}, {grown} in place of {wanted}")
     print(*failed, sep="\n", end="\n" if failed else "")
     say(not failed, f"{len(counted.ROWS) - len(failed)} kinds of commands count as they do in memcached, {len(failed)} don't")
+
+
+def server_shown(port, process):
+    """What `stats` shows of a server: its names, and by how much connections and traffic grew while another client came and stayed."""
+    peer = Peer(port)
+    began = peer.ask(b"stats\r\n")
+    other = Peer(port)
+    sent = b"mn\r\n" + FENCE
+    other.socket.sendall(sent)
+    got = other.replies(1)[0]
+    ended = peer.ask(b"stats\r\n")
+    first, last = shown_counters(began), shown_counters(ended)
+    grown = {name: last[name] - first[name] for name in ("curr_connections", "total_connections", "bytes_read", "bytes_written")}
+    grown["bytes_read"] -= len(sent) + len(b"stats\r\n" + FENCE)
+    grown["bytes_written"] -= len(began) + len(got) + 2 * len(FENCE_REPLY)
+    shown = {
+        **grown,
+        "pid": last["pid"] == process.pid,
+        "time": abs(last["time"] - time.time()) <= 2,
+        "uptime": last["uptime"] <= 60,
+        "max_connections": last["max_connections"],
+        "rejected_connections": last["rejected_connections"],
+        "CPU time": len(re.findall(rb"STAT rusage_(?:user|system) \d+\.\d{6}\r\n", ended)),
+    }
+    return [name.decode() for name in re.findall(rb"STAT (\w+) ", ended)], shown
+
+
+def judge_server():
+    """Compares what `stats` shows of the two servers themselves: the same names in the same order, and the same numbers."""
+    with Server("--drop-in", "-c", "64") as ours:
+        names, shown = server_shown(ours.port, ours.process)
+    if not shutil.which("memcached"):
+        return
+    port = free_port()
+    process = subprocess.Popen(["memcached", "-u", "nobody", "-l", "127.0.0.1", "-p", str(port), "-c", "64", "-t", "1"])
+    try:
+        say(is_up(port), "memcached listens")
+        theirs, wanted = server_shown(port, process)
+    finally:
+        process.kill()
+        process.wait()
+    say([name for name in theirs if name in names] == names, "`stats` has its names in memcached's order")
+    say(shown == wanted, f"`stats` shows of the server {shown} and memcached {wanted}")
 
 
 def sent_twice(asked, seed):

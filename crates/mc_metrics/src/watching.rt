@@ -1,7 +1,6 @@
 //! What is watched of a server, as who runs it wishes, and the threads that tell it.
-ghost use Rattle.std.specs.Prelude.{◌≡◌, ◌*◌, ◌-◌, ◌^◌, IfOk, IfSome, length, min, option_map};
-ghost use Rattle.mc_watch.specs.Counts.{shard_count, threads_of};
-ghost use Rattle.mc_metrics.specs.Wishes.{AreFollowed, reporter_count};
+ghost use Rattle.std.specs.Prelude.{◌≡◌, ◌*◌, ◌-◌, ◌^◌, false, IfOk, IfSome, is_some, length, min, option_map};
+ghost use Rattle.mc_metrics.specs.Wishes.{AreCounted, AreFollowed, reporter_count};
 
 use crate::address::address_of;
 use crate::pages::Pages;
@@ -149,7 +148,7 @@ impl Watching {
         Ok(Watch {
             idle_limit: idle_limit_of(rt.alloc(), wishes.idle_timeout)?,
             reporters: self.reporters(rt, wishes.verbose, prefix, sizes.seats)?,
-            counts: self.counts(rt, wishes.metrics, facts, sizes.shards)?,
+            counts: self.counts(rt, wishes.metrics, facts, sizes)?,
             drain: self.drain(rt, wishes.drain)?,
         })
     }
@@ -192,7 +191,8 @@ impl Watching {
         Ok(all)
     }
 
-    /// What the threads of this many shards count, and a thread that tells it at the address of the word, where there is one.
+    /// What the threads of a server of these sizes count, where there are metrics or memcached's rules hold, whose `stats` shows
+    /// some of it. A thread tells it at the address of the word, if there is one; else no shard shows what it holds.
     fn counts<
         R: Threads
             + Wait
@@ -211,18 +211,14 @@ impl Watching {
         rt: &R,
         word: Option<&str>,
         facts: Facts,
-        shards: usize,
+        sizes: Sizes,
     ) -> Result<Option<Counts>, NotWatching>
-        ensures counted { IfOk result (λ counts.
-            option_map (λ all. length (threads_of all)) counts ≡
-            option_map (λ _. shards) word.entry) }
-        ensures shown { IfOk result (λ counts.
-            option_map (λ all. shard_count all) counts ≡ option_map (λ _. shards) word.entry) }
+        ensures { IfOk result (λ counts. AreCounted (is_some word.entry) sizes counts) }
     {
         let Some(word) = word else {
-            return Ok(None);
+            return counts_of_stats(rt.alloc(), sizes);
         };
-        let counts = Counts::new(rt.alloc(), shards, shards)?;
+        let counts = Counts::new(rt.alloc(), sizes.shards, sizes.shards)?;
         let pages = Pages::new(rt, rt.alloc(), facts, &counts)?;
         self.tell_metrics(rt, word, pages)?;
         Ok(Some(counts))
@@ -319,13 +315,18 @@ fn idle_limit_of(alloc: Global, limit: Option<u64>) -> Result<Option<IdleLimit>,
     Ok(Some(IdleLimit { seconds, limit }))
 }
 
+/// What the threads count where there are no metrics: what `stats` shows by memcached's rules, and nothing by the server's own.
+fn counts_of_stats(alloc: Global, sizes: Sizes) -> Result<Option<Counts>, NotWatching>
+    ensures { IfOk result (λ counts. AreCounted false sizes counts) }
+{
+    if !sizes.rules().is_drop_in() {
+        return Ok(None);
+    }
+    Ok(Some(Counts::new(alloc, sizes.shards, 0)?))
+}
+
 /// What is told of the server beside what it counts.
-fn facts_of(
-    version: &'static str,
-    ports: &'static [u16],
-    started: u64,
-    sizes: Sizes,
-) -> Facts
+fn facts_of(version: &'static str, ports: &'static [u16], started: u64, sizes: Sizes) -> Facts
     ensures version { result.version.now ≡ version.now }
     ensures ports { result.ports.now ≡ ports.now }
     ensures started { result.started ≡ started }

@@ -2,6 +2,7 @@
 //! moment are they more than the longest line and the largest block.
 use crate::escape::unescape;
 use mc_conn::{Conn, Taken};
+use mc_reply::ServerStats;
 use mc_wire::{DEFAULT_LINE_LIMIT, DEFAULT_VALUE_LIMIT, GREATEST_VALUE_LIMIT, LEAST_VALUE_LIMIT};
 use std::alloc::Global;
 
@@ -118,7 +119,7 @@ impl Watched {
     /// Takes commands until none is opened.
     fn take_all(&mut self, alloc: Global) {
         for _ in 0..=MANY {
-            let taken = self.conn.take(alloc, MOMENT);
+            let taken = self.conn.take(alloc, MOMENT, &ServerStats::none());
             self.look();
             if !matches!(taken, Taken::Opened(_)) {
                 return;
