@@ -89,8 +89,8 @@ def equal(found, wanted):
         raise AssertionError(f"{found!r:.160} in place of {wanted!r:.160}")
 
 
-# The line of a server that listens.
-LISTENING = re.compile(r"mcd \S+: (?:own rules|memcached's rules), \d+ threads, \d+ MiB, listening on 127\.0\.0\.1:(\d+)\n")
+# The line of a server that listens, at further places too.
+LISTENING = re.compile(r"mcd \S+: (?:own rules|memcached's rules), \d+ threads, \d+ MiB, listening on 127\.0\.0\.1:(\d+)((?:, \S+)*)\n")
 
 
 class Server:
@@ -109,6 +109,7 @@ class Server:
                 raise AssertionError(f"the server says {self.before} and no address that it listens on")
             self.before.append(told.rstrip("\n"))
         self.port = int(found[1])
+        self.further = found[2].split(", ")[1:]
 
     def line_said(self):
         """The next line on standard error, or nothing where none comes."""

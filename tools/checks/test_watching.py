@@ -13,6 +13,7 @@ import select
 import shutil
 import socket
 import subprocess
+import tempfile
 import threading
 import time
 import urllib.error
@@ -132,6 +133,17 @@ def test_each_connection_is_told():
             assert line.rest() == b""
         assert told_of(server, 2) == [f"mcd: 127.0.0.1:{port} on seat 0: opened",
                                       f"mcd: 127.0.0.1:{port} on seat 0: its client quit; 4 commands, 36 bytes read, 34 bytes written"]
+
+
+@fails_with("ignores that it is to be verbose")
+def test_a_client_of_a_unix_socket_is_told():
+    with tempfile.TemporaryDirectory() as folder, Server("--verbose", "--seats", 1, "--listen", f"unix:{folder}/mcd") as server:
+        with socket.socket(socket.AF_UNIX) as line:
+            line.connect(f"{folder}/mcd")
+            line.sendall(b"mn\r\nquit\r\n")
+            assert line.recv(100) == NO_OP_REPLY
+            assert told_of(server, 2) == ["mcd: unix on seat 0: opened",
+                                          "mcd: unix on seat 0: its client quit; 2 commands, 10 bytes read, 4 bytes written"]
 
 
 @fails_with("ignores that it is to be verbose", "asks more than its clients")
@@ -556,6 +568,49 @@ def test_those_who_wait_are_counted():
             for line in lines:
                 line.close()
         eventually(found, [0, 0])
+
+
+@fails_with("counts otherwise")
+def test_those_who_wait_anywhere_are_counted():
+    """At the second address too, and at a port of both addresses once."""
+    with Watched("--seats", 1, "--listen", "127.0.0.1:0") as server:
+        ports = [server.port, int(server.further[0].rpartition(":")[2])]
+        lines = []
+        try:
+            for there, port in enumerate((ports[0], ports[0], ports[1], ports[1], ports[1])):
+                lines.append(Line(port))
+                eventually(lambda: server.values()["mcd_connections_waiting"], there)
+        finally:
+            for line in lines:
+                line.close()
+
+
+@fails_with("counts otherwise")
+def test_those_who_are_refused_are_counted():
+    """By memcached's rules: in the metrics, and by `stats`, which shows the same of all connections."""
+    with Watched("--drop-in", "--seats", 2) as server, Line(server.port) as first, Line(server.port) as second:
+        for line in (first, second):
+            line.ask(NO_OP, NO_OP_REPLY)
+        eventually(lambda: refused_at_once(server.port), True)
+        eventually(lambda: refused_at_once(server.port), True)
+        eventually(lambda: server.values()["mcd_connections_rejected_total"] >= 2, True)
+        shown, values = stats_of(first), server.values()
+        assert int(shown[b"rejected_connections"]) == values["mcd_connections_rejected_total"]
+        assert (int(shown[b"curr_connections"]), int(shown[b"total_connections"]), int(shown[b"max_connections"])) == (2, 2, 2)
+
+
+def stats_of(line):
+    """What `stats` shows, by name."""
+    line.send(b"stats\r\n")
+    text = b""
+    while not text.endswith(b"END\r\n"):
+        text += line.socket.recv(1 << 16)
+    return dict(re.findall(rb"STAT (\w+) (\S+)\r\n", text))
+
+
+def refused_at_once(port):
+    with Line(port) as line:
+        return line.rest() == b"ERROR Too many open connections\r\n"
 
 
 # What is asked, what is answered, and which counts that moves: the kind of command and what came of it.

@@ -20,6 +20,7 @@ import contextlib
 import re
 import shutil
 import socket
+import time
 
 import hypothesis
 import pytest
@@ -37,8 +38,12 @@ TOO_LARGE = 1024 * 1024 + 1
 # No item lies under this key: the reply to this command ends that of the command before it.
 FENCE, FENCE_REPLY = b"mg nothing Othe-end\r\n", b"EN Othe-end\r\n"
 
-# What `stats` counts by itself on one of the servers: what is held, when memcached's own threads remove what is dead.
-NOT_COUNTED = {"limit_maxbytes", "bytes", "curr_items", "evictions", "threads"}
+# What `stats` shows of the server, and of its traffic, which the commands that read it are a part of.
+OF_SERVER = {
+    "pid", "uptime", "time", "max_connections", "curr_connections", "total_connections", "rejected_connections", "bytes_read", "bytes_written",
+}
+# What it counts by itself on one of the servers: what is held, when memcached's own threads remove what is dead.
+NOT_COUNTED = {"limit_maxbytes", "bytes", "curr_items", "evictions", "threads"} | OF_SERVER
 
 
 class Peer:
@@ -401,6 +406,44 @@ def test_a_kind_of_command_counts_as_in_memcached(both, row):
     grown = [{name: by for name, by in growth.items() if name in names} for _, growth in found]
     assert grown == [dict(counted.grown_by(words)) for words in counted.wanted(row)][: len(peers)]
     assert is_same(found[0][0], found[-1][0]) or difference(True, row[2], found[0][0], found[-1][0]) is not None
+
+
+def server_shown(port, process):
+    """What `stats` shows of a server: its names, and by how much connections and traffic grew while another client came and stayed."""
+    peer = Peer(port)
+    began = peer.ask(b"stats\r\n")
+    other = Peer(port)
+    sent = b"mn\r\n" + FENCE
+    other.socket.sendall(sent)
+    got = other.replies(1)[0]
+    ended = peer.ask(b"stats\r\n")
+    first, last = shown_counters(began), shown_counters(ended)
+    grown = {name: last[name] - first[name] for name in ("curr_connections", "total_connections", "bytes_read", "bytes_written")}
+    grown["bytes_read"] -= len(sent) + len(b"stats\r\n" + FENCE)
+    grown["bytes_written"] -= len(began) + len(got) + 2 * len(FENCE_REPLY)
+    shown = {
+        **grown,
+        "pid": last["pid"] == process.pid,
+        "time": abs(last["time"] - time.time()) <= 2,
+        "uptime": last["uptime"] <= 60,
+        "max_connections": last["max_connections"],
+        "rejected_connections": last["rejected_connections"],
+        "CPU time": len(re.findall(rb"STAT rusage_(?:user|system) \d+\.\d{6}\r\n", ended)),
+    }
+    return [name.decode() for name in re.findall(rb"STAT (\w+) ", ended)], shown
+
+
+@pytest.mark.skipif(not shutil.which("memcached"), reason="memcached isn't installed")
+def test_stats_shows_the_server_as_memcached_does():
+    """The names of the process, its connections and its traffic, in memcached's order, and the same numbers."""
+    with Server("--drop-in", "-c", "64") as ours:
+        names, shown = server_shown(ours.port, ours.process)
+    port = free_port()
+    with running(["memcached", "-u", "nobody", "-l", "127.0.0.1", "-p", str(port), "-c", "64", "-t", "1"]) as process:
+        assert is_up(port)
+        theirs, wanted = server_shown(port, process)
+    assert [name for name in theirs if name in names] == names
+    assert shown == wanted
 
 
 @pytest.mark.fails_with("changes a byte")

@@ -10,16 +10,16 @@ use Rattle.mc_ring.specs.Reply.{Shown}
 use Rattle.mc_split.specs.declared.plan.Piece.{Piece}
 use Rattle.mc_reply.specs.declared.ticket.Ticket.{Ticket}
 use Rattle.mc_split.specs.Pieces.{pieces_of}
-use Rattle.mc_split.specs.Plan.{form_of, no_answers}
+use Rattle.mc_split.specs.Plan.{no_answers}
 use Rattle.mc_join.specs.Replies.{answer_to, slots_after}
 use Rattle.mc_join.proofs.Answered.{answer_to-fresh, answer_to-none, answer_to-other, is_to-other_part, is_to-other_ticket, is_to-same}
 use Rattle.mc_conn.specs.History.{Taken, planned}
-use Rattle.mc_conn.specs.Due.{due, forms_of, lane, pieces, pieces_at, pieces_from, ticket_at}
+use Rattle.mc_conn.specs.Due.{due, form_at, forms_of, lane, pieces, pieces_at, pieces_from, ticket_at}
 use Rattle.mc_join.specs.Expects.{Expects}
 use Rattle.mc_conn.specs.Fits.{Fits, IsReplyTo, ReceivesFromShard}
 use Rattle.mc_conn.proofs.Gets.{get_cases}
 use Rattle.mc_conn.proofs.Places.{lane_at, lane-append, one_place, piece_at}
-use Rattle.mc_conn.proofs.Forms.{form_at, kind_at, slot_at}
+use Rattle.mc_conn.proofs.Forms.{form_there, kind_at, slot_at}
 use Rattle.mc_ring.proofs.Lists.{all_weaken, all_push, get_last}
 
 -- The answers fit on a new connection, which took no command and received no reply.
@@ -99,8 +99,8 @@ next_expected shards s taken accepted old p reply fits next to =
     let slots : Ticket → List (Option Answer) = λ t. slots_after accepted t 0 (no_answers asked) in
     let at : reply.ticket.0 ≡ of.place = omega (arith, number, ticket) in
     record {
-      form = form_of shards (ticket_at (0 + of.place)) (planned of.one);
-      here = ap (λ k. slice_get (forms_of shards taken) k) at ∙ form_at shards 0 taken of.place of.one of.here;
+      form = form_at shards (0 + of.place) of.one;
+      here = ap (λ k. slice_get (forms_of shards taken) k) at ∙ form_there shards 0 taken of.place of.one of.here;
       unanswered =
           ap (λ n. slice_get (slots (ticket_at n)) reply.part) (sym number)
           ∙ (ap (λ k. slice_get (slots p.ticket) k) to.part

@@ -7,11 +7,11 @@ use Rattle.mc_item.specs.Kind.{kind_of}
 use Rattle.mc_ring.specs.Reply.{Shown}
 use Rattle.mc_reply.specs.declared.ticket.Ticket.{Ticket}
 use Rattle.mc_split.specs.Pieces.{ShardOp, pieces_of}
-use Rattle.mc_split.specs.Plan.{form_kind, form_of, no_answers}
+use Rattle.mc_split.specs.Plan.{form_kind, no_answers}
 use Rattle.mc_split.proofs.Shards.{pieces_alike}
 use Rattle.mc_join.specs.Replies.{answer_to, slots_after}
-use Rattle.mc_conn.specs.History.{Taken, planned}
-use Rattle.mc_conn.specs.Due.{forms_from, ticket_at}
+use Rattle.mc_conn.specs.History.{Taken}
+use Rattle.mc_conn.specs.Due.{form_at, forms_from}
 use Rattle.mc_ring.proofs.Lists.{all_at}
 
 -- The form of a command is of the kind of each of its pieces.
@@ -20,15 +20,15 @@ kind_at shards command part asked here =
     sym (all_at (λ one. kind_of one.op ≡ form_kind (pieces_of shards command)) (pieces_of shards command) part asked (pieces_alike shards command) here)
 
 -- the form of the command at a place
-pub form_at : (shards number : ℕ) (taken : List Taken) (k : ℕ) (one : Taken) → slice_get taken k ≡ Some one → slice_get (forms_from shards number taken) k ≡ Some (form_of shards (ticket_at (number + k)) (planned one))
-form_at shards number [] k one here = absurd (cc)
-form_at shards number (first ∷ taken) zero one here =
+pub form_there : (shards number : ℕ) (taken : List Taken) (k : ℕ) (one : Taken) → slice_get taken k ≡ Some one → slice_get (forms_from shards number taken) k ≡ Some (form_at shards (number + k) one)
+form_there shards number [] k one here = absurd (cc)
+form_there shards number (first ∷ taken) zero one here =
     let same : first ≡ one = same_Some first one here in
     let at : number ≡ number + 0 = omega arith in
-    ap (λ n. Some (form_of shards (ticket_at n) (planned first))) at ∙ ap (λ t. Some (form_of shards (ticket_at (number + 0)) (planned t))) same
-form_at shards number (first ∷ taken) (suc k) one here =
+    ap (λ n. Some (form_at shards n first)) at ∙ ap (λ t. Some (form_at shards (number + 0) t)) same
+form_there shards number (first ∷ taken) (suc k) one here =
     let at : number + 1 + k ≡ number + suc k = omega arith in
-    form_at shards (number + 1) taken k one here ∙ ap (λ n. Some (form_of shards (ticket_at n) (planned one))) at
+    form_there shards (number + 1) taken k one here ∙ ap (λ n. Some (form_at shards n one)) at
 
 -- There is one form for each command that was taken.
 pub length-forms : (shards number : ℕ) (taken : List Taken) → length (forms_from shards number taken) ≡ length taken
@@ -45,8 +45,8 @@ slot_at accepted ticket first (a ∷ asked) (suc i) one here =
     slot_at accepted ticket (first + 1) asked i one here ∙ ap (λ k. Some (answer_to accepted ticket k)) at
 
 -- one command more
-pub forms-push : (shards number : ℕ) (taken : List Taken) (one : Taken) → forms_from shards number (taken ++ one ∷ []) ≡ forms_from shards number taken ++ form_of shards (ticket_at (number + length taken)) (planned one) ∷ []
-forms-push shards number [] one = let at : number ≡ number + 0 = omega arith in ap (λ n. form_of shards (ticket_at n) (planned one) ∷ []) at
+pub forms-push : (shards number : ℕ) (taken : List Taken) (one : Taken) → forms_from shards number (taken ++ one ∷ []) ≡ forms_from shards number taken ++ form_at shards (number + length taken) one ∷ []
+forms-push shards number [] one = let at : number ≡ number + 0 = omega arith in ap (λ n. form_at shards n one ∷ []) at
 forms-push shards number (first ∷ taken) one =
     let at : number + 1 + length taken ≡ number + suc (length taken) = omega arith in
-    ap (λ fs. form_of shards (ticket_at number) (planned first) ∷ fs) (forms-push shards (number + 1) taken one ∙ ap (λ n. forms_from shards (number + 1) taken ++ form_of shards (ticket_at n) (planned one) ∷ []) at)
+    ap (λ fs. form_at shards number first ∷ fs) (forms-push shards (number + 1) taken one ∙ ap (λ n. forms_from shards (number + 1) taken ++ form_at shards n one ∷ []) at)

@@ -5,6 +5,7 @@ pub mod Fitting
 pub mod Counting
 pub mod Telling
 pub mod Serving
+mod Shown
 pub mod Rows
 pub mod Calls
 pub mod GivenUp

@@ -8,7 +8,6 @@ use Rattle.mc_reader.specs.Reader.{IsReader}
 use Rattle.mc_reader.specs.Spelling.{BeginCommands}
 use Rattle.mc_ring.specs.Reply.{Shown}
 use Rattle.mc_reply.specs.declared.form.Form.{Form}
-use Rattle.mc_split.specs.Plan.{form_of}
 use Rattle.mc_join.specs.Held.{Held, AreNumbered, Fills, with_answer}
 use Rattle.mc_join.specs.Joined.{IsJoiner}
 use Rattle.mc_join.specs.Replies.{answered, is_answered}
@@ -16,9 +15,9 @@ use Rattle.mc_join.proofs.Joins.{all_answered, handed_within, join_accept, join_
 use Rattle.mc_join.proofs.Queues.{numbered_along, numbered_drop}
 use Rattle.mc_conn.specs.declared.conn.Conn.{Conn}
 use Rattle.mc_conn.specs.Conn.{IsConn}
-use Rattle.mc_conn.specs.Due.{ticket_at}
+use Rattle.mc_conn.specs.Due.{form_at}
 use Rattle.mc_join.specs.Expects.{Expects}
-use Rattle.mc_conn.specs.History.{Taken, planned}
+use Rattle.mc_conn.specs.History.{Taken}
 use Rattle.mc_conn.specs.Told.{Told, IsSound, KeepsHanded, all_forms, all_texts}
 use Rattle.mc_conn.proofs.Counting.{length-replies}
 use Rattle.mc_join.proofs.Expecting.{awaited_from}
@@ -90,7 +89,7 @@ pub keeps_take : (conn : Conn) (told : Told) (one : Taken) → IsConn conn told 
 unfolding IsConn
 keeps_take conn told one h =
     let held = conn.dispatcher.joiner in
-    let form : Form = form_of told.shards (ticket_at (0 + length told.taken)) (planned one) in
+    let form : Form = form_at told.shards (0 + length told.taken) one in
     let new : Held = record held { forms = held.forms ++ form ∷ [] } in
     let opened = opened_length held (all_forms told) told.accepted h.texts h.joined in
     let more = join_open held new form (omega (arith, opened, length-forms told.shards 0 told.taken)) refl refl (all_forms told) told.accepted h.texts h.joined in

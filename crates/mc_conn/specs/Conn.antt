@@ -1,15 +1,17 @@
 -- What a connection is, by what it was told and what it told; and what its calls answer.
-use Rattle.std.specs.Prelude.{ℕ, ◌≡◌, ◌+◌, ◌<◌, true, false, [], ◌∷◌, ◌++◌, length}
+use Rattle.std.specs.Prelude.{ℕ, ◌≡◌, ◌+◌, ◌<◌, true, false, [], ◌∷◌, ◌++◌, length, IsTrue}
 use Rattle.mc_wire.specs.Outlet.{Sight, took}
 use Rattle.mc_wire.specs.Outlet as outlet
 use Rattle.mc_reader.specs.Reader.{IsWaiting}
 use Rattle.mc_reader.specs.Reader as reader
 use Rattle.mc_reader.specs.Spelling.{BeginCommands, is_closed}
+use Rattle.mc_reply.specs.declared.server_stats.ServerStats.{ServerStats}
 use Rattle.mc_reply.specs.declared.ticket.Ticket.{Ticket}
+use Rattle.mc_reply.specs.Server.{shows_server}
 use Rattle.mc_conn.specs.declared.conn.Conn.{Conn}
 use Rattle.mc_conn.specs.declared.conn.Taken.{Taken as Took}
 use Rattle.mc_conn.specs.declared.conn.Taken.TheVariants as took
-use Rattle.mc_conn.specs.History.{Taken, MayBeTaken}
+use Rattle.mc_conn.specs.History.{Taken, MayBeTaken, planned}
 use Rattle.mc_conn.specs.Told.{Told, IsAllTaken, IsClosed, IsOver, all_texts, commands_of, handed_text, waiting_text}
 use Rattle.mc_conn.specs.internal.Inside.{HasBeenTold}
 
@@ -33,10 +35,12 @@ held_bytes conn = reader.held_bytes conn.reader
 unfoldable pub SkipsBytes : Conn → Type 0
 SkipsBytes conn = reader.IsSkipping conn.reader
 
--- One command more was taken, at this moment.
-pub record TakesCommand (told : Told) (moment : ℕ) (ticket : Ticket) (new : Conn) : Type 0 where
+-- One command more was taken, at this moment, and by a source that may show this of the server.
+pub record TakesCommand (told : Told) (moment : ℕ) (may_show : ServerStats → Type 0) (ticket : Ticket) (new : Conn) : Type 0 where
   pub one : Taken
   pub moment_is : one.moment ≡ moment
+  -- What is shown of the server is what the source answered.
+  pub shown : IsTrue (shows_server (planned one)) → may_show one.server
   -- It is given up only where it may be.
   pub may : MayBeTaken one
   -- It is the next command that the bytes fed spell.
@@ -64,11 +68,11 @@ pub record FillsWindow (told : Told) (new : Conn) : Type 0 where
   pub now : IsConn new told
 
 -- What taking a command answers, and what the connection is then.
-abbrev pub TakeSays : Conn → ℕ → Took → Conn → Type 0
-TakeSays old moment (took.Opened ticket) new = IfConn old (λ told. TakesCommand told moment ticket new)
-TakeSays old moment took.NeedMore new = IfConn old (λ told. NeedsMore told new)
-TakeSays old moment took.Full new = IfConn old (λ told. FillsWindow told new)
-TakeSays old moment took.Closed new = IfConn old (λ told. IsOver told × IsConn new told)
+abbrev pub TakeSays : Conn → ℕ → (ServerStats → Type 0) → Took → Conn → Type 0
+TakeSays old moment may_show (took.Opened ticket) new = IfConn old (λ told. TakesCommand told moment may_show ticket new)
+TakeSays old moment may_show took.NeedMore new = IfConn old (λ told. NeedsMore told new)
+TakeSays old moment may_show took.Full new = IfConn old (λ told. FillsWindow told new)
+TakeSays old moment may_show took.Closed new = IfConn old (λ told. IsOver told × IsConn new told)
 
 -- The replies to count commands more were handed out: all whose turn has come.
 pub record HandsOut (told : Told) (count : ℕ) (new : Conn) (before after : Sight) : Type 0 where

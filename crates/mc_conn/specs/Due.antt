@@ -4,6 +4,7 @@ use Rattle.mc_item.specs.declared.answer.Answer.{Answer}
 use Rattle.mc_ring.specs.Reply.{Shown}
 use Rattle.mc_join.specs.Replies.{answers_of, slots_after}
 use Rattle.mc_reply.specs.declared.form.Form.{Form}
+use Rattle.mc_reply.specs.Server.{form_of_server}
 use Rattle.mc_split.specs.declared.plan.Piece.{Piece}
 use Rattle.mc_reply.specs.declared.ticket.Ticket.{Ticket}
 use Rattle.mc_split.specs.Pieces.{pieces_of}
@@ -34,10 +35,14 @@ lane shard all = map (λ piece. piece.1) (filter (λ piece. piece.0 == shard) al
 abbrev pub due : ℕ → ℕ → List Taken → List Piece
 due shards shard taken = lane shard (pieces shards taken)
 
+-- the form of one command
+abbrev pub form_at : ℕ → ℕ → Taken → Form
+form_at shards number one = form_of_server one.server (form_of shards (ticket_at number) (planned one))
+
 -- the forms of these commands, the first of which has this number
 abbrev pub forms_from : ℕ → ℕ → List Taken → List Form
 forms_from shards number [] = []
-forms_from shards number (one ∷ later) = form_of shards (ticket_at number) (planned one) ∷ forms_from shards (number + 1) later
+forms_from shards number (one ∷ later) = form_at shards number one ∷ forms_from shards (number + 1) later
 
 abbrev pub forms_of : ℕ → List Taken → List Form
 forms_of shards taken = forms_from shards 0 taken
@@ -45,7 +50,7 @@ forms_of shards taken = forms_from shards 0 taken
 -- a command with the answers accepted for its pieces
 abbrev pub done_at : ℕ → List Shown → ℕ → Taken → AnsweredCommand
 done_at shards accepted number one =
-    record { entry = one.entry; moment = one.moment; given_up = one.given_up; answers = answers_of (slots_after accepted (ticket_at number) 0 (no_answers (pieces_of shards (planned one)))) }
+    record { entry = one.entry; moment = one.moment; server = one.server; given_up = one.given_up; answers = answers_of (slots_after accepted (ticket_at number) 0 (no_answers (pieces_of shards (planned one)))) }
 
 abbrev pub history_from : ℕ → List Shown → ℕ → List Taken → List AnsweredCommand
 history_from shards accepted number [] = []

@@ -7,6 +7,7 @@ use Rattle.mc_command.specs.declared.refusal.Refusal.TheVariants.{Memory}
 use Rattle.mc_command.specs.Command.{can_give_up}
 use Rattle.mc_item.specs.declared.answer.Answer.{Answer}
 use Rattle.mc_split.specs.Pieces.{pieces_of}
+use Rattle.mc_reply.specs.declared.server_stats.ServerStats.{ServerStats}
 use Rattle.mc_reply.specs.Text.{memory_line, text_of}
 
 -- a command that was taken
@@ -15,6 +16,8 @@ pub record Taken : Type 0 where
   pub entry : Command
   -- when it was taken, in seconds since 1970
   pub moment : ℕ
+  -- what was known of the server then; only the reply to `stats` shows it
+  pub server : ServerStats
   -- whether it was given up because memory ran out, before a shard was asked
   pub given_up : Bool
 
@@ -30,12 +33,13 @@ MayBeTaken taken = IsTrue taken.given_up → IsTrue (can_give_up taken.entry)
 pub record AnsweredCommand : Type 0 where
   pub entry : Command
   pub moment : ℕ
+  pub server : ServerStats
   pub given_up : Bool
   -- what the shards answered to its pieces, in their order; none where it was given up
   pub answers : List Answer
 
 abbrev pub taken_of : AnsweredCommand → Taken
-taken_of done = record { entry = done.entry; moment = done.moment; given_up = done.given_up }
+taken_of done = record { entry = done.entry; moment = done.moment; server = done.server; given_up = done.given_up }
 
 abbrev pub entries_of : List AnsweredCommand → List Command
 entries_of history = map (λ done. done.entry) history
@@ -43,7 +47,7 @@ entries_of history = map (λ done. done.entry) history
 -- the reply to a command that was taken; to one that was given up it is the line "out of memory", also where the command is
 -- itself a refusal (protocol.txt, "Error strings")
 abbrev pub text_done : AnsweredCommand → List ℕ
-text_done done = if done.given_up then memory_line else text_of done.entry done.answers
+text_done done = if done.given_up then memory_line else text_of done.server done.entry done.answers
 
 abbrev pub texts_of : List AnsweredCommand → List ℕ
 texts_of history = flat_map text_done history

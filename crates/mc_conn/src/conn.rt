@@ -10,6 +10,7 @@ ghost use Rattle.mc_join.specs.Expects.{Expects};
 ghost use Rattle.mc_conn.specs.Told.{Told, IsAtRest, IsNotAllTaken, IsAllTaken, IsOpen, IsOver, IsShut, EndsAmidSkipped, IsUsedUp, LeavesUnread, all_forms, all_pieces, all_texts, told_nothing, waiting_text};
 
 use crate::dispatcher::Dispatcher;
+use crate::source::StatsSource;
 use mc_command::Rules;
 use mc_join::{Gone, Joiner, Stranger};
 use mc_reader::{Memory, Reader, Step};
@@ -94,6 +95,7 @@ impl Conn {
                     moment: 0,
                     shards,
                 },
+                stats_asked: false,
             },
             put_back: None,
             broken: false,
@@ -148,10 +150,11 @@ impl Conn {
     }
 
     /// Takes the next command, at this moment in seconds since 1970. Tickets count from 0. A command for which memory runs
-    /// out is taken all the same: its reply is "out of memory" (protocol.txt, "Error strings"), and no shard is asked.
+    /// out is taken all the same: its reply is "out of memory" (protocol.txt, "Error strings"), and no shard is asked. Where the
+    /// command is `stats`, the source is asked what it shows of the server, and for no other.
     #[tactic(auto, unfolding(crate::specs::Conn::IsConn, crate::specs::Conn::IsAwaiting))]
-    pub fn take(&mut self, alloc: Global, moment: u64) -> Taken
-        ensures says { TakeSays self.old moment result self.new }
+    pub fn take<S: StatsSource>(&mut self, alloc: Global, moment: u64, source: &S) -> Taken
+        ensures says { TakeSays self.old moment (S.may_show source.now) result self.new }
         ensures over { IfConn self.old (λ told. IsOver told → result ≡ Taken.Closed) }
     {
         if self.is_over() {
@@ -166,8 +169,12 @@ impl Conn {
         };
         self.dispatcher.splitter.ticket = ticket;
         self.dispatcher.splitter.moment = moment;
+        self.dispatcher.stats_asked = false;
         match self.reader.next_into(alloc, &mut self.dispatcher) {
-            Step::Gave => Taken::Opened(ticket),
+            Step::Gave => {
+                self.dispatcher.open_noted(source);
+                Taken::Opened(ticket)
+            }
             Step::NeedMore => Taken::NeedMore,
             Step::Closed => Taken::Closed,
         }

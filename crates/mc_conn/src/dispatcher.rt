@@ -1,12 +1,14 @@
 //! Where commands are planned and opened: the joiner, and the pieces that have not left.
-ghost use Rattle.std.specs.Prelude.{◌≡◌, ◌<◌, ◌∷◌, [], IfOk, IfNone, IfSome, length};
+ghost use Rattle.std.specs.Prelude.{◌≡◌, ◌<◌, ◌∷◌, [], IfOk, IfNone, IfSome, IsTrue, length};
+ghost use Rattle.mc_reply.specs.Server.{shows_server};
 ghost use Rattle.mc_join.specs.Held.{opened_count};
 
-use mc_command::{Command, MetaGet, MetaSet, Profile, Refusal};
+use crate::source::StatsSource;
+use mc_command::{Command, MetaGet, MetaSet, Profile, Refusal, StatsRequest};
 use mc_item::NoMemory;
 use mc_join::Joiner;
 use mc_plain::Commands;
-use mc_reply::Form;
+use mc_reply::{Form, ServerStats};
 use mc_split::{Piece, Splitter};
 use std::collections::VecDeque;
 
@@ -21,10 +23,19 @@ pub(crate) struct Dispatcher {
     pub(crate) unsent: VecDeque<(usize, Piece)>,
     /// What the pieces of the next command share.
     pub(crate) splitter: Splitter,
+    /// Whether the command that was given is `stats`, which is opened once it is known what it shows of the server.
+    pub(crate) stats_asked: bool,
+}
+
+/// Whether the reply to a command shows the server.
+fn is_stats(command: &Command) -> bool
+    ensures { result ≡ shows_server command.now }
+{
+    matches!(command, Command::Stats(StatsRequest::General))
 }
 
 impl Dispatcher {
-    ghost use Rattle.mc_conn.specs.internal.Dispatcher.{CanOpen, Opens, OpensSplit, refusal_of};
+    ghost use Rattle.mc_conn.specs.internal.Dispatcher.{CanOpen, Opens, OpensNoted, OpensSplit, OpensStats, refusal_of};
 
     /// Takes out the oldest piece that has not left. With the last one, room for more than `KEPT_PIECES` is freed.
     pub(crate) fn next_unsent(&mut self) -> Option<(usize, Piece)>
@@ -66,6 +77,31 @@ impl Dispatcher {
         self.open(form);
     }
 
+    /// Opens `stats` where it was noted, of the server that the source knows. For any other command the source isn't asked.
+    #[inline(always)]
+    pub(crate) fn open_noted<S: StatsSource>(&mut self, source: &S)
+        requires { IsTrue self.old.stats_asked → CanOpen self.old }
+        ensures { OpensNoted (S.may_show source.now) self.old self.new }
+    {
+        if self.stats_asked {
+            self.open_stats(source.server_stats());
+        }
+    }
+
+    /// Plans `stats`, and opens its form, of this server. It is kept out of line: few commands are `stats`.
+    #[cold]
+    #[inline(never)]
+    pub(crate) fn open_stats(&mut self, server: ServerStats)
+        requires { CanOpen self.old }
+        ensures { OpensStats self.old server self.new }
+    {
+        let stats = Command::Stats(StatsRequest::General);
+        match self.splitter.split_into(&mut self.unsent, stats) {
+            Ok(form) => self.open(form.of_server(server)),
+            Err(_) => self.open_refusal(),
+        }
+    }
+
     /// Opens the form of a command that was split, or of the refusal where memory ran out.
     #[inline(always)]
     fn open_split(&mut self, split: Result<Form, NoMemory>)
@@ -81,11 +117,11 @@ impl Dispatcher {
 }
 
 impl Commands for Dispatcher {
-    ghost use Rattle.mc_conn.specs.internal.Dispatcher.{CanOpen, OpensForm};
+    ghost use Rattle.mc_conn.specs.internal.Dispatcher.{CanOpen, TakesIn};
 
     ghost can_take = { CanOpen };
 
-    ghost takes = { OpensForm };
+    ghost takes = { TakesIn };
 
     fn no_op(&mut self) {
         let form = self.splitter.split_no_op();
@@ -135,6 +171,10 @@ impl Commands for Dispatcher {
 
     #[inline(never)]
     fn other(&mut self, command: Command) {
+        if is_stats(&command) {
+            self.stats_asked = true;
+            return;
+        }
         let split = self.splitter.split_into(&mut self.unsent, command);
         self.open_split(split);
     }

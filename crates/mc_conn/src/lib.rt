@@ -5,6 +5,7 @@
 mod conn;
 mod dispatcher;
 mod laws;
+mod source;
 
 pub use conn::{Conn, Taken};
 pub use laws::{
@@ -13,3 +14,4 @@ pub use laws::{
     only_shards_are_asked, received_answers_tell_the_history, replies_of_shards_fit,
     serving_keeps_answers,
 };
+pub use source::StatsSource;

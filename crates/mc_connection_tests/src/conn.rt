@@ -9,7 +9,7 @@ use crate::stranger::stranger_of;
 use mc_command::Rules;
 use mc_conn::{Conn, Taken};
 use mc_item::{Answer, Kind};
-use mc_reply::Ticket;
+use mc_reply::{ServerStats, Ticket};
 use mc_ring::Reply;
 use mc_split::Piece;
 use mc_wire::DEFAULT_VALUE_LIMIT;
@@ -40,7 +40,7 @@ fn feeds(rt: &impl Abort, conn: &mut Conn, bytes: &[u8], count: usize) {
 
 /// Asserts the result of parsing the next command.
 fn takes(rt: &impl Abort, alloc: Global, conn: &mut Conn, want: Taken) {
-    equal(rt, conn.take(alloc, 1000), want);
+    equal(rt, conn.take(alloc, 1000, &ServerStats::none()), want);
 }
 
 /// Asserts that a reply is accepted.
@@ -79,7 +79,7 @@ fn answer(rt: &impl Abort, piece: &Piece) -> Reply {
 /// Parses commands until none is opened.
 fn take_all(alloc: Global, conn: &mut Conn) -> Taken {
     for _ in 0..CONVERSATION.len() {
-        let taken = conn.take(alloc, 1000);
+        let taken = conn.take(alloc, 1000, &ServerStats::none());
         if !matches!(taken, Taken::Opened(_)) {
             return taken;
         }

@@ -15,7 +15,16 @@ use std::process::Abort;
 use std::test::Fail;
 
 const STATS: &[u8] = b"\
+    STAT pid 0\r\n\
+    STAT uptime 0\r\n\
+    STAT time 0\r\n\
     STAT version 1.6.18\r\n\
+    STAT rusage_user 0.000000\r\n\
+    STAT rusage_system 0.000000\r\n\
+    STAT max_connections 0\r\n\
+    STAT curr_connections 0\r\n\
+    STAT total_connections 0\r\n\
+    STAT rejected_connections 0\r\n\
     STAT cmd_get 6\r\n\
     STAT cmd_set 3\r\n\
     STAT cmd_flush 0\r\n\
@@ -33,12 +42,14 @@ const STATS: &[u8] = b"\
     STAT cas_badval 0\r\n\
     STAT touch_hits 0\r\n\
     STAT touch_misses 0\r\n\
+    STAT bytes_read 0\r\n\
+    STAT bytes_written 0\r\n\
     STAT limit_maxbytes 3145728\r\n\
+    STAT threads 3\r\n\
     STAT bytes 192\r\n\
     STAT curr_items 3\r\n\
     STAT total_items 3\r\n\
     STAT evictions 3\r\n\
-    STAT threads 3\r\n\
     END\r\n";
 
 /// The form of `stats`.

@@ -4,11 +4,11 @@ use crate::listener::Listener;
 use crate::socket::Socket;
 use crate::stream::Stream;
 use mc_wake::{Marked, Patience, Sleeper, Wakers};
-use mc_watch::{EntranceWatch, SeatWatch, Watch};
+use mc_watch::{EntranceWatch, Peer, SeatWatch, Watch};
 use rtrb::{Consumer, Producer, RingBuffer};
 use std::alloc::{AllocError, Global};
 use std::io::ErrorKind;
-use std::net::{Net, SocketAddr};
+use std::net::Net;
 use std::sync::atomic::{AtomicBool, Ordering};
 use std::sync::{Arc, Wait};
 use std::time::Duration;
@@ -118,7 +118,7 @@ impl Bell {
 #[derive(Drop)]
 pub(crate) struct NewConnection {
     pub(crate) stream: Socket,
-    pub(crate) peer: SocketAddr,
+    pub(crate) peer: Peer,
 }
 
 /// The channel of connections from the accepting thread to one slot.
@@ -298,6 +298,7 @@ impl Entrance {
         match self.look() {
             Found::Connection(connection) => {
                 if is_full {
+                    self.watch.rejected();
                     refuse(connection);
                 } else {
                     self.hand_over(connection);

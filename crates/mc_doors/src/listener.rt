@@ -1,10 +1,11 @@
 //! Listening sockets: a TCP address, or a path of a Unix socket.
 use crate::socket::Socket;
 use mc_wake::Wakers;
+use mc_watch::Peer;
 use mio::net::{TcpListener, UnixListener, UnixStream};
 use std::fs::{Files, Permissions};
 use std::io::ErrorKind;
-use std::net::{Ipv4Addr, Net, SocketAddr, SocketAddrV4};
+use std::net::{Net, SocketAddr};
 use std::os::unix::fs::{FileTypeExt, PermissionsExt};
 use std::{fs, io, net};
 
@@ -59,23 +60,18 @@ impl Listener {
 
     /// Accepts the next connection, with its client's address; a placeholder for Unix sockets.
     /// `WouldBlock` if none is pending.
-    pub(crate) fn accept(&self) -> io::Result<(Socket, SocketAddr)> {
+    pub(crate) fn accept(&self) -> io::Result<(Socket, Peer)> {
         match self {
             Listener::Tcp(listener) => {
                 let (stream, peer) = listener.accept()?;
-                Ok((Socket::Tcp(stream), peer))
+                Ok((Socket::Tcp(stream), Peer::At(peer)))
             }
             Listener::Unix(listener) => {
                 let (stream, _) = listener.accept()?;
-                Ok((Socket::Unix(stream), nowhere()))
+                Ok((Socket::Unix(stream), Peer::Unix))
             }
         }
     }
-}
-
-/// The placeholder for a client without an address.
-fn nowhere() -> SocketAddr {
-    SocketAddr::V4(SocketAddrV4::new(Ipv4Addr::UNSPECIFIED, 0))
 }
 
 /// Removes a stale socket file at which nobody listens.

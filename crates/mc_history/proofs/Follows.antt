@@ -47,8 +47,8 @@ nothing_kept : (sizes : Sizes) (past : List Event) (event : Event) → NothingFr
 nothing_kept sizes past (Opened seat) none may k beyond =
     let long = seats_push past (Opened seat) in
     own_no (Connection k) past (Opened seat) refl ∙ none k (omega (arith, beyond, long))
-nothing_kept sizes past (Took connection command moment given_up) none may k beyond =
-    let event = Took connection command moment given_up in
+nothing_kept sizes past (Took connection command moment server given_up) none may k beyond =
+    let event = Took connection command moment server given_up in
     let long = seats_push past event in
     let opened = may.0 in
     own_no (Connection k) past event (ne_eqb connection k (λ same. absurd (omega (arith, same, opened, beyond, long)))) ∙ none k (omega (arith, beyond, long))
@@ -88,7 +88,7 @@ due_later sizes seen history s k piece more same next =
 -- happened.
 pub may_later : (sizes : Sizes) (role : Role) (seen history : List Event) (event : Event) → is_own role event ≡ true → Lengthens seen history → own_part role history ≡ own_part role seen → MayFollow sizes seen event → MayFollow sizes history event
 may_later sizes role seen history (Opened seat) own more same may = may
-may_later sizes role seen history (Took connection command moment given_up) own more same may = (opened_later connection seen history more may.0, may.1)
+may_later sizes role seen history (Took connection command moment server given_up) own more same may = (opened_later connection seen history more may.0, may.1)
 may_later sizes role seen history (Ran shard asker piece answer) own more same may =
     let runs = may.2 in
     let entries = same_entries role history seen (Ran shard asker piece answer) shard (eq-eqb shard shard refl) own same in (

@@ -90,8 +90,8 @@ record Kept (sizes : Sizes) (history : List Event) : Type 0 where
 may_of : (sizes : Sizes) (past : List Event) (event : Event) → MayFollow sizes past event → (k : ℕ) → AllByRecursion MayBeTaken (taken_of k event)
 may_of sizes past (Opened seat) may k = tt
 may_of sizes past (Ran shard asker piece answer) may k = tt
-may_of sizes past (Took connection command moment given_up) may k =
-    let one : Taken = record { entry = command; moment = moment; given_up = given_up } in
+may_of sizes past (Took connection command moment server given_up) may k =
+    let one : Taken = record { entry = command; moment = moment; server = server; given_up = given_up } in
     elim (connection == k) as (λ b. AllByRecursion MayBeTaken (cond b (one ∷ []) [])) [
       | true ↦ (may.1, tt)
       | false ↦ tt
@@ -99,24 +99,24 @@ may_of sizes past (Took connection command moment given_up) may k =
 
 order_of : (sizes : Sizes) (past : List Event) (event : Event) → Kept sizes past → MayFollow sizes past event → (k s : ℕ) → Begins (ran_for k s (ran_in past ++ entries_of event)) (due sizes.shards s (taken_in k past))
 order_of sizes past (Opened seat) was may k s = subst (λ log. Begins (ran_for k s log) (due sizes.shards s (taken_in k past))) (sym (append-nil (ran_in past))) (was.in_order k s)
-order_of sizes past (Took connection command moment given_up) was may k s = subst (λ log. Begins (ran_for k s log) (due sizes.shards s (taken_in k past))) (sym (append-nil (ran_in past))) (was.in_order k s)
+order_of sizes past (Took connection command moment server given_up) was may k s = subst (λ log. Begins (ran_for k s log) (due sizes.shards s (taken_in k past))) (sym (append-nil (ran_in past))) (was.in_order k s)
 order_of sizes past (Ran shard asker piece answer) was may k s =
     ran_push sizes past (record { shard = shard; asker = asker; piece = piece; answer = answer }) was.in_order may.2 k s
 
 owned_of : (sizes : Sizes) (past : List Event) (event : Event) → MayFollow sizes past event → AllByRecursion (IsOwned sizes (length (seats_in past))) (entries_of event)
 owned_of sizes past (Opened seat) may = tt
-owned_of sizes past (Took connection command moment given_up) may = tt
+owned_of sizes past (Took connection command moment server given_up) may = tt
 owned_of sizes past (Ran shard asker piece answer) may = ((may.0, may.1), tt)
 
 steps_of : (sizes : Sizes) (past : List Event) (event : Event) → IsLawful sizes (ran_in past) → MayFollow sizes past event → IsLawful sizes (ran_in past ++ entries_of event)
 steps_of sizes past (Opened seat) was may = subst (λ log. IsLawful sizes log) (sym (append-nil (ran_in past))) was
-steps_of sizes past (Took connection command moment given_up) was may = subst (λ log. IsLawful sizes log) (sym (append-nil (ran_in past))) was
+steps_of sizes past (Took connection command moment server given_up) was may = subst (λ log. IsLawful sizes log) (sym (append-nil (ran_in past))) was
 steps_of sizes past (Ran shard asker piece answer) was may =
     steps_push sizes past (record { shard = shard; asker = asker; piece = piece; answer = answer }) was may.2
 
 seated_of : (sizes : Sizes) (past : List Event) (event : Event) → MayFollow sizes past event → AllByRecursion (λ seat. seat < sizes.seats) (seats_of event)
 seated_of sizes past (Opened seat) may = (may, tt)
-seated_of sizes past (Took connection command moment given_up) may = tt
+seated_of sizes past (Took connection command moment server given_up) may = tt
 seated_of sizes past (Ran shard asker piece answer) may = tt
 
 -- the first of what is due stay so where more is due

@@ -45,10 +45,10 @@ apart_swap one other apart event is =
 apart_connection : (role : Role) (past : List Event) (connection : ℕ) (event : Event) → HasBegun role past → is_own role event ≡ true → is_own (Connection (length (seats_in past))) event ≡ false
 apart_connection role past connection (Opened seat) begun is = refl
 apart_connection role past connection (Ran shard asker piece answer) begun is = refl
-apart_connection Reader past connection (Took number command moment given_up) begun is = absurd (cc is)
-apart_connection (Shard index) past connection (Took number command moment given_up) begun is = absurd (cc is)
-apart_connection (Shards from) past connection (Took number command moment given_up) begun is = absurd (cc is)
-apart_connection (Connection k) past connection (Took number command moment given_up) begun is =
+apart_connection Reader past connection (Took number command moment server given_up) begun is = absurd (cc is)
+apart_connection (Shard index) past connection (Took number command moment server given_up) begun is = absurd (cc is)
+apart_connection (Shards from) past connection (Took number command moment server given_up) begun is = absurd (cc is)
+apart_connection (Connection k) past connection (Took number command moment server given_up) begun is =
     ne_eqb number (length (seats_in past)) (λ same. let mine = eqb-true number k is in absurd (omega (arith, same, mine, begun)))
 
 -- A role that may act for a connection that was opened may not act for the next one.
@@ -62,7 +62,7 @@ apart_reader role event is = refl
 -- A shard is none of those behind it.
 pub apart_shards : (from : ℕ) → AreApart (Shards (from + 1)) (Shard from)
 apart_shards from (Opened seat) is = refl
-apart_shards from (Took connection command moment given_up) is = refl
+apart_shards from (Took connection command moment server given_up) is = refl
 apart_shards from (Ran shard asker piece answer) is = elim (leb_tells (from + 1) shard) [
   | inl behind ↦ ne_eqb shard from (λ same. let after = behind.1 in absurd (omega (arith, same, after)))
   | inr not ↦ absurd (cc (is, not.0))
@@ -71,7 +71,7 @@ apart_shards from (Ran shard asker piece answer) is = elim (leb_tells (from + 1)
 -- The shards behind one are among those from it on.
 pub later_within : (from : ℕ) → IsWithin (Shards (from + 1)) (Shards from)
 later_within from (Opened seat) is = is
-later_within from (Took connection command moment given_up) is = is
+later_within from (Took connection command moment server given_up) is = is
 later_within from (Ran shard asker piece answer) is = elim (leb_tells from shard) [
   | inl behind ↦ behind.0
   | inr not ↦ elim (leb_tells (from + 1) shard) [
@@ -83,7 +83,7 @@ later_within from (Ran shard asker piece answer) is = elim (leb_tells from shard
 -- And so is it itself.
 pub first_within : (from : ℕ) → IsWithin (Shard from) (Shards from)
 first_within from (Opened seat) is = is
-first_within from (Took connection command moment given_up) is = is
+first_within from (Took connection command moment server given_up) is = is
 first_within from (Ran shard asker piece answer) is = elim (leb_tells from shard) [
   | inl behind ↦ behind.0
   | inr not ↦ let same = eqb-true shard from is in let before = not.1 in absurd (omega (arith, same, before))

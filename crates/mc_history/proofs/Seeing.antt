@@ -18,6 +18,7 @@ use Rattle.mc_history.specs.Tokens.{Acting, Adds, Sees}
 use Rattle.mc_history.proofs.Lists.{picked_push}
 use Rattle.mc_history.proofs.Roles.{own_yes}
 use Rattle.mc_history.proofs.Worlds.{connection_part, shard_part}
+use Rattle.mc_reply.specs.declared.server_stats.ServerStats.{ServerStats}
 
 -- an actor that knows this, of the history in this table
 abbrev acting : TableId → Knowledge → Acting
@@ -50,11 +51,11 @@ part_heard : (role : Role) (heard : List Event) (old new : Acting) → old.role 
 part_heard role heard old new is sees = sym (part_of role new (sees.role ∙ is)) ∙ (sees.own ∙ part_of role old is)
 
 -- The command that a connection adds is the next that it took.
-pub added_command : (k : ℕ) (command : Command) (moment : ℕ) (given_up : Bool) (old new : Acting) → old.role ≡ Connection k → Adds (Took k command moment given_up) old new
-    → taken_in k new.events ≡ taken_in k old.events ++ record { entry = command; moment = moment; given_up = given_up } ∷ []
-added_command k command moment given_up old new is adds =
-    let event = Took k command moment given_up in
-    let one : Taken = record { entry = command; moment = moment; given_up = given_up } in
+pub added_command : (k : ℕ) (command : Command) (moment : ℕ) (server : ServerStats) (given_up : Bool) (old new : Acting) → old.role ≡ Connection k → Adds (Took k command moment server given_up) old new
+    → taken_in k new.events ≡ taken_in k old.events ++ record { entry = command; moment = moment; server = server; given_up = given_up } ∷ []
+added_command k command moment server given_up old new is adds =
+    let event = Took k command moment server given_up in
+    let one : Taken = record { entry = command; moment = moment; server = server; given_up = given_up } in
     let mine : taken_of k event ≡ one ∷ [] = ap (λ b. cond b (one ∷ []) []) (eq-eqb k k refl) in
     sym (connection_part k new.events) ∙ (ap (taken_in k) (part_added (Connection k) event old new is adds)
     ∙ (picked_push (taken_of k) (own_part (Connection k) old.events) event

@@ -21,7 +21,7 @@ use Rattle.mc_history.proofs.Roles.{part_within}
 pub shard_part : (s : ℕ) (history : List Event) → ran_in (own_part (Shard s) history) ≡ on_shard s (ran_in history)
 shard_part s [] = refl
 shard_part s (Opened seat ∷ history) = shard_part s history
-shard_part s (Took connection command moment given_up ∷ history) = shard_part s history
+shard_part s (Took connection command moment server given_up ∷ history) = shard_part s history
 shard_part s (Ran shard asker piece answer ∷ history) =
     let rest = shard_part s history in
     let event = Ran shard asker piece answer in
@@ -36,10 +36,10 @@ pub connection_part : (k : ℕ) (history : List Event) → taken_in k (own_part 
 connection_part k [] = refl
 connection_part k (Opened seat ∷ history) = connection_part k history
 connection_part k (Ran shard asker piece answer ∷ history) = connection_part k history
-connection_part k (Took connection command moment given_up ∷ history) =
+connection_part k (Took connection command moment server given_up ∷ history) =
     let rest = connection_part k history in
-    let event = Took connection command moment given_up in
-    let one : Taken = record { entry = command; moment = moment; given_up = given_up } in
+    let event = Took connection command moment server given_up in
+    let one : Taken = record { entry = command; moment = moment; server = server; given_up = given_up } in
     let part = own_part (Connection k) history in
     elim (connection == k) as (λ b. (connection == k) ≡ b → taken_in k (cond b (event ∷ part) part) ≡ cond b (one ∷ []) [] ++ taken_in k history) [
       | true ↦ λ is. ap (λ c. cond c (one ∷ []) [] ++ taken_in k part) is ∙ ap (λ ts. one ∷ ts) rest
@@ -49,9 +49,9 @@ connection_part k (Took connection command moment given_up ∷ history) =
 -- Who may add what a shard did acts for that shard.
 pub acts_for_shard : (role : Role) (event : Event) (s : ℕ) → is_own (Shard s) event ≡ true → is_own role event ≡ true → IsWithin (Shard s) role
 acts_for_shard role (Opened seat) s of is other mine = absurd (cc of)
-acts_for_shard role (Took connection command moment given_up) s of is other mine = absurd (cc of)
+acts_for_shard role (Took connection command moment server given_up) s of is other mine = absurd (cc of)
 acts_for_shard role (Ran shard asker piece answer) s of is (Opened seat) mine = absurd (cc mine)
-acts_for_shard role (Ran shard asker piece answer) s of is (Took connection command moment given_up) mine = absurd (cc mine)
+acts_for_shard role (Ran shard asker piece answer) s of is (Took connection command moment server given_up) mine = absurd (cc mine)
 acts_for_shard Reader (Ran shard asker piece answer) s of is (Ran shard' asker' piece' answer') mine = absurd (cc is)
 acts_for_shard (Connection number) (Ran shard asker piece answer) s of is (Ran shard' asker' piece' answer') mine = absurd (cc is)
 acts_for_shard (Shard index) (Ran shard asker piece answer) s of is (Ran shard' asker' piece' answer') mine =

@@ -15,8 +15,8 @@ use Rattle.mc_history.specs.Worlds.{IsOpened, link_in, ran_in, seats_in, taken_i
 -- that is due there for a connection that was opened, with an answer that the protocol's step allows.
 abbrev pub MayFollow : Sizes → List Event → Event → Type 0
 MayFollow sizes past (Opened seat) = seat < sizes.seats
-MayFollow sizes past (Took connection command moment given_up) =
-    IsOpened connection past × MayBeTaken (record { entry = command; moment = moment; given_up = given_up })
+MayFollow sizes past (Took connection command moment server given_up) =
+    IsOpened connection past × MayBeTaken (record { entry = command; moment = moment; server = server; given_up = given_up })
 MayFollow sizes past (Ran shard asker piece answer) =
     (shard < sizes.shards) × IsOpened asker past
     × RunsNext sizes (world_in past) shard asker (link_in asker past) (record { shard = shard; asker = asker; piece = piece; answer = answer })

@@ -9,19 +9,19 @@ use Rattle.mc_history.specs.Worlds.{IsOpened}
 -- whether a connection did this
 abbrev pub is_of_connection : ℕ → Event → Bool
 is_of_connection k (Opened seat) = false
-is_of_connection k (Took connection command moment given_up) = connection == k
+is_of_connection k (Took connection command moment server given_up) = connection == k
 is_of_connection k (Ran shard asker piece answer) = false
 
 -- whether a shard did this
 abbrev pub is_of_shard : ℕ → Event → Bool
 is_of_shard s (Opened seat) = false
-is_of_shard s (Took connection command moment given_up) = false
+is_of_shard s (Took connection command moment server given_up) = false
 is_of_shard s (Ran shard asker piece answer) = shard == s
 
 -- whether a shard from this one on did this
 abbrev pub is_of_shards : ℕ → Event → Bool
 is_of_shards from (Opened seat) = false
-is_of_shards from (Took connection command moment given_up) = false
+is_of_shards from (Took connection command moment server given_up) = false
 is_of_shards from (Ran shard asker piece answer) = nat_le from shard
 
 -- whether a token of this role may append this event

@@ -10,20 +10,20 @@ use Rattle.mc_history.specs.declared.event.Event.TheVariants.{Opened, Took, Ran}
 -- the seat of a connection that was opened
 abbrev pub seats_of : Event → List ℕ
 seats_of (Opened seat) = seat ∷ []
-seats_of (Took connection command moment given_up) = []
+seats_of (Took connection command moment server given_up) = []
 seats_of (Ran shard asker piece answer) = []
 
 -- the command parsed by the connection of this number, if there is one
 abbrev pub taken_of : ℕ → Event → List Taken
 taken_of k (Opened seat) = []
-taken_of k (Took connection command moment given_up) =
-    if connection == k then record { entry = command; moment = moment; given_up = given_up } ∷ [] else []
+taken_of k (Took connection command moment server given_up) =
+    if connection == k then record { entry = command; moment = moment; server = server; given_up = given_up } ∷ [] else []
 taken_of k (Ran shard asker piece answer) = []
 
 -- what a shard ran, as the log has it
 abbrev pub entries_of : Event → List Entry
 entries_of (Opened seat) = []
-entries_of (Took connection command moment given_up) = []
+entries_of (Took connection command moment server given_up) = []
 entries_of (Ran shard asker piece answer) = record { shard = shard; asker = asker; piece = piece; answer = answer } ∷ []
 
 -- the seats of all connections that were opened, by their numbers

@@ -1,6 +1,7 @@
 //! Events of a server's history.
 use mc_command::Command;
 use mc_item::Answer;
+use mc_reply::ServerStats;
 use mc_split::Piece;
 
 /// An event of a history. No value of it is ever made: histories are visible to proofs alone.
@@ -9,12 +10,13 @@ pub enum Event {
     Opened {
         seat: usize,
     },
-    /// The connection of this number parsed a command at this time, in seconds since 1970.
-    /// `given_up`: memory was refused before a shard was asked.
+    /// The connection of this number took a command, at this moment in seconds since 1970, when this was known of the server. It was given up where memory ran
+    /// out before a shard was asked.
     Took {
         connection: usize,
         command: Command,
         moment: u64,
+        server: ServerStats,
         given_up: bool,
     },
     /// A shard ran a piece for the connection of this number, with this answer.

@@ -5,6 +5,7 @@ ghost use Rattle.std.specs.List.{slice_get};
 ghost use Rattle.mc_command.specs.declared.command.Command.{Command};
 ghost use Rattle.mc_sizes.specs.declared.sizes.Sizes.{Sizes};
 ghost use Rattle.mc_item.specs.declared.answer.Answer.{Answer};
+ghost use Rattle.mc_reply.specs.declared.server_stats.ServerStats.{ServerStats};
 ghost use Rattle.mc_split.specs.declared.plan.Piece.{Piece};
 ghost use Rattle.mc_conn.specs.Due.{due};
 ghost use Rattle.mc_model.specs.Grows.{Lengthens};
@@ -37,10 +38,11 @@ pub fn worlds_have_the_connections_opened()
 /// If a connection appends a command, it has parsed exactly one more, whatever others did
 /// meanwhile.
 pub fn a_command_added_is_the_next_taken()
-    ensures { (k : ℕ) (command : Command) (moment : ℕ) (given_up : Bool) (old new : Acting) →
-        old.role ≡ Connection k → Adds (Took k command moment given_up) old new →
+    ensures { (k : ℕ) (command : Command) (moment : ℕ) (server : ServerStats)
+        (given_up : Bool) (old new : Acting) →
+        old.role ≡ Connection k → Adds (Took k command moment server given_up) old new →
         taken_in k new.events ≡ taken_in k old.events
-        ++ record { entry = command; moment = moment; given_up = given_up } ∷ [] }
+        ++ record { entry = command; moment = moment; server = server; given_up = given_up } ∷ [] }
 {}
 
 /// If a shard appends an entry, it has run exactly one more, whatever others did meanwhile.

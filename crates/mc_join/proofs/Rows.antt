@@ -9,6 +9,7 @@ use Rattle.mc_item.specs.declared.answer.Kind.TheVariants as kind
 use Rattle.mc_ring.specs.Reply.{Shown}
 use Rattle.mc_reply.specs.declared.form.Form.{Form}
 use Rattle.mc_reply.specs.declared.form.Shape.TheVariants as shape
+use Rattle.mc_reply.specs.Server.{no_server}
 use Rattle.mc_reply.specs.Text.{shape_text}
 use Rattle.mc_join.specs.Replies.{replies}
 
@@ -34,7 +35,7 @@ two_replies = (refl, refl, refl, refl, refl)
 
 -- the form of `stats` over two shards
 abbrev counts_form : Form
-counts_form = record { ticket = record { 0 = 0 }; kind = kind.Stats; shape = shape.Stats; slots = None ∷ None ∷ [] }
+counts_form = record { ticket = record { 0 = 0 }; kind = kind.Stats; shape = shape.Stats no_server; slots = None ∷ None ∷ [] }
 
 -- the counts of a shard that holds the given number of items
 abbrev counts : ℕ → Answer
@@ -45,7 +46,7 @@ told part items = record { ticket = record { 0 = 0 }; part = part; kind = kind.S
 
 -- while the counts of a shard are missing there is no reply; then there is one, in whatever order they came
 two_shards : (replies (counts_form ∷ []) (told 1 3 ∷ []) ≡ [])
-    × (replies (counts_form ∷ []) (told 1 3 ∷ told 0 4 ∷ []) ≡ shape_text shape.Stats (counts 4 ∷ counts 3 ∷ []) ∷ [])
+    × (replies (counts_form ∷ []) (told 1 3 ∷ told 0 4 ∷ []) ≡ shape_text (shape.Stats no_server) (counts 4 ∷ counts 3 ∷ []) ∷ [])
     × (replies (counts_form ∷ []) (told 0 4 ∷ told 1 3 ∷ []) ≡ replies (counts_form ∷ []) (told 1 3 ∷ told 0 4 ∷ []))
 unfolding shape_text digits
 two_shards = (refl, refl, refl)

@@ -34,6 +34,7 @@ use Rattle.mc_model.proofs.Logs.{of_asker-yes, on_shard-yes, ran_push}
 use Rattle.mc_laws.proofs.Summing.{at_point, over_lt, set_lowers, sum_none, sum_point, sum_le, sum_lt, sum_more, sum_over, sum_to}
 use Rattle.mc_laws.proofs.Working.{rests_or_goes}
 use Rattle.mc_split.proofs.Parts.{length-parts_from}
+use Rattle.mc_reply.specs.declared.server_stats.ServerStats.{ServerStats}
 
 -- the commands in the input that are not parsed yet
 abbrev untaken : Sizes → Link → List Command
@@ -74,15 +75,15 @@ sum_lanes n (piece ∷ all) =
     omega (arith, rest, more, point)
 
 -- a command that was parsed has no more pieces than the one in the input, and none if it was given up
-planned_within : (shards : ℕ) (entry : Command) (moment : ℕ) (given_up : Bool) → length (pieces_of shards (planned (record { entry = entry; moment = moment; given_up = given_up }))) ≤ length (pieces_of shards entry)
+planned_within : (shards : ℕ) (entry : Command) (moment : ℕ) (server : ServerStats) (given_up : Bool) → length (pieces_of shards (planned (record { entry = entry; moment = moment; server = server; given_up = given_up }))) ≤ length (pieces_of shards entry)
 unfolding pieces_of
-planned_within shards entry moment true = omega arith
-planned_within shards entry moment false = omega arith
+planned_within shards entry moment server true = omega arith
+planned_within shards entry moment server false = omega arith
 
 pieces_within : (shards number : ℕ) (one : Taken) → length (pieces_at shards number one) ≤ length (pieces_of shards one.entry)
 pieces_within shards number one =
     let same = length-parts_from 0 (ticket_at number) one.moment (pieces_of shards (planned one)) in
-    let fewer = planned_within shards one.entry one.moment one.given_up in
+    let fewer = planned_within shards one.entry one.moment one.server one.given_up in
     omega (arith, same, fewer)
 
 drop_front : (xs : List Command) (n : ℕ) (x : Command) (ys : List Command) → n ≡ length xs → drop n ((xs ++ x ∷ []) ++ ys) ≡ x ∷ ys

@@ -32,6 +32,7 @@ use Rattle.mc_command.specs.declared.rules.Rules.{Rules}
 use Rattle.mc_sim.proofs.Opening.{due_received, sent_within}
 use Rattle.mc_sim.proofs.AtSeat.{not_one_more}
 use Rattle.mc_ring.proofs.Lists.{get_below}
+use Rattle.mc_reply.specs.Server.{no_server}
 
 -- what a shard answers where no memory is refused is a step
 step_there : (state : State) (piece : Piece) → IsStep state piece.op piece.moment (outcome_at state piece.op piece.moment).0 (outcome_at state piece.op piece.moment).1
@@ -260,7 +261,7 @@ whole_goes sizes w k link within l here whole sent to =
           elim (next_or_all sizes link own.begins) [
             | inl all ↦ inr (all, sent, handed)
             | inr next ↦
-                let one : Taken = record { entry = next.0; moment = 0; given_up = false } in
+                let one : Taken = record { entry = next.0; moment = 0; server = no_server; given_up = false } in
                 let window : HasWindow sizes link = let some : 0 < sizes.window = within.window.0 in omega (arith, handed, some) in
                 let takes : TakesNext sizes link 0 one = record { next = next.1; moment_is = refl; may = λ never. absurd (cc) } in
                 let at = last_at sizes w k link l here (λ rest.

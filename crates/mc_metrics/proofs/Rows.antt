@@ -42,11 +42,11 @@ unfolding behind_colon hexadecimal
 behind_colons = refl
 
 -- by port: what listens there alone is counted, and a socket of IPv6 as one of IPv4
-lines_by_port : (map (waiting_in 11211) (heading ∷ listening ∷ other ∷ connected ∷ listening_six ∷ []) ≡ 0 ∷ 3 ∷ 0 ∷ 0 ∷ 2 ∷ []) × (map (waiting_in 22) (heading ∷ listening ∷ other ∷ connected ∷ listening_six ∷ []) ≡ 0 ∷ 0 ∷ 26 ∷ 0 ∷ 0 ∷ [])
+lines_by_port : (map (waiting_in (11211 ∷ [])) (heading ∷ listening ∷ other ∷ connected ∷ listening_six ∷ []) ≡ 0 ∷ 3 ∷ 0 ∷ 0 ∷ 2 ∷ []) × (map (waiting_in (22 ∷ [])) (heading ∷ listening ∷ other ∷ connected ∷ listening_six ∷ []) ≡ 0 ∷ 0 ∷ 26 ∷ 0 ∷ 0 ∷ [])
 unfolding waiting_in word_at words_of behind_colon hexadecimal
 lines_by_port = (refl, refl)
 
-tables : (map (λ port. waiting_at port table) (11211 ∷ 22 ∷ 80 ∷ 0 ∷ []) ≡ 3 ∷ 26 ∷ 0 ∷ 0 ∷ []) × (waiting_at 11211 [] ≡ 0) × (waiting_at 11211 heading ≡ 0)
+tables : (map (λ ports. waiting_at ports table) ((11211 ∷ []) ∷ (22 ∷ []) ∷ (80 ∷ []) ∷ (0 ∷ []) ∷ [] ∷ (22 ∷ 11211 ∷ 11211 ∷ []) ∷ []) ≡ 3 ∷ 26 ∷ 0 ∷ 0 ∷ 0 ∷ 29 ∷ []) × (waiting_at (11211 ∷ []) [] ≡ 0) × (waiting_at (11211 ∷ []) heading ≡ 0)
 unfolding waiting_at waiting_in word_at words_of behind_colon hexadecimal
 tables = (refl, refl, refl)
 
@@ -54,12 +54,12 @@ tables = (refl, refl, refl)
 abbrev great : List ℕ
 great = codes "0: 00:16 00:00 0A 00:FFFFFFFFFFFFFFFF"
 
-sums : (waiting_at 22 (other ++ (10 ∷ other)) ≡ 52) × (waiting_at 22 great ≡ 2 ^ 64 - 1) × (waiting_at 22 (great ++ (10 ∷ other)) ≡ 2 ^ 64 - 1)
+sums : (waiting_at (22 ∷ []) (other ++ (10 ∷ other)) ≡ 52) × (waiting_at (22 ∷ []) great ≡ 2 ^ 64 - 1) × (waiting_at (22 ∷ []) (great ++ (10 ∷ other)) ≡ 2 ^ 64 - 1)
 unfolding waiting_at waiting_in word_at words_of behind_colon hexadecimal
 sums = (refl, refl, refl)
 
 -- lines that don't read count nothing: no number of those who wait, no port, a line that is cut
-unreadable : map (waiting_in 22) (codes "0: 00:16 00:00 0A 00:zz" ∷ codes "0: 0016 00:00 0A 00:1" ∷ codes "0: 00:16 00:00 0A" ∷ codes "0: 00:16" ∷ []) ≡ 0 ∷ 0 ∷ 0 ∷ 0 ∷ []
+unreadable : map (waiting_in (22 ∷ [])) (codes "0: 00:16 00:00 0A 00:zz" ∷ codes "0: 0016 00:00 0A 00:1" ∷ codes "0: 00:16 00:00 0A" ∷ codes "0: 00:16" ∷ []) ≡ 0 ∷ 0 ∷ 0 ∷ 0 ∷ []
 unfolding waiting_in word_at words_of behind_colon hexadecimal
 unreadable = refl
 

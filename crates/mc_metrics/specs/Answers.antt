@@ -43,7 +43,7 @@ module _ {C : Type 0} (told : C → ℕ → Type 0) where
   -- are as the system reports them.
   abbrev pub AreMetrics : Facts → Counts C → ℕ → List ℕ → Type 0
   AreMetrics facts counts uptime text =
-      (totals : Totals) × (waiting : ℕ) × (process : Process) × AreTotals told counts totals × AreWaiting facts.port waiting
+      (totals : Totals) × (waiting : ℕ) × (process : Process) × AreTotals told counts totals × AreWaiting facts.ports.now waiting
       × (text ≡ metrics_text (record { facts = facts; totals = totals; waiting = waiting; uptime = uptime; process = process }))
 
   -- the text of the resource: the metrics, followed by those of each shard from its own counters. No clause

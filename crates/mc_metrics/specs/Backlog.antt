@@ -29,21 +29,21 @@ word_at place line = unwrap_or (slice_get (words_of line) place) []
 unfoldable pub behind_colon : List ℕ → Option ℕ
 behind_colon word = hexadecimal (unwrap_or (slice_get (slice_split (λ byte. byte == 58) word) 1) [])
 
--- the backlog of a socket, if it is at that port
-abbrev pub waiting_if_at : ℕ → Option ℕ → Option ℕ → ℕ
-waiting_if_at port None waiting = 0
-waiting_if_at port (Some at) None = 0
-waiting_if_at port (Some at) (Some waiting) = if nat_eq at port then waiting else 0
+-- what waits at a socket of that port, if it is one of these
+abbrev pub waiting_if_at : List ℕ → Option ℕ → Option ℕ → ℕ
+waiting_if_at ports None waiting = 0
+waiting_if_at ports (Some at) None = 0
+waiting_if_at ports (Some at) (Some waiting) = if list_any (λ port. nat_eq at port) ports then waiting else 0
 
--- the backlog of the socket on a line: 0 unless it listens (its fourth word, the state, is 0A) at the port
-unfoldable pub waiting_in : ℕ → List ℕ → ℕ
-waiting_in port line =
-    if bytes_eq (word_at 3 line) (codes "0A") then waiting_if_at port (behind_colon (word_at 1 line)) (behind_colon (word_at 4 line)) else 0
+-- how many wait at the socket of a line: none, unless it listens (its state, the fourth word, is 0A) at one of the ports
+unfoldable pub waiting_in : List ℕ → List ℕ → ℕ
+waiting_in ports line =
+    if bytes_eq (word_at 3 line) (codes "0A") then waiting_if_at ports (behind_colon (word_at 1 line)) (behind_colon (word_at 4 line)) else 0
 
--- the backlog of all sockets of the table that listen at the port
-unfoldable pub waiting_at : ℕ → List ℕ → ℕ
-waiting_at port table = saturated (sum_by (waiting_in port) (lines table))
+-- how many wait at all sockets of the table that listen at one of the ports
+unfoldable pub waiting_at : List ℕ → List ℕ → ℕ
+waiting_at ports table = saturated (sum_by (waiting_in ports) (lines table))
 
--- `waiting` is the backlog at the port, by two tables that were read, of IPv4 and IPv6
-abbrev pub AreWaiting : ℕ → ℕ → Type 0
-AreWaiting port waiting = (table other : List ℕ) × (waiting ≡ saturated (waiting_at port table + waiting_at port other))
+-- waiting is how many wait at the ports, by the two tables that were read, one of IPv4 and one of IPv6
+abbrev pub AreWaiting : List ℕ → ℕ → Type 0
+AreWaiting ports waiting = (table other : List ℕ) × (waiting ≡ saturated (waiting_at ports table + waiting_at ports other))

@@ -12,7 +12,7 @@ use Rattle.mc_metrics.specs.declared.text.EndReason.{EndReason}
 use Rattle.mc_metrics.specs.declared.text.EndReason.TheVariants as reason
 use Rattle.mc_metrics.specs.declared.text.Metric.{Metric}
 use Rattle.mc_metrics.specs.declared.text.Number.{Number}
-use Rattle.mc_metrics.specs.declared.text.Number.TheVariants.{Up, Uptime, LimitBytes, Shards, Seats, Open, Waiting, Accepted, Broken, Failed, Commands, Read, Written, Items, Bytes, Evicted, OutOfMemory, Resident, Started, OpenFiles, MostFiles}
+use Rattle.mc_metrics.specs.declared.text.Number.TheVariants.{Up, Uptime, LimitBytes, Shards, Seats, Open, Waiting, Accepted, Broken, Failed, Rejected, Commands, Read, Written, Items, Bytes, Evicted, OutOfMemory, Resident, Started, OpenFiles, MostFiles}
 
 -- a metric of this type, with its name, its HELP text and its value: three lines, each ended by byte 10
 unfoldable pub metric_text : (kind name help : List ℕ) (value : ℕ) → List ℕ
@@ -38,6 +38,7 @@ numbers_text reading =
     ∷ counter_text (codes "memcached_connections_total") (codes "Connections accepted.") reading.totals.accepted
     ∷ counter_text (codes "mcd_connections_broken_total") (codes "Connections that failed or exceeded the idle timeout.") reading.totals.broken
     ∷ counter_text (codes "mcd_accepts_failed_total") (codes "Failed attempts to accept a connection.") reading.totals.failed
+    ∷ counter_text (codes "mcd_connections_rejected_total") (codes "Connections refused because all seats were taken.") reading.totals.rejected
     ∷ counter_text (codes "mcd_commands_total") (codes "Commands received.") reading.totals.commands
     ∷ counter_text (codes "memcached_read_bytes_total") (codes "Bytes read from clients.") reading.totals.read
     ∷ counter_text (codes "memcached_written_bytes_total") (codes "Bytes written to clients.") reading.totals.written
@@ -142,6 +143,7 @@ number_of Waiting reading = reading.waiting
 number_of Accepted reading = reading.totals.accepted
 number_of Broken reading = reading.totals.broken
 number_of Failed reading = reading.totals.failed
+number_of Rejected reading = reading.totals.rejected
 number_of Commands reading = reading.totals.commands
 number_of Read reading = reading.totals.read
 number_of Written reading = reading.totals.written

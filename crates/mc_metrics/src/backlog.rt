@@ -1,5 +1,6 @@
 //! The number of connections in the listen backlog, from Linux' socket tables.
-ghost use Rattle.std.specs.Prelude.{◌≡◌};
+ghost use Rattle.std.specs.Prelude.{◌≡◌, nat_eq};
+ghost use Rattle.std.specs.List.{list_any};
 ghost use Rattle.mc_metrics.specs.Backlog.{AreWaiting, behind_colon, hexadecimal, waiting_at, waiting_in, word_at};
 
 use std::alloc::Global;
@@ -49,14 +50,13 @@ impl Tables {
         }
     }
 
-    /// Number of connections in the backlog of the sockets that listen at the port. An unreadable
-    /// table counts as empty.
-    pub(crate) fn waiting(&self, port: u16) -> u64
-        ensures { AreWaiting port result }
+    /// How many connections wait now at the sockets that listen at one of the ports. A table that can't be read shows none.
+    pub(crate) fn waiting(&self, ports: &[u16]) -> u64
+        ensures { AreWaiting ports.now result }
     {
         let four = table_text(self.alloc, &self.four);
         let six = table_text(self.alloc, &self.six);
-        waiting_at(&four, port).saturating_add(waiting_at(&six, port))
+        waiting_at(&four, ports).saturating_add(waiting_at(&six, ports))
     }
 }
 
@@ -79,19 +79,19 @@ fn read_table(alloc: Global, table: &Option<File>) -> io::Result<String> {
     Ok(text)
 }
 
-/// Number of waiting connections in this table, over the sockets that listen at the port.
-fn waiting_at(table: &str, port: u16) -> u64
-    ensures { result ≡ waiting_at port table.now }
+/// How many connections wait, by this table, at the sockets that listen at one of the ports.
+fn waiting_at(table: &str, ports: &[u16]) -> u64
+    ensures { result ≡ waiting_at ports.now table.now }
 {
     table.lines().fold(0, |sum: u64, line| {
-        sum.saturating_add(waiting_in(line, port))
+        sum.saturating_add(waiting_in(line, ports))
     })
 }
 
-/// Number of waiting connections of the socket on this line, if it listens at the port.
+/// How many wait at the socket of a line, if it listens at one of the ports.
 #[tactic(auto, unfolding(crate::specs::Backlog::waiting_in))]
-fn waiting_in(line: &str, port: u16) -> u64
-    ensures { result ≡ waiting_in port line.now }
+fn waiting_in(line: &str, ports: &[u16]) -> u64
+    ensures { result ≡ waiting_in ports.now line.now }
 {
     if word_at(line, STATE) != LISTENING {
         return 0;
@@ -99,9 +99,16 @@ fn waiting_in(line: &str, port: u16) -> u64
     let at = behind_colon(word_at(line, ADDRESS));
     let waiting = behind_colon(word_at(line, QUEUES));
     match (at, waiting) {
-        (Some(at), Some(waiting)) if at == u64::from(port) => waiting,
+        (Some(at), Some(waiting)) if is_one_of(at, ports) => waiting,
         _ => 0,
     }
+}
+
+/// Whether the number is one of the ports.
+fn is_one_of(at: u64, ports: &[u16]) -> bool
+    ensures { result ≡ list_any (λ port. nat_eq at port) ports.now }
+{
+    ports.iter().any(|port| at == u64::from(*port))
 }
 
 /// Word number `place` of a line, counted from 0; empty if there is none.

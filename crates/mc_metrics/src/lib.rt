@@ -22,7 +22,7 @@ pub use address::address_of;
 pub use history::History;
 pub use page::page_of;
 pub use pages::Pages;
-pub use process::Process;
+pub use process::{Process, ProcessTimes};
 pub use reading::{Facts, Reading};
 pub use server::MetricsServer;
 pub use text::metrics_of;

@@ -203,7 +203,8 @@ pub fn page_of(
 
 /// Appends everything before the figures.
 fn push_head(text: &mut String, host: &str, facts: &Facts) -> Result<(), AllocError> {
-    let Facts { version, port, .. } = facts;
+    let Facts { version, ports, .. } = facts;
+    let port = ports.first().copied().unwrap_or(0);
     write!(text, "{HEAD}{host}:{port} mcd{STYLE}")?;
     write!(text, "mcd {version} on {host}:{port}</h1>\n")?;
     text.push_str(

@@ -160,12 +160,12 @@ impl<C: Count> Pages<C> {
         ensures facts { result.facts ≡ self.now.facts }
         ensures totals { AreTotals C.has_told self.now.counts result.totals }
         ensures uptime { result.uptime ≡ self.now.uptime }
-        ensures waiting { AreWaiting self.now.facts.port result.waiting }
+        ensures waiting { AreWaiting self.now.facts.ports.now result.waiting }
     {
         Reading {
             facts: self.facts,
             totals: self.counts.totals(),
-            waiting: self.tables.waiting(self.facts.port),
+            waiting: self.tables.waiting(self.facts.ports),
             uptime: self.uptime,
             process: self.process.now(),
         }

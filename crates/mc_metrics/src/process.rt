@@ -59,6 +59,41 @@ impl Drop for ProcessFiles {
     }
 }
 
+/// The process's number, and what the processors have done for it, as the system says: 0 where it can't be read.
+#[derive(Clone, Copy, Debug, Default, PartialEq, Eq)]
+pub struct ProcessTimes {
+    /// Its number.
+    pub pid: u64,
+    /// CPU time in user mode, in hundredths of a second.
+    pub user: u64,
+    /// CPU time in the kernel, in hundredths of a second.
+    pub system: u64,
+}
+
+impl ProcessTimes {
+    /// What they are now.
+    pub fn now<R: Files<File = File>>(rt: &R, alloc: Global) -> ProcessTimes {
+        let text = match stat_text(rt, alloc) {
+            Ok(text) => text,
+            Err(_) => String::new(alloc),
+        };
+        let words = behind_name(text.as_str());
+        ProcessTimes {
+            pid: number_at(text.as_str(), 0),
+            user: number_at(words, USER),
+            system: number_at(words, SYSTEM),
+        }
+    }
+}
+
+/// The text of the file of its times, which is opened for this read alone, so that any thread may ask.
+fn stat_text<R: Files<File = File>>(rt: &R, alloc: Global) -> io::Result<String> {
+    let mut text = String::new(alloc);
+    let mut stat = File::open(rt, "/proc/self/stat")?;
+    stat.read_to_string(&mut text)?;
+    Ok(text)
+}
+
 impl ProcessFiles {
     /// Opens both. If one is missing, as on systems other than Linux, its numbers are 0.
     pub(crate) fn open<R: Files<File = File>>(rt: &R, alloc: Global) -> ProcessFiles {

@@ -7,8 +7,8 @@ use mc_watch::Totals;
 pub struct Facts {
     /// Version of the program.
     pub version: &'static str,
-    /// Port for clients.
-    pub port: u16,
+    /// The ports at which it listens for clients, each once, that of the first place first.
+    pub ports: &'static [u16],
     /// Number of shards, each with a thread.
     pub shards: u64,
     /// Number of connection slots.

@@ -28,6 +28,7 @@ enum Number {
     Accepted,
     Broken,
     Failed,
+    Rejected,
     Commands,
     Read,
     Written,
@@ -73,7 +74,7 @@ const COUNTER: &str = "counter";
 
 /// All metrics with one sample, in their order of output. Metrics that memcached's exporter has too
 /// have its names and its meaning.
-const METRICS: [Metric; 21] = [
+const METRICS: [Metric; 22] = [
     Metric {
         name: "memcached_up",
         kind: GAUGE,
@@ -133,6 +134,12 @@ const METRICS: [Metric; 21] = [
         kind: COUNTER,
         help: "Failed attempts to accept a connection.",
         number: Number::Failed,
+    },
+    Metric {
+        name: "mcd_connections_rejected_total",
+        kind: COUNTER,
+        help: "Connections refused because all seats were taken.",
+        number: Number::Rejected,
     },
     Metric {
         name: "mcd_commands_total",
@@ -393,6 +400,7 @@ impl Number {
             Number::Accepted => reading.totals.accepted,
             Number::Broken => reading.totals.broken,
             Number::Failed => reading.totals.failed,
+            Number::Rejected => reading.totals.rejected,
             Number::Commands => reading.totals.commands,
             Number::Read => reading.totals.read,
             Number::Written => reading.totals.written,

@@ -1,7 +1,6 @@
 //! Telemetry options, and the threads that they start.
-ghost use Rattle.std.specs.Prelude.{◌≡◌, ◌*◌, ◌-◌, ◌^◌, IfOk, IfSome, length, min, option_map};
-ghost use Rattle.mc_watch.specs.Counts.{shard_count, threads_of};
-ghost use Rattle.mc_metrics.specs.Wishes.{AreFollowed, reporter_count};
+ghost use Rattle.std.specs.Prelude.{◌≡◌, ◌*◌, ◌-◌, ◌^◌, false, IfOk, IfSome, is_some, length, min, option_map};
+ghost use Rattle.mc_metrics.specs.Wishes.{AreCounted, AreFollowed, reporter_count};
 
 use crate::address::address_of;
 use crate::pages::Pages;
@@ -83,7 +82,7 @@ pub enum Ended {
     Cut,
 }
 
-/// Starts the telemetry of a server with this version, port and sizes: returns the handle for the
+/// Starts the telemetry of a server with this version, ports and sizes: returns the handle for the
 /// serving threads, and the telemetry threads.
 pub fn start_watching<
     R: Threads
@@ -101,7 +100,7 @@ pub fn start_watching<
 >(
     rt: &R,
     version: &'static str,
-    port: u16,
+    ports: &'static [u16],
     sizes: Sizes,
     wishes: Wishes<'_>,
 ) -> Result<(Watch, Watching), NotWatching>
@@ -111,7 +110,7 @@ pub fn start_watching<
         tellers: Vec::new(rt.alloc()),
         shutdown: None,
     };
-    match watching.begin(rt, version, port, sizes, wishes) {
+    match watching.begin(rt, version, ports, sizes, wishes) {
         Ok(watch) => Ok((watch, watching)),
         Err(fault) => {
             let _ = watching.end(rt);
@@ -138,18 +137,18 @@ impl Watching {
         &mut self,
         rt: &R,
         version: &'static str,
-        port: u16,
+        ports: &'static [u16],
         sizes: Sizes,
         wishes: Wishes<'_>,
     ) -> Result<Watch, NotWatching>
         ensures { IfOk result (λ watch. AreFollowed wishes.entry sizes watch) }
     {
-        let facts = facts_of(version, port, started(rt), sizes);
+        let facts = facts_of(version, ports, started(rt), sizes);
         let prefix = prefix_of(wishes.is_journal);
         Ok(Watch {
             idle_limit: idle_limit_of(rt.alloc(), wishes.idle_timeout)?,
             reporters: self.reporters(rt, wishes.verbose, prefix, sizes.seats)?,
-            counts: self.counts(rt, wishes.metrics, facts, sizes.shards)?,
+            counts: self.counts(rt, wishes.metrics, facts, sizes)?,
             drain: self.drain(rt, wishes.drain)?,
         })
     }
@@ -193,8 +192,9 @@ impl Watching {
         Ok(all)
     }
 
-    /// Makes the counters of this many shards, and starts the metrics thread at this address, if
-    /// there is one.
+    /// The counters of the threads of a server of these sizes, if metrics are served or memcached's
+    /// rules hold, whose `stats` shows some of them. With an address, a thread serves the metrics there;
+    /// without one, no shard publishes its contents.
     fn counts<
         R: Threads
             + Wait
@@ -213,18 +213,14 @@ impl Watching {
         rt: &R,
         word: Option<&str>,
         facts: Facts,
-        shards: usize,
+        sizes: Sizes,
     ) -> Result<Option<Counts>, NotWatching>
-        ensures counted { IfOk result (λ counts.
-            option_map (λ all. length (threads_of all)) counts ≡
-            option_map (λ _. shards) word.entry) }
-        ensures shown { IfOk result (λ counts.
-            option_map (λ all. shard_count all) counts ≡ option_map (λ _. shards) word.entry) }
+        ensures { IfOk result (λ counts. AreCounted (is_some word.entry) sizes counts) }
     {
         let Some(word) = word else {
-            return Ok(None);
+            return counts_of_stats(rt.alloc(), sizes);
         };
-        let counts = Counts::new(rt.alloc(), shards)?;
+        let counts = Counts::new(rt.alloc(), sizes.shards, sizes.shards)?;
         let pages = Pages::new(rt, rt.alloc(), facts, &counts)?;
         self.tell_metrics(rt, word, pages)?;
         Ok(Some(counts))
@@ -321,10 +317,20 @@ fn idle_limit_of(alloc: Global, limit: Option<u64>) -> Result<Option<IdleLimit>,
     Ok(Some(IdleLimit { seconds, limit }))
 }
 
+/// What the threads count where there are no metrics: what `stats` shows by memcached's rules, and nothing by the server's own.
+fn counts_of_stats(alloc: Global, sizes: Sizes) -> Result<Option<Counts>, NotWatching>
+    ensures { IfOk result (λ counts. AreCounted false sizes counts) }
+{
+    if !sizes.rules().is_drop_in() {
+        return Ok(None);
+    }
+    Ok(Some(Counts::new(alloc, sizes.shards, 0)?))
+}
+
 /// The configuration of the server for metrics and page.
-fn facts_of(version: &'static str, port: u16, started: u64, sizes: Sizes) -> Facts
+fn facts_of(version: &'static str, ports: &'static [u16], started: u64, sizes: Sizes) -> Facts
     ensures version { result.version.now ≡ version.now }
-    ensures port { result.port ≡ port }
+    ensures ports { result.ports.now ≡ ports.now }
     ensures started { result.started ≡ started }
     ensures shards { result.shards ≡ sizes.shards }
     ensures seats { result.seats ≡ sizes.seats }
@@ -333,7 +339,7 @@ fn facts_of(version: &'static str, port: u16, started: u64, sizes: Sizes) -> Fac
     let shards = sizes.shards as u64;
     Facts {
         version,
-        port,
+        ports,
         shards,
         seats: sizes.seats as u64,
         limit_bytes: shards.saturating_mul(sizes.bytes as u64),

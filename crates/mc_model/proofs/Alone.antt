@@ -93,10 +93,10 @@ alone_goes shards ticket states (done ∷ history) places had answered continues
     let now = ended states done.moment pieces in
     let long : length done.answers ≡ length pieces = rw kept at answered.0 in
     let goes : Continues shards states (ran_by (parts_from 0 (due.ticket_at ticket) done.moment pieces) done.answers ++ log_from shards (ticket + 1) history) =
-    subst (λ b. Continues shards states (ran_by (parts_from 0 (due.ticket_at ticket) done.moment (pieces_of shards (planned (record { entry = done.entry; moment = done.moment; given_up = b })))) done.answers ++ log_from shards (ticket + 1) history)) kept continues in
+    subst (λ b. Continues shards states (ran_by (parts_from 0 (due.ticket_at ticket) done.moment (pieces_of shards (planned (record { entry = done.entry; moment = done.moment; server = done.server; given_up = b })))) done.answers ++ log_from shards (ticket + 1) history)) kept continues in
     let one = pieces_alone shards (due.ticket_at ticket) done.moment 0 states pieces done.answers (log_from shards (ticket + 1) history) long (pieces_within shards places done.entry) had.0.answered goes in
     let rest = alone_goes shards (ticket + 1) now.states history places had.1 answered.1 one.1 in
-    rw kept (ap (λ answers. text_of done.entry answers ++ texts_of history) one.0 ∙ ap (λ texts. text_of done.entry now.answers ++ texts) rest)
+    rw kept (ap (λ answers. text_of done.server done.entry answers ++ texts_of history) one.0 ∙ ap (λ texts. text_of done.server done.entry now.answers ++ texts) rest)
 
 -- an entry without who asked
 abbrev pub ran_of : Entry → Ran

@@ -11,11 +11,10 @@ use Rattle.mc_item.specs.declared.answer.Answer.{Answer}
 use Rattle.mc_ring.specs.Reply.{Shown}
 use Rattle.mc_reply.specs.declared.form.Form.{Form}
 use Rattle.mc_reply.specs.declared.ticket.Ticket.{Ticket}
-use Rattle.mc_split.specs.Plan.{form_of}
 use Rattle.mc_reply.specs.Slots.{missing_in}
 use Rattle.mc_join.specs.Replies.{answer_to, answered, complete, form_text, is_answered, is_to, replies, slots_after}
-use Rattle.mc_conn.specs.History.{Taken, planned}
-use Rattle.mc_conn.specs.Due.{forms_from, forms_of, ticket_at}
+use Rattle.mc_conn.specs.History.{Taken}
+use Rattle.mc_conn.specs.Due.{form_at, forms_from, forms_of}
 use Rattle.mc_conn.proofs.Gets.{get_front}
 use Rattle.mc_model.specs.Log.{Entry, of_asker, replies_in, reply_to}
 use Rattle.mc_model.specs.World.{IsLink, Link, World, with_link}
@@ -83,7 +82,7 @@ pub forms-append : (shards number : ℕ) (taken more : List Taken) → forms_fro
 forms-append shards number [] more = let at : number ≡ number + 0 = omega arith in ap (λ n. forms_from shards n more) at
 forms-append shards number (one ∷ taken) more =
     let at : number + 1 + length taken ≡ number + suc (length taken) = omega arith in
-    ap (λ fs. form_of shards (ticket_at number) (planned one) ∷ fs) (forms-append shards (number + 1) taken more ∙ ap (λ n. forms_from shards (number + 1) taken ++ forms_from shards n more) at)
+    ap (λ fs. form_at shards number one ∷ fs) (forms-append shards (number + 1) taken more ∙ ap (λ n. forms_from shards (number + 1) taken ++ forms_from shards n more) at)
 
 -- The bytes of texts with more texts behind them are those of the first, then those of the others.
 pub concat-append : (a b : List (List ℕ)) → concat (a ++ b) ≡ concat a ++ concat b

@@ -37,6 +37,7 @@ use Rattle.mc_model.specs.Schedule.{Schedule}
 use Rattle.mc_model.specs.declared.event.StepReply.TheVariants.{Done}
 use Rattle.mc_model.specs.Headline.{handed_bytes}
 use Rattle.mc_reader.proofs.Rows.{no_end}
+use Rattle.mc_reply.specs.Server.{no_server}
 
 -- a server of one seat and one shard, with one place on a ring and one open command
 abbrev pub one_each : Sizes
@@ -52,7 +53,7 @@ flush = command.FlushAll (pos 0) false
 
 -- that command, as it is taken
 abbrev pub one : Taken
-one = record { entry = flush; moment = 1000; given_up = false }
+one = record { entry = flush; moment = 1000; server = no_server; given_up = false }
 
 -- its one piece: the shard is asked to empty itself
 abbrev pub piece : Piece

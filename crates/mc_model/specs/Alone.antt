@@ -51,7 +51,7 @@ abbrev pub alone_from : ℕ → States → List Taken → List ℕ
 alone_from shards states [] = []
 alone_from shards states (taken ∷ later) =
     let now = ended states taken.moment (pieces_of shards taken.entry) in
-    text_of taken.entry now.answers ++ alone_from shards now.states later
+    text_of taken.server taken.entry now.answers ++ alone_from shards now.states later
 
 -- the replies to these commands, from empty shards on
 abbrev pub alone : Sizes → List Taken → List ℕ

@@ -3,11 +3,14 @@ use Rattle.std.proofs.Common.{◌≡◌, ℕ, Bool, true, false, ◌&&◌, ◌�
 use Rattle.std.specs.List.{list_any}
 use Rattle.mc_command.specs.declared.command.Command.{Command}
 use Rattle.mc_command.specs.declared.command.Command.TheVariants as command
+use Rattle.mc_command.specs.declared.command.StatsRequest.TheVariants as request
 use Rattle.mc_command.specs.declared.meta.MetaFlags.{MetaFlags}
 use Rattle.mc_item.specs.declared.answer.Answer.{Answer}
 use Rattle.mc_command.specs.declared.meta.MetaKind.{MetaKind}
 use Rattle.mc_command.specs.declared.meta.MetaKind.TheVariants as kind
 use Rattle.mc_reply.specs.declared.form.Shape.TheVariants as shape
+use Rattle.mc_reply.specs.declared.server_stats.ServerStats.{ServerStats}
+use Rattle.mc_reply.specs.Server.{shows_server}
 use Rattle.mc_reply.specs.Shape.{is_lenient_in, shape_of, shown_key}
 use Rattle.mc_reply.specs.Text.{coded_text, is_hidden, is_no_memory, memory_line, shape_text, text_of, told}
 use Rattle.mc_reply.specs.TextLaws.{loud, without_quiet}
@@ -37,17 +40,25 @@ meta_or_not kind flags value key lenient (answer ∷ answers) =
     coded_or_not kind flags value key (flags.quiet && is_hidden kind value answer) (list_any is_no_memory (answer ∷ answers)) (told answer lenient)
 
 -- The reply to a command is empty, or equal to that of the command without `noreply` and `q`.
-pub empty_or_loud : (command : Command) (answers : List Answer) → (text_of command answers ≡ []) ⊎ (text_of command answers ≡ text_of (loud command) answers)
+pub empty_or_loud : (server : ServerStats) (command : Command) (answers : List Answer) → (text_of server command answers ≡ []) ⊎ (text_of server command answers ≡ text_of server (loud command) answers)
 unfolding shape_of shape_text
-empty_or_loud (command.Store storage) answers = noreply_or_not storage.noreply (shape_text (shape.Line false storage.lenient) answers)
-empty_or_loud (command.Delete key noreply) answers = noreply_or_not noreply (shape_text (shape.Line false false) answers)
-empty_or_loud (command.Count key direction amount noreply) answers = noreply_or_not noreply (shape_text (shape.Line false false) answers)
-empty_or_loud (command.Touch key exptime noreply) answers = noreply_or_not noreply (shape_text (shape.Line false false) answers)
-empty_or_loud (command.FlushAll delay noreply) answers = noreply_or_not noreply (shape_text (shape.Line false false) answers)
-empty_or_loud (command.Verbosity true) answers = inl refl
-empty_or_loud command.Quit answers = inl refl
-empty_or_loud (command.MetaGet get) answers = meta_or_not kind.Get get.flags get.value (shown_key get.flags get.asked.key) false answers
-empty_or_loud (command.MetaSet set) answers = meta_or_not kind.Set set.flags false (shown_key set.flags set.asked.key) (is_lenient_in set.flags.profile set.asked.mode) answers
-empty_or_loud (command.MetaDelete delete) answers = meta_or_not kind.Delete delete.flags false (shown_key delete.flags delete.asked.key) false answers
-empty_or_loud (command.MetaArithmetic arithmetic) answers = meta_or_not kind.Arithmetic arithmetic.flags arithmetic.value (shown_key arithmetic.flags arithmetic.asked.key) false answers
-empty_or_loud other answers = inr refl
+empty_or_loud server (command.Store storage) answers = noreply_or_not storage.noreply (shape_text (shape.Line false storage.lenient) answers)
+empty_or_loud server (command.Delete key noreply) answers = noreply_or_not noreply (shape_text (shape.Line false false) answers)
+empty_or_loud server (command.Count key direction amount noreply) answers = noreply_or_not noreply (shape_text (shape.Line false false) answers)
+empty_or_loud server (command.Touch key exptime noreply) answers = noreply_or_not noreply (shape_text (shape.Line false false) answers)
+empty_or_loud server (command.FlushAll delay noreply) answers = noreply_or_not noreply (shape_text (shape.Line false false) answers)
+empty_or_loud server (command.Verbosity true) answers = inl refl
+empty_or_loud server command.Quit answers = inl refl
+empty_or_loud server (command.MetaGet get) answers = meta_or_not kind.Get get.flags get.value (shown_key get.flags get.asked.key) false answers
+empty_or_loud server (command.MetaSet set) answers = meta_or_not kind.Set set.flags false (shown_key set.flags set.asked.key) (is_lenient_in set.flags.profile set.asked.mode) answers
+empty_or_loud server (command.MetaDelete delete) answers = meta_or_not kind.Delete delete.flags false (shown_key delete.flags delete.asked.key) false answers
+empty_or_loud server (command.MetaArithmetic arithmetic) answers = meta_or_not kind.Arithmetic arithmetic.flags arithmetic.value (shown_key arithmetic.flags arithmetic.asked.key) false answers
+empty_or_loud server other answers = inr refl
+
+-- Only the reply to `stats` shows the server.
+pub shown_by_stats : (server other : ServerStats) (command : Command) (answers : List Answer) → shows_server command ≡ false → text_of server command answers ≡ text_of other command answers
+unfolding shape_of
+shown_by_stats server other (command.Stats request.General) answers none = absurd (cc none)
+shown_by_stats server other (command.Stats request.Reset) answers none = refl
+shown_by_stats server other (command.Stats request.Empty) answers none = refl
+shown_by_stats server other asked answers none = refl

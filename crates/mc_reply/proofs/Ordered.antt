@@ -14,6 +14,7 @@ use Rattle.mc_item.specs.declared.answer.Answer.TheVariants as answer
 use Rattle.mc_command.specs.declared.meta.MetaKind.{MetaKind}
 use Rattle.mc_command.specs.declared.meta.MetaKind.TheVariants as kind
 use Rattle.mc_reply.specs.declared.form.Shape.TheVariants as shape
+use Rattle.mc_reply.specs.declared.server_stats.ServerStats.{ServerStats}
 use Rattle.mc_reply.specs.Shape.{is_key_flag, is_lenient_in, shape_of, shown_key}
 use Rattle.mc_reply.specs.Text.{answer_line, coded_text, failed_flag, flag_text, is_hidden, is_no_memory, marks_text, memory_line, shape_text, text_of, told}
 use Rattle.mc_command.specs.FlagOrder.{returned_in, with_flags, with_returned}
@@ -84,11 +85,11 @@ ordered kind flags others value key lenient answers moved =
     rw (← same) (with_key kind flags others value (shown_key flags key) lenient answers)
 
 -- Another order of the returned flags changes only their order in the reply.
-pub orders_flags : (command : Command) (returned : List ReturnFlag) → IsPermutation (returned_in command) returned → (answers : List Answer) →
-    DiffersInOrder (returned_in command) returned (text_of command answers) (text_of (with_returned command returned) answers)
+pub orders_flags : (server : ServerStats) (command : Command) (returned : List ReturnFlag) → IsPermutation (returned_in command) returned → (answers : List Answer) →
+    DiffersInOrder (returned_in command) returned (text_of server command answers) (text_of server (with_returned command returned) answers)
 unfolding shape_of
-orders_flags (command.MetaGet get) returned moved answers = ordered kind.Get get.flags returned get.value get.asked.key false answers moved
-orders_flags (command.MetaSet set) returned moved answers = ordered kind.Set set.flags returned false set.asked.key (is_lenient_in set.flags.profile set.asked.mode) answers moved
-orders_flags (command.MetaDelete delete) returned moved answers = ordered kind.Delete delete.flags returned false delete.asked.key false answers moved
-orders_flags (command.MetaArithmetic arithmetic) returned moved answers = ordered kind.Arithmetic arithmetic.flags returned arithmetic.value arithmetic.asked.key false answers moved
-orders_flags other returned moved answers = alike [] returned (text_of other answers)
+orders_flags server (command.MetaGet get) returned moved answers = ordered kind.Get get.flags returned get.value get.asked.key false answers moved
+orders_flags server (command.MetaSet set) returned moved answers = ordered kind.Set set.flags returned false set.asked.key (is_lenient_in set.flags.profile set.asked.mode) answers moved
+orders_flags server (command.MetaDelete delete) returned moved answers = ordered kind.Delete delete.flags returned false delete.asked.key false answers moved
+orders_flags server (command.MetaArithmetic arithmetic) returned moved answers = ordered kind.Arithmetic arithmetic.flags returned arithmetic.value arithmetic.asked.key false answers moved
+orders_flags server other returned moved answers = alike [] returned (text_of server other answers)

@@ -8,10 +8,11 @@ use Rattle.mc_wire.specs.Outlet.{BreaksOff, Sight, Writes, took}
 use Rattle.mc_wire.proofs.Outlets.{breaks_first, breaks_later, writes_on}
 use Rattle.mc_item.specs.declared.answer.Answer.{Answer}
 use Rattle.mc_item.specs.declared.stat.Stat.{Stat}
-use Rattle.mc_item.specs.Stat.{all_stats, row_of}
+use Rattle.mc_item.specs.declared.stat.Stat.TheVariants as stat
 use Rattle.mc_reply.specs.declared.form.Shape.{Shape}
 use Rattle.mc_reply.specs.declared.form.Shape.TheVariants as shape
-use Rattle.mc_reply.specs.Text.{coded_text, flags_text, marks_text, release, shape_text, stat_in, stat_text, stats_text, together, item_text, is_no_memory, of_first, unless_no_memory}
+use Rattle.mc_reply.specs.declared.server_stats.ServerStats.{ServerStats}
+use Rattle.mc_reply.specs.Text.{coded_text, command_stats, connections_text, flags_text, item_stats, marks_text, process_text, release, server_text, shape_text, shard_lines, stat_in, stat_text, stats_text, item_text, is_no_memory, of_first, times_text, traffic_text, unless_no_memory}
 use Rattle.mc_command.specs.declared.meta.MetaFlags.{MetaFlags}
 use Rattle.mc_command.specs.declared.meta.MetaKind.{MetaKind}
 use Rattle.mc_item.specs.declared.answer.Answer.TheVariants as answers
@@ -83,21 +84,25 @@ first-filled text (answer ∷ answers) = refl
 pub unless-filled : (answers : List Answer) (over text : List ℕ) → over ≡ text → unless_lacking (filled answers) over ≡ unless_no_memory answers text
 unless-filled answers over text e = rw (lacks-filled answers, e)
 
-sum-filled : (stat : Stat) (answers : List Answer) → sum_by (slot_stat stat) (filled answers) ≡ sum_by (stat_in stat) answers
-sum-filled stat answers = fold-map (λ a slot. a + slot_stat stat slot) (λ answer. Some answer) 0 answers
+sum-filled : (one : Stat) (answers : List Answer) → sum_by (slot_stat one) (filled answers) ≡ sum_by (stat_in one) answers
+sum-filled one answers = fold-map (λ a slot. a + slot_stat one slot) (λ answer. Some answer) 0 answers
 
-lines-filled : (answers : List Answer) (stats : List Stat) → flat_map (sum_line (filled answers)) stats ≡ flat_map (λ stat. stat_text (row_of stat).0 (decimal (together stat answers))) stats
+lines-filled : (answers : List Answer) (stats : List Stat) → flat_map (sum_line (filled answers)) stats ≡ shard_lines answers stats
 lines-filled answers [] = refl
-lines-filled answers (stat ∷ stats) = rw (sum-filled stat answers, lines-filled answers stats) refl
+lines-filled answers (one ∷ stats) = rw (sum-filled one answers, lines-filled answers stats) refl
+
+-- What is known of the server is four parts, one behind another.
+pub server_parts : (server : ServerStats) → server_text server ≡ process_text server ++ (stat_text (codes "version") release ++ (times_text server ++ connections_text server))
+server_parts server = ap (λ last. process_text server ++ (stat_text (codes "version") release ++ (times_text server ++ last))) (append-nil (connections_text server))
 
 -- the reply to stats, made of the same parts
-told : List ℕ → ℕ → List ℕ
-told sums threads = concat (stat_text (codes "version") release ∷ sums ∷ stat_text (codes "threads") (decimal threads) ∷ codes "END\r\n" ∷ [])
+together_as : ServerStats → List ℕ → ℕ → ℕ → List ℕ → List ℕ
+together_as server commands limit threads items = concat (server_text server ∷ commands ∷ traffic_text server limit threads ∷ items ∷ codes "END\r\n" ∷ [])
 
-stats-filled : (answers : List Answer) → stats_over (filled answers) ≡ stats_text answers
-unfolding sums_text told
-stats-filled answers = ap (λ sums. told sums (length (filled answers))) (lines-filled answers all_stats)
-    ∙ ap (told (flat_map (λ stat. stat_text (row_of stat).0 (decimal (together stat answers))) all_stats)) (length-map answers (λ answer. Some answer))
+stats-filled : (server : ServerStats) (answers : List Answer) → stats_over server (filled answers) ≡ stats_text server answers
+unfolding sums_text together_as
+stats-filled server answers =
+    λ i. together_as server (lines-filled answers command_stats i) (sum-filled stat.LimitMaxbytes answers i % 2 ^ 64) (length-map answers (λ answer. Some answer) i) (lines-filled answers item_stats i)
 
 -- Where every slot is filled, the text over the slots is the reply that the answers give.
 pub slots_text-filled : (shape : Shape) (answers : List Answer) → slots_text shape (filled answers) ≡ shape_text shape answers
@@ -106,7 +111,7 @@ slots_text-filled (shape.Fixed fixed) answers = refl
 slots_text-filled (shape.Line false lenient) answers = unless-filled answers _ _ (first-filled _ answers)
 slots_text-filled (shape.Line true lenient) answers = refl
 slots_text-filled (shape.Values keys with_unique) answers = unless-filled answers _ _ (ap (λ xs. xs ++ codes "END\r\n") (items-filled with_unique keys answers))
-slots_text-filled shape.Stats answers = unless-filled answers _ _ (stats-filled answers)
+slots_text-filled (shape.Stats server) answers = unless-filled answers _ _ (stats-filled server answers)
 slots_text-filled (shape.Meta kind flags value key lenient) answers = unless-filled answers _ _ (first-filled _ answers)
 
 -- Without slots no item is shown, whatever the keys are.

@@ -1,3 +1,4 @@
+pub mod Server
 pub mod Shape
 pub mod Slots
 pub mod Text

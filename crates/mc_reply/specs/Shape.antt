@@ -15,6 +15,7 @@ use Rattle.mc_reply.specs.declared.form.Shape.{Shape}
 use Rattle.mc_reply.specs.declared.form.Shape.TheVariants.{Fixed, Line, Values, Stats, Meta}
 use Rattle.mc_reply.specs.declared.form.Fixed.TheVariants as fixed
 use Rattle.mc_command.specs.declared.meta.MetaKind.TheVariants as kind
+use Rattle.mc_reply.specs.Server.{no_server}
 
 -- the flag k
 abbrev pub is_key_flag : ReturnFlag → Bool
@@ -31,7 +32,7 @@ is_lenient_in DropIn Append = true
 is_lenient_in DropIn Prepend = true
 is_lenient_in profile mode = false
 
--- the shape of the reply to a command
+-- the shape of the reply to a command, as long as nothing is known of the server
 unfoldable pub shape_of : Command → Shape
 shape_of (command.Store storage) = Line storage.noreply storage.lenient
 shape_of (command.Get retrieval) = Values retrieval.keys retrieval.with_unique
@@ -41,7 +42,7 @@ shape_of (command.Touch key exptime noreply) = Line noreply false
 shape_of (command.FlushAll delay noreply) = Line noreply false
 shape_of (command.Version profile) = Fixed (fixed.Version profile)
 shape_of (command.Verbosity noreply) = Fixed (if noreply then fixed.Nothing else fixed.Ok)
-shape_of (command.Stats request.General) = Stats
+shape_of (command.Stats request.General) = Stats no_server
 shape_of (command.Stats request.Reset) = Line false false
 shape_of (command.Stats request.Empty) = Fixed fixed.End
 shape_of command.Quit = Fixed fixed.Nothing

@@ -1,6 +1,6 @@
 -- The texts of replies, as functions of the whole list of answers (protocol.txt, the reply lines of each
 -- command).
-use Rattle.std.specs.Prelude.{ℕ, ◌^◌, ◌%◌, Bool, true, false, ◌&&◌, List, [], ◌∷◌, ◌++◌, length, codes, decimal, Option, Some, None, if◌then◌else◌}
+use Rattle.std.specs.Prelude.{ℕ, ◌/◌, ◌^◌, ◌%◌, Bool, true, false, ◌&&◌, List, [], ◌∷◌, ◌++◌, length, take, drop, codes, decimal, Option, Some, None, if◌then◌else◌}
 use Rattle.std.specs.List.{concat, flat_map, list_any, sum_by, zip}
 use Rattle.mc_command.specs.declared.command.Command.{Command}
 use Rattle.mc_command.specs.declared.meta.MetaFlags.{MetaFlags}
@@ -15,6 +15,7 @@ use Rattle.mc_item.specs.declared.answer.Answer.TheVariants.{Stored, NotStored, 
 use Rattle.mc_item.specs.declared.answer.Answer.TheVariants as answer
 use Rattle.mc_item.specs.declared.answer.Marks.{Marks}
 use Rattle.mc_item.specs.declared.stat.Stat.{Stat}
+use Rattle.mc_item.specs.declared.stat.Stat.TheVariants as stat
 use Rattle.mc_item.specs.Stat.{all_stats, row_of}
 use Rattle.mc_reply.specs.declared.form.Fixed.{Fixed}
 use Rattle.mc_reply.specs.declared.form.Fixed.TheVariants as fixed
@@ -22,6 +23,8 @@ use Rattle.mc_command.specs.declared.meta.MetaKind.{MetaKind}
 use Rattle.mc_command.specs.declared.meta.MetaKind.TheVariants as kind
 use Rattle.mc_reply.specs.declared.form.Shape.{Shape}
 use Rattle.mc_reply.specs.declared.form.Shape.TheVariants as shape
+use Rattle.mc_reply.specs.declared.server_stats.ServerStats.{ServerStats}
+use Rattle.mc_reply.specs.Server.{of_server}
 use Rattle.mc_reply.specs.Shape.{shape_of}
 use Rattle.mc_wire.specs.Base64Key.{base64_of}
 
@@ -114,18 +117,61 @@ stat_text name value = concat (codes "STAT " ∷ name ∷ codes " " ∷ value �
 
 -- the value of a statistic in a shard's answer
 abbrev pub stat_in : Stat → Answer → ℕ
-stat_in stat (answer.Stats stats) = (row_of stat).1 stats
-stat_in stat answer = 0
+stat_in one (answer.Stats stats) = (row_of one).1 stats
+stat_in one answer = 0
 
 -- the sum of a statistic over all shards, modulo 2^64
 abbrev pub together : Stat → List Answer → ℕ
-together stat answers = sum_by (stat_in stat) answers % 2 ^ 64
+together one answers = sum_by (stat_in one) answers % 2 ^ 64
 
--- the release, the statistics summed over all shards, and the number of shards, each of which has a thread
-abbrev pub stats_text : List Answer → List ℕ
-stats_text answers =
-    concat (stat_text (codes "version") release ∷ flat_map (λ stat. stat_text (row_of stat).0 (decimal (together stat answers))) all_stats
-    ∷ stat_text (codes "threads") (decimal (length answers)) ∷ codes "END\r\n" ∷ [])
+-- lines whose values are numbers
+abbrev pub number_lines : List (List ℕ × ℕ) → List ℕ
+number_lines lines = flat_map (λ line. stat_text line.0 (decimal line.1)) lines
+
+-- the lines of the process
+abbrev pub process_text : ServerStats → List ℕ
+process_text server = number_lines ((codes "pid", server.pid) ∷ (codes "uptime", server.uptime) ∷ (codes "time", server.time) ∷ [])
+
+-- the lines of its CPU time: hundredths of a second as seconds, with six digits behind the point
+abbrev pub times_text : ServerStats → List ℕ
+times_text server =
+    concat (codes "STAT rusage_user " ∷ decimal (server.user_time / 100) ∷ codes "." ∷ decimal (server.user_time / 10 % 10) ∷ decimal (server.user_time % 10)
+    ∷ codes "0000\r\nSTAT rusage_system " ∷ decimal (server.system_time / 100) ∷ codes "." ∷ decimal (server.system_time / 10 % 10) ∷ decimal (server.system_time % 10)
+    ∷ codes "0000\r\n" ∷ [])
+
+-- the lines of the connections
+abbrev pub connections_text : ServerStats → List ℕ
+connections_text server =
+    number_lines ((codes "max_connections", server.max_connections) ∷ (codes "curr_connections", server.curr_connections)
+    ∷ (codes "total_connections", server.total_connections) ∷ (codes "rejected_connections", server.rejected_connections) ∷ [])
+
+-- what is known of the server, with the release, in memcached's order
+abbrev pub server_text : ServerStats → List ℕ
+server_text server = concat (process_text server ∷ stat_text (codes "version") release ∷ times_text server ∷ connections_text server ∷ [])
+
+-- The numbers of commands come before the traffic, and those of items behind how many threads there are.
+abbrev pub command_stats : List Stat
+command_stats = take 17 all_stats
+
+abbrev pub item_stats : List Stat
+item_stats = drop 18 all_stats
+
+-- the lines of numbers of all shards together
+abbrev pub shard_lines : List Answer → List Stat → List ℕ
+shard_lines answers stats = flat_map (λ one. stat_text (row_of one).0 (decimal (together one answers))) stats
+
+-- the lines of the traffic, of the memory that items may take, and of the threads: one for each shard
+abbrev pub traffic_text : ServerStats → ℕ → ℕ → List ℕ
+traffic_text server limit threads =
+    number_lines ((codes "bytes_read", server.bytes_read) ∷ (codes "bytes_written", server.bytes_written)
+    ∷ (codes "limit_maxbytes", limit) ∷ (codes "threads", threads) ∷ [])
+
+-- the reply to `stats`
+abbrev pub stats_text : ServerStats → List Answer → List ℕ
+stats_text server answers =
+    concat (server_text server ∷ shard_lines answers command_stats
+    ∷ traffic_text server (together stat.LimitMaxbytes answers) (length answers)
+    ∷ shard_lines answers item_stats ∷ codes "END\r\n" ∷ [])
 
 -- what the flag `q` hides (protocol.txt, "Meta Commands": "noreply semantics for return codes"): the miss of
 -- `mg`, the success of `ms`, success and miss of `md`, and those of `ma` unless it returns the number
@@ -221,9 +267,9 @@ unfoldable pub shape_text : Shape → List Answer → List ℕ
 shape_text (shape.Fixed fixed) answers = fixed_text fixed
 shape_text (shape.Line noreply lenient) answers = if noreply then [] else unless_no_memory answers (of_first (λ answer. answer_line (told answer lenient)) answers)
 shape_text (shape.Values keys with_unique) answers = unless_no_memory answers (values_text keys with_unique answers)
-shape_text shape.Stats answers = unless_no_memory answers (stats_text answers)
+shape_text (shape.Stats server) answers = unless_no_memory answers (stats_text server answers)
 shape_text (shape.Meta kind flags value key lenient) answers = unless_no_memory answers (of_first (meta_text kind flags value key lenient) answers)
 
--- the reply to a command, from the answers of all its pieces
-abbrev pub text_of : Command → List Answer → List ℕ
-text_of command answers = shape_text (shape_of command) answers
+-- the reply of this server to a command, from the answers of all its pieces
+abbrev pub text_of : ServerStats → Command → List Answer → List ℕ
+text_of server command answers = shape_text (of_server server (shape_of command)) answers

@@ -12,6 +12,8 @@ use Rattle.mc_command.specs.FlagOrder.{returned_in, with_returned}
 use Rattle.mc_item.specs.declared.answer.Answer.{Answer}
 use Rattle.mc_command.specs.declared.meta.MetaKind.{MetaKind}
 use Rattle.mc_command.specs.declared.meta.MetaKind.TheVariants as kind
+use Rattle.mc_reply.specs.declared.server_stats.ServerStats.{ServerStats}
+use Rattle.mc_reply.specs.Server.{shows_server}
 use Rattle.mc_reply.specs.Text.{is_hidden, text_of}
 
 -- the flag `q` is set and hides the answer
@@ -71,7 +73,8 @@ loud (command.Discard key refusal) = command.Discard key refusal
 
 -- The reply to a quiet command is empty or equal to that of the loud one, whatever the answers are.
 abbrev pub IsEmptyOrLoud : Type 0
-IsEmptyOrLoud = (command : Command) (answers : List Answer) → (text_of command answers ≡ []) ⊎ (text_of command answers ≡ text_of (loud command) answers)
+IsEmptyOrLoud = (server : ServerStats) (command : Command) (answers : List Answer) →
+    (text_of server command answers ≡ []) ⊎ (text_of server command answers ≡ text_of server (loud command) answers)
 
 -- Two texts are equal but for the order of the texts of some flags.
 pub record DiffersInOrder (flags others : List ReturnFlag) (text other : List ℕ) : Type 0 where
@@ -83,5 +86,10 @@ pub record DiffersInOrder (flags others : List ReturnFlag) (text other : List �
 
 -- Another order of the flags changes only the order of the returned ones.
 abbrev pub OrdersFlags : Type 0
-OrdersFlags = (command : Command) (returned : List ReturnFlag) → IsPermutation (returned_in command) returned → (answers : List Answer) →
-    DiffersInOrder (returned_in command) returned (text_of command answers) (text_of (with_returned command returned) answers)
+OrdersFlags = (server : ServerStats) (command : Command) (returned : List ReturnFlag) → IsPermutation (returned_in command) returned → (answers : List Answer) →
+    DiffersInOrder (returned_in command) returned (text_of server command answers) (text_of server (with_returned command returned) answers)
+
+-- Only the reply to `stats` depends on what is known of the server.
+abbrev pub ShowsServerByStats : Type 0
+ShowsServerByStats = (server other : ServerStats) (command : Command) (answers : List Answer) →
+    shows_server command ≡ false → text_of server command answers ≡ text_of other command answers

@@ -1,7 +1,9 @@
 //! Pending replies: what is known of a reply before the answers come, and a slot for each answer.
 ghost use Rattle.std.specs.Prelude.{◌≡◌, ◌<◌, ◌↔◌, ◌∷◌, [], Some, None, IsTrue, IfOk, length, replicate, slice_set};
+ghost use Rattle.mc_reply.specs.Server.{form_of_server};
 ghost use Rattle.mc_reply.specs.Slots.{missing_in};
 
+use crate::server_stats::ServerStats;
 use crate::ticket::Ticket;
 use mc_command::{Keys, MetaFlags, MetaKind, Profile, Refusal};
 use mc_item::{Answer, Kind};
@@ -26,8 +28,8 @@ pub enum Shape {
         keys: Keys,
         with_unique: bool,
     },
-    /// The statistics summed over all shards.
-    Stats,
+    /// The counts of all shards together, and what is known of the server.
+    Stats(ServerStats),
     /// The reply of a meta command.
     Meta {
         kind: MetaKind,
@@ -189,6 +191,28 @@ impl Drop for Form {
 }
 
 impl Form {
+    /// The form of the same reply, of this server: that of `stats` shows it, and any other stays as it is.
+    pub fn of_server(self, server: ServerStats) -> Form
+        ensures { result ≡ form_of_server server self }
+    {
+        let Form {
+            ticket,
+            kind,
+            shape,
+            slots,
+        } = self;
+        let shape = match shape {
+            Shape::Stats(_unknown) => Shape::Stats(server),
+            shape => shape,
+        };
+        Form {
+            ticket,
+            kind,
+            shape,
+            slots,
+        }
+    }
+
     /// Stores the answer of a part.
     pub fn fill(&mut self, part: usize, answer: Answer)
         requires { part < length self.old.slots }

@@ -1,10 +1,11 @@
 //! The reply to `stats` (protocol.txt, "General-purpose statistics").
-ghost use Rattle.std.specs.Prelude.{◌≡◌, ◌%◌, ◌^◌, decimal};
-ghost use Rattle.std.specs.List.{sum_by};
+ghost use Rattle.std.specs.Prelude.{◌≡◌, ◌%◌, ◌^◌, decimal, length};
+ghost use Rattle.std.specs.List.{flat_map, sum_by};
 ghost use Rattle.mc_wire.specs.Outlet.{Writes};
-ghost use Rattle.mc_reply.specs.Text.{stat_text};
+ghost use Rattle.mc_reply.specs.Text.{command_stats, connections_text, item_stats, process_text, server_text, stat_text, times_text, traffic_text};
 ghost use Rattle.mc_reply.specs.internal.SlotTexts.{slot_stat, sums_text, stats_over};
 
+use crate::server_stats::ServerStats;
 use itoa::Buffer;
 use mc_item::{Answer, Stat};
 use mc_wire::{OutFault, Outlet, put_all, put_parts};
@@ -12,21 +13,136 @@ use mc_wire::{OutFault, Outlet, put_all, put_parts};
 /// The memcached release that is reported with `--drop-in`.
 const RELEASE: &[u8] = b"1.6.18";
 
-/// Writes the statistics summed over all shards, one slot each.
-pub fn put_stats<O: Outlet>(out: &mut O, slots: &[Option<Answer>]) -> Result<(), OutFault>
-    ensures { Writes (stats_over slots.now) result (O.sight out.old) (O.sight out.new) }
+/// How many numbers of the shards are of commands, and come before the traffic.
+const COMMANDS: usize = 17;
+
+/// Writes what is known of the server, and the counts of all shards together, each of which has its slot.
+pub fn put_stats<O: Outlet>(
+    out: &mut O,
+    server: &ServerStats,
+    slots: &[Option<Answer>],
+) -> Result<(), OutFault>
+    ensures { Writes (stats_over server.now slots.now) result (O.sight out.old) (O.sight out.new) }
 {
-    put_stat(out, b"version", RELEASE)?;
-    put_sums(out, slots)?;
-    put_number(out, b"threads", slots.len() as u64)?;
+    put_server(out, server)?;
+    put_commands(out, slots)?;
+    put_traffic(out, server, slots)?;
+    put_items(out, slots)?;
     put_all(out, b"END\r\n")
 }
 
-/// Writes each statistic.
-fn put_sums<O: Outlet>(out: &mut O, slots: &[Option<Answer>]) -> Result<(), OutFault>
-    ensures { Writes (sums_text slots.now) result (O.sight out.old) (O.sight out.new) }
+/// Writes what is known of the process and of the connections.
+fn put_server<O: Outlet>(out: &mut O, server: &ServerStats) -> Result<(), OutFault>
+    ensures { Writes (server_text server.now) result (O.sight out.old) (O.sight out.new) }
 {
-    for stat in Stat::all() {
+    put_process(out, server)?;
+    put_stat(out, b"version", RELEASE)?;
+    put_times(out, server)?;
+    put_connections(out, server)
+}
+
+/// Writes what the process is, and how long it has run.
+fn put_process<O: Outlet>(out: &mut O, server: &ServerStats) -> Result<(), OutFault>
+    ensures { Writes (process_text server.now) result (O.sight out.old) (O.sight out.new) }
+{
+    put_numbers(
+        out,
+        &[
+            (b"pid", server.pid),
+            (b"uptime", server.uptime),
+            (b"time", server.time),
+        ],
+    )
+}
+
+/// Writes its CPU time.
+fn put_times<O: Outlet>(out: &mut O, server: &ServerStats) -> Result<(), OutFault>
+    ensures { Writes (times_text server.now) result (O.sight out.old) (O.sight out.new) }
+{
+    let (user, system) = (server.user_time, server.system_time);
+    let (mut seconds, mut tenth, mut hundredth) = (Buffer::new(), Buffer::new(), Buffer::new());
+    let (mut whole, mut first, mut second) = (Buffer::new(), Buffer::new(), Buffer::new());
+    put_parts(
+        out,
+        &[
+            b"STAT rusage_user ",
+            seconds.format(user / 100).as_bytes(),
+            b".",
+            tenth.format(user / 10 % 10).as_bytes(),
+            hundredth.format(user % 10).as_bytes(),
+            b"0000\r\nSTAT rusage_system ",
+            whole.format(system / 100).as_bytes(),
+            b".",
+            first.format(system / 10 % 10).as_bytes(),
+            second.format(system % 10).as_bytes(),
+            b"0000\r\n",
+        ],
+    )
+}
+
+/// Writes how many connections there are and were.
+fn put_connections<O: Outlet>(out: &mut O, server: &ServerStats) -> Result<(), OutFault>
+    ensures { Writes (connections_text server.now) result (O.sight out.old) (O.sight out.new) }
+{
+    put_numbers(
+        out,
+        &[
+            (b"max_connections", server.max_connections),
+            (b"curr_connections", server.curr_connections),
+            (b"total_connections", server.total_connections),
+            (b"rejected_connections", server.rejected_connections),
+        ],
+    )
+}
+
+/// Writes the traffic, what the items may cost, and how many shards there are, each of which has a thread.
+fn put_traffic<O: Outlet>(
+    out: &mut O,
+    server: &ServerStats,
+    slots: &[Option<Answer>],
+) -> Result<(), OutFault>
+    ensures { Writes (traffic_text server.now
+        (sum_by (slot_stat Stat.LimitMaxbytes) slots.now % 2 ^ 64) (length slots.now))
+        result (O.sight out.old) (O.sight out.new) }
+{
+    let limit = sum_of(Stat::LimitMaxbytes, slots);
+    put_numbers(
+        out,
+        &[
+            (b"bytes_read", server.bytes_read),
+            (b"bytes_written", server.bytes_written),
+            (b"limit_maxbytes", limit),
+            (b"threads", slots.len() as u64),
+        ],
+    )
+}
+
+/// Writes what the shards were asked.
+fn put_commands<O: Outlet>(out: &mut O, slots: &[Option<Answer>]) -> Result<(), OutFault>
+    ensures { Writes (sums_text slots.now command_stats) result (O.sight out.old)
+        (O.sight out.new) }
+{
+    let (commands, _) = Stat::all().split_at(COMMANDS);
+    put_sums(out, slots, commands)
+}
+
+/// Writes what the shards hold. The limit comes with the traffic.
+fn put_items<O: Outlet>(out: &mut O, slots: &[Option<Answer>]) -> Result<(), OutFault>
+    ensures { Writes (sums_text slots.now item_stats) result (O.sight out.old) (O.sight out.new) }
+{
+    let (_, items) = Stat::all().split_at(COMMANDS + 1);
+    put_sums(out, slots, items)
+}
+
+/// Writes each number of the shards.
+fn put_sums<O: Outlet>(
+    out: &mut O,
+    slots: &[Option<Answer>],
+    stats: &[Stat],
+) -> Result<(), OutFault>
+    ensures { Writes (sums_text slots.now stats.now) result (O.sight out.old) (O.sight out.new) }
+{
+    for stat in stats {
         put_number(out, stat.name(), sum_of(*stat, slots))?;
     }
     Ok(())
@@ -52,6 +168,17 @@ fn number_in(stat: Stat, slot: &Option<Answer>) -> u64
         Some(Answer::Stats(stats)) => stat.of(stats.get()),
         Some(_) | None => 0,
     }
+}
+
+/// Writes lines whose values are numbers.
+fn put_numbers<O: Outlet>(out: &mut O, lines: &[(&[u8], u64)]) -> Result<(), OutFault>
+    ensures { Writes (flat_map (λ line. stat_text line.0.now (decimal line.1)) lines.now) result
+        (O.sight out.old) (O.sight out.new) }
+{
+    for line in lines {
+        put_number(out, line.0, line.1)?;
+    }
+    Ok(())
 }
 
 /// Writes a `STAT` line with a number.

@@ -39,7 +39,7 @@ fn put_slots<O: Outlet>(
             lenient,
         } => put_first_line(out, *lenient, slots),
         Shape::Values { keys, with_unique } => put_values(out, keys, *with_unique, slots),
-        Shape::Stats => put_stats(out, slots),
+        Shape::Stats(server) => put_stats(out, server, slots),
         Shape::Meta {
             kind,
             flags,

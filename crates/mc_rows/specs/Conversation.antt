@@ -25,6 +25,7 @@ use Rattle.mc_split.specs.Pieces.{pieces_of}
 use Rattle.mc_reply.specs.Text.{text_of}
 use Rattle.mc_store.specs.State.{State, Used}
 use Rattle.mc_store.specs.Step.{Outcome, fetch_step, store_step, counting, count_step, delete_step, touch_step, flush_step, coming, meta_get_step, meta_delete_step, stats_of}
+use Rattle.mc_reply.specs.Server.{no_server}
 
 -- a line without its line end, and the bytes behind it that belong to it
 pub record Sent : Type 0 where
@@ -42,7 +43,7 @@ abbrev pub spelled : Sent → Command
 spelled sent = entry_of (line_says (own DEFAULT_VALUE_LIMIT) sent.line) sent.behind
 
 abbrev pub taken_at : ℕ → Sent → Taken
-taken_at moment sent = record { entry = spelled sent; moment = moment; given_up = false }
+taken_at moment sent = record { entry = spelled sent; moment = moment; server = no_server; given_up = false }
 
 abbrev pub row_sizes : Sizes
 row_sizes = record { profile = Own; seats = 1; shards = 2; bytes = 65536; ring = 64; value = DEFAULT_VALUE_LIMIT; line = DEFAULT_LINE_LIMIT; window = 256 }
@@ -79,4 +80,4 @@ outcomes_on state sent found = map (λ asked. step_on state asked.op found) (pie
 
 -- the reply to a command with this item under its key
 abbrev pub reply_on : State → Sent → Option Used → List ℕ
-reply_on state sent found = text_of (spelled sent) (map (λ outcome. outcome.0) (outcomes_on state sent found))
+reply_on state sent found = text_of no_server (spelled sent) (map (λ outcome. outcome.0) (outcomes_on state sent found))

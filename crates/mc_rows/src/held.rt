@@ -2,6 +2,7 @@
 //! incomplete block. They never exceed the longest line plus the largest block.
 use crate::escape::unescape;
 use mc_conn::{Conn, Taken};
+use mc_reply::ServerStats;
 use mc_wire::{DEFAULT_LINE_LIMIT, DEFAULT_VALUE_LIMIT, GREATEST_VALUE_LIMIT, LEAST_VALUE_LIMIT};
 use std::alloc::Global;
 
@@ -118,7 +119,7 @@ impl Watched {
     /// Parses commands until none is complete.
     fn take_all(&mut self, alloc: Global) {
         for _ in 0..=MANY {
-            let taken = self.conn.take(alloc, MOMENT);
+            let taken = self.conn.take(alloc, MOMENT, &ServerStats::none());
             self.look();
             if !matches!(taken, Taken::Opened(_)) {
                 return;

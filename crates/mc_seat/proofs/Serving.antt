@@ -32,6 +32,7 @@ use Rattle.mc_seat.proofs.Standing.{commands-length, stands_first, stands_over, 
 use Rattle.mc_seat.proofs.Turns.{hands}
 use Rattle.mc_command.specs.declared.rules.Rules.{Rules}
 use Rattle.mc_ring.proofs.Lists.{all_push}
+use Rattle.mc_reply.specs.declared.server_stats.ServerStats.{ServerStats}
 
 -- A line of which no replies wait is as it will be.
 pub nothing_waits : (waits : List ℕ) (now : Sight) → waits ≡ [] → took waits now ≡ now
@@ -58,7 +59,7 @@ keys_before shards taken one received keys s i p reply asked came =
     keys s i p reply (ap (λ ps. slice_get ps i) (due-append shards s taken (one ∷ [])) ∙ get_front (due shards s taken) more i p asked) came
 
 -- one more command was taken, at a moment that may be, and it is counted
-serving_take : (received : ℕ → List Shown) (may_answer : ℕ → Type 0) (begin now : Sight) (told : Told) (service : Service) (conn : Conn) (later moment : ℕ) (ticket : Ticket) → may_answer moment → (opens : TakesCommand told moment ticket conn) → later ≡ min (ticket.0 + 1) (2 ^ 64 - 1) →
+serving_take : {may_show : ServerStats → Type 0} (received : ℕ → List Shown) (may_answer : ℕ → Type 0) (begin now : Sight) (told : Told) (service : Service) (conn : Conn) (later moment : ℕ) (ticket : Ticket) → may_answer moment → (opens : TakesCommand told moment may_show ticket conn) → later ≡ min (ticket.0 + 1) (2 ^ 64 - 1) →
     IsServing received may_answer begin now told service → IsServing received may_answer begin now (record told { taken = told.taken ++ opens.one ∷ [] }) (record service { conn = conn; commands = later })
 serving_take received may_answer begin now told service conn later moment ticket may opens later_is serves =
     let seen = took (text_in service.unwritten) now in
@@ -89,10 +90,10 @@ pub takes_none : (received : ℕ → List Shown) (may_answer : ℕ → Type 0) (
 takes_none received may_answer begin now told service serves = record { taken = told.taken; more = []; taken_is = sym (append-nil told.taken); rounds_are = omega arith; serves = serves }
 
 -- The next command was taken, at a moment that may be.
-pub takes_next : (received : ℕ → List Shown) (may_answer : ℕ → Type 0) (begin now : Sight) (told : Told) (rounds : ℕ) (service : Service) (conn : Conn) (later moment : ℕ) (ticket : Ticket) → may_answer moment → TakeSays service.conn moment (took.Opened ticket) conn → later ≡ min (ticket.0 + 1) (2 ^ 64 - 1) →
+pub takes_next : {may_show : ServerStats → Type 0} (received : ℕ → List Shown) (may_answer : ℕ → Type 0) (begin now : Sight) (told : Told) (rounds : ℕ) (service : Service) (conn : Conn) (later moment : ℕ) (ticket : Ticket) → may_answer moment → TakeSays service.conn moment may_show (took.Opened ticket) conn → later ≡ min (ticket.0 + 1) (2 ^ 64 - 1) →
     TakesSome received may_answer begin now told rounds service → TakesSome received may_answer begin now told (rounds + 1) (record service { conn = conn; commands = later })
-takes_next received may_answer begin now told rounds service conn later moment ticket may says later_is some =
-    let opens : TakesCommand (record told { taken = some.taken }) moment ticket conn = says (record told { taken = some.taken }) some.serves.conn_is in
+takes_next {may_show} received may_answer begin now told rounds service conn later moment ticket may says later_is some =
+    let opens : TakesCommand (record told { taken = some.taken }) moment may_show ticket conn = says (record told { taken = some.taken }) some.serves.conn_is in
     let so_far = some.rounds_are in
     record {
       taken = some.taken ++ opens.one ∷ [];
@@ -122,7 +123,7 @@ stops_now received may_answer begin now told service conn stop rounds some is st
 }
 
 -- No further command was taken, and the call says why.
-pub takes_stop : (received : ℕ → List Shown) (may_answer : ℕ → Type 0) (begin now : Sight) (told : Told) (service : Service) (conn : Conn) (moment : ℕ) (stop : Took) → TakeSays service.conn moment stop conn → ((ticket : Ticket) → stop ≡ took.Opened ticket → ⊥) → (rounds : ℕ) →
+pub takes_stop : {may_show : ServerStats → Type 0} (received : ℕ → List Shown) (may_answer : ℕ → Type 0) (begin now : Sight) (told : Told) (service : Service) (conn : Conn) (moment : ℕ) (stop : Took) → TakeSays service.conn moment may_show stop conn → ((ticket : Ticket) → stop ≡ took.Opened ticket → ⊥) → (rounds : ℕ) →
     TakesSome received may_answer begin now told rounds service → TakesAll received may_answer begin now told (record service { conn = conn; stop = stop })
 takes_stop received may_answer begin now told service conn moment (took.Opened ticket) says other rounds some = absurd (other ticket refl)
 takes_stop received may_answer begin now told service conn moment took.NeedMore says other rounds some =

@@ -5,6 +5,7 @@ ghost use Rattle.std.specs.Io.Slices.{io_slices_bytes};
 ghost use Rattle.mc_wire.specs.Outlet.{ReadsIntoRoom, broke, took};
 ghost use Rattle.mc_seat.specs.Lines.{ReadsIfReady};
 
+use mc_conn::StatsSource;
 use mc_wire::{OutFault, Outlet};
 use std::io::IoSlice;
 use thiserror::Error;
@@ -91,8 +92,8 @@ pub trait Line: Outlet {
     {}
 }
 
-/// Tells the time in seconds since 1970.
-pub trait Clock {
+/// Tells the time in seconds since 1970, and to `stats` what it shows of the server then.
+pub trait Clock: StatsSource {
     /// The moments that it may answer.
     ghost may_answer: { Self → ℕ → Type 0 };
 

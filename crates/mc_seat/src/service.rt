@@ -89,7 +89,7 @@ impl Service {
         ensures { TakesFor (K.may_answer clock.now) self.old self.new }
     {
         for _ in 0..u64::MAX {
-            match self.conn.take(self.alloc, clock.now()) {
+            match self.conn.take(self.alloc, clock.now(), clock) {
                 Taken::Opened(ticket) => self.commands = ticket.0.saturating_add(1),
                 stop => {
                     self.stop = stop;

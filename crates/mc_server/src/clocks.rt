@@ -1,7 +1,10 @@
 //! The machine's time, and a clock that stands still.
 ghost use Rattle.std.specs.Prelude.{◌≡◌, ◌+◌, ◌/◌, IfOk, OnErr, min};
 ghost use Rattle.std.specs.Duration.{as_nanos, max_nanos};
+ghost use Rattle.mc_reply.specs.Server.{no_server};
 
+use mc_conn::StatsSource;
+use mc_reply::ServerStats;
 use mc_seat::Clock;
 use std::time::Duration;
 use std::{io, time};
@@ -15,6 +18,18 @@ impl Clock for StillClock {
 
     fn now(&self) -> u64 {
         self.0
+    }
+}
+
+/// It knows its time alone.
+impl StatsSource for StillClock {
+    ghost may_show = { λ clock shown. shown ≡ record no_server { time = clock.0 } };
+
+    fn server_stats(&self) -> ServerStats {
+        ServerStats {
+            time: self.0,
+            ..ServerStats::none()
+        }
     }
 }
 
@@ -35,6 +50,18 @@ impl<R: time::Clock> MachineClock<R> {
             _ => None,
         };
         MachineClock { rt, begin }
+    }
+}
+
+/// It knows the time alone.
+impl<R: time::Clock> StatsSource for MachineClock<R> {
+    ghost may_show = { λ _ _. Unit {0} };
+
+    fn server_stats(&self) -> ServerStats {
+        ServerStats {
+            time: self.now(),
+            ..ServerStats::none()
+        }
     }
 }
 

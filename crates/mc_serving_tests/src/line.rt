@@ -3,6 +3,8 @@
 use crate::asserting::{equal, holds};
 use crate::memory_line::MemoryLine;
 use crate::sizes::SMALL;
+use mc_conn::StatsSource;
+use mc_reply::ServerStats;
 use mc_seat::Clock;
 use mc_server::{LineRefusal, StillClock, serve_one};
 use mc_sizes::Sizes;
@@ -45,6 +47,14 @@ fn replies_in_one_write(rt: HostRuntime) -> Result<(), Fail> {
 /// A clock that is a second further at each call.
 #[derive(Drop)]
 struct RisingClock(Cell<u64>);
+
+impl StatsSource for RisingClock {
+    ghost may_show = { λ _ _. Unit {0} };
+
+    fn server_stats(&self) -> ServerStats {
+        ServerStats::none()
+    }
+}
 
 impl Clock for RisingClock {
     ghost may_answer = { λ _ _. Unit {0} };

@@ -162,7 +162,7 @@ fn serve_idle<
         rt,
         move || talk(&own, alloc, server, b"mn\r\nset a 0 0 9\r\nx"),
     )?;
-    let counts = Counts::new(alloc, 2)?;
+    let counts = Counts::new(alloc, 2, 2)?;
     let mut watch = Watch::nothing(alloc);
     watch.counts = Some(counts.share(alloc)?);
     watch.idle_limit = Some(IdleLimit {
@@ -193,6 +193,7 @@ fn an_idle_client_is_given_up(rt: HostRuntime) -> Result<(), Fail> {
     let expected = Totals {
         accepted: 1,
         failed: 0,
+        rejected: 0,
         ended: 1,
         broken: 1,
         commands: 1,

@@ -9,7 +9,7 @@ use mc_command::{Command, MetaRemoval, Refusal, StoreMode, StoreRequest};
 use mc_conn::{Conn, Taken};
 use mc_item::{Answer, Expiry, Item, Kind, Op, PackedExpiry, Value, expiry};
 use mc_reader::{Next, Reader};
-use mc_reply::Ticket;
+use mc_reply::{ServerStats, Ticket};
 use mc_ring::{Parcel, Reply, SeatEnds, ShardEnds, lanes};
 use mc_sizes::Sizes;
 use mc_split::Piece;
@@ -326,7 +326,13 @@ fn a_connection_whose_commands_are_taken(rt: HostRuntime) {
     let bytes =
         b"get aaaaaaaaaaaaaaaaaaaaaaaaaaaaaaaaaaaaaaa bbbbbbbbbbbbbbbbbbbbbbbbbbbbbbbbbbbbbbb\r\nmn\r\n";
     equal(&rt, conn.feed(bytes), bytes.len());
-    holds(&rt, matches!(conn.take(alloc, 1_000), Taken::Opened(_)));
+    holds(
+        &rt,
+        matches!(
+            conn.take(alloc, 1_000, &ServerStats::none()),
+            Taken::Opened(_)
+        ),
+    );
     if conn.passes() > 0 {
         // The get found no memory.
         return;
@@ -335,7 +341,13 @@ fn a_connection_whose_commands_are_taken(rt: HostRuntime) {
     misses(&rt, &mut conn);
     holds(&rt, conn.next_piece().is_none());
     holds(&rt, conn.whole());
-    holds(&rt, matches!(conn.take(alloc, 1_000), Taken::Opened(_)));
+    holds(
+        &rt,
+        matches!(
+            conn.take(alloc, 1_000, &ServerStats::none()),
+            Taken::Opened(_)
+        ),
+    );
     equal(&rt, conn.ready(), 9);
     equal(&rt, conn.hand(&mut line), Ok(2));
     equal(&rt, line.output.as_slice(), b"END\r\nMN\r\n".as_slice());

@@ -40,6 +40,7 @@ use Rattle.mc_model.proofs.Growing.{forms-append, replies_stay}
 use Rattle.mc_sim.proofs.Changing.{at_same, mirrors_stay, one_at}
 use Rattle.mc_sim.proofs.Standing.{KeptBut, found, kept_same, kept_set, seats_set, world_on}
 use Rattle.mc_ring.proofs.Lists.{get_below}
+use Rattle.mc_reply.specs.declared.server_stats.ServerStats.{ServerStats}
 
 -- What an event finds at a seat: its place, and the number of its connection.
 pub record Finds (sim : Sim) (c number : ℕ) (place : Seat) : Type 0 where
@@ -204,7 +205,7 @@ taken_bytes sizes w k link one law =
     ap concat (sym stay ∙ (ap (λ rs. take link.handed (replies (forms_of sizes.shards link.taken ++ others) rs)) (append-nil own) ∙ ap (λ fs. take link.handed (replies fs own)) (sym forms)))
 
 -- A command is taken.
-pub takes : (old new : Sim) (c number moment : ℕ) (ticket : Ticket) (place after : Seat) → Finds old c number place → number < length old.connections.items → ((told : Told) → IsConn place.conn told → TakesCommand told moment ticket after.conn) →
+pub takes : {may_show : ServerStats → Type 0} (old new : Sim) (c number moment : ℕ) (ticket : Ticket) (place after : Seat) → Finds old c number place → number < length old.connections.items → ((told : Told) → IsConn place.conn told → TakesCommand told moment may_show ticket after.conn) →
     after.current ≡ place.current → Differs old new c after → new.connections.items ≡ old.connections.items → StepsByEvent old (Take c moment) replied.Done new
 unfolding Stands
 takes old new c number moment ticket place after finds below conn same differs connections sizes w world =

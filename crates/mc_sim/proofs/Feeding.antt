@@ -33,6 +33,7 @@ use Rattle.std.proofs.lemmas.Bool.{cases_eq}
 use Rattle.mc_model.proofs.Lists.{at_once}
 use Rattle.mc_sim.proofs.Standing.{KeptBut, SeatsBut, found, kept_set, seats_set}
 use Rattle.mc_sim.proofs.AtSeat.{Differs, Finds, IsSame, seat_stays, world_stays}
+use Rattle.mc_reply.specs.declared.server_stats.ServerStats.{ServerStats}
 
 one_more_than_all : (told : Told) (one : Taken) → IsAllTaken told → BeginCommands told.rules told.fed (commands_of (told.taken ++ one ∷ [])) → ⊥
 one_more_than_all told one all next =
@@ -48,7 +49,7 @@ shut_of told is (inr (inl shut)) = shut
 shut_of told is (inr (inr done)) = absurd (let e : true ≡ false = sym done.0 ∙ is.comes in cc)
 
 -- The state of a connection after `take` found no command.
-pub asked : (old new : Conn) (moment : ℕ) (result : Took) → TakeSays old moment result new → (told : Told) → IsConn old told → IsAllTaken told → Refreshed told new
+pub asked : {may_show : ServerStats → Type 0} (old new : Conn) (moment : ℕ) (result : Took) → TakeSays old moment may_show result new → (told : Told) → IsConn old told → IsAllTaken told → Refreshed told new
 asked old new moment (took.Opened ticket) says told is all = let o = says told is in absurd (one_more_than_all told o.one all o.next)
 asked old new moment took.NeedMore says told is all = let n = says told is in record { now = n.now; waits = λ unset every place. inr n.waits }
 asked old new moment took.Full says told is all = let n = says told is in record { now = n.now; waits = λ unset every place. absurd (let full = n.full in omega (arith, full, place)) }

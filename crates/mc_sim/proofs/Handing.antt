@@ -107,7 +107,7 @@ history_same shards one other number (first ∷ taken) agree =
     let asked = pieces_of shards (planned first) in
     let slots : slots_after one (ticket_at number) 0 (no_answers asked) ≡ slots_after other (ticket_at number) 0 (no_answers asked) =
     sym (parts_told one 0 (ticket_at number) first.moment asked) ∙ (map_agree one other (pieces_at shards number first) both.0 ∙ parts_told other 0 (ticket_at number) first.moment asked) in
-    ap (λ xs. record { entry = first.entry; moment = first.moment; given_up = first.given_up; answers = answers_of xs } ∷ history_from shards one (number + 1) taken) slots
+    ap (λ xs. record { entry = first.entry; moment = first.moment; server = first.server; given_up = first.given_up; answers = answers_of xs } ∷ history_from shards one (number + 1) taken) slots
     ∙ ap (λ rest. done_at shards other number first ∷ rest) (history_same shards one other (number + 1) taken both.1)
 
 -- What was accepted of the first commands is what the log has of them.

@@ -10,6 +10,7 @@ use Rattle.mc_split.specs.Plan.{form_of, parts_from}
 use Rattle.mc_command.specs.declared.meta.ReturnFlag.{ReturnFlag}
 use Rattle.mc_command.specs.FlagOrder.{with_returned}
 use Rattle.mc_item.specs.declared.answer.Answer.{Answer}
+use Rattle.mc_reply.specs.declared.server_stats.ServerStats.{ServerStats}
 use Rattle.mc_reply.specs.Text.{text_of}
 use Rattle.mc_reply.specs.TextLaws.{is_silent, loud}
 
@@ -42,8 +43,8 @@ AnswersTo (asked ∷ pieces) (answer ∷ answers) = (is_lawful (kind_of asked.op
 
 -- The reply to a command is empty just where it is silent.
 abbrev pub IsEmptyWhereSilent : Type 0
-IsEmptyWhereSilent = (shards : ℕ) → 0 < shards → (command : Command) (answers : List Answer) →
-    AnswersTo (pieces_of shards command) answers → (text_of command answers ≡ []) ↔ IsTrue (is_silent command answers)
+IsEmptyWhereSilent = (server : ServerStats) (shards : ℕ) → 0 < shards → (command : Command) (answers : List Answer) →
+    AnswersTo (pieces_of shards command) answers → (text_of server command answers ≡ []) ↔ IsTrue (is_silent command answers)
 
 -- A quiet command asks the same of the same shards as the loud one.
 abbrev pub AsksAsLoud : Type 0

@@ -10,7 +10,7 @@ use crate::plan::Piece;
 use crate::splitter::Splitter;
 use mc_command::{Command, StatsRequest};
 use mc_item::{NoMemory, Op};
-use mc_reply::{Fixed, Form, Shape};
+use mc_reply::{Fixed, Form, ServerStats, Shape};
 use std::collections::VecDeque;
 
 /// What every shard is asked.
@@ -38,7 +38,7 @@ impl ToAll {
 }
 
 impl Splitter {
-    /// `stats`, and `stats reset`. Other counts are none, and ask no shard.
+    /// `stats`, whose form knows nothing of the server yet, and `stats reset`. Other counts are none, and ask no shard.
     #[tactic(auto, unfolding(crate::specs::Pieces::pieces_of, mc_reply::specs::Shape::shape_of))]
     pub(crate) fn stats(
         self,
@@ -48,7 +48,11 @@ impl Splitter {
         ensures { SplitsInto self (Command.Stats asked) result queue.old.items queue.new.items }
     {
         match asked {
-            StatsRequest::General => self.all(queue, Shape::Stats, ToAll::Stats),
+            StatsRequest::General => self.all(
+                queue,
+                Shape::Stats(ServerStats::none()),
+                ToAll::Stats,
+            ),
             StatsRequest::Reset => self.all(queue, plain_line(false), ToAll::ResetStats),
             StatsRequest::Empty => Ok(self.fixed(Fixed::End)),
         }

@@ -1,4 +1,6 @@
 //! A clock that advances by a second at each call.
+use mc_conn::StatsSource;
+use mc_reply::ServerStats;
 use mc_seat::Clock;
 use std::alloc::{AllocError, Global};
 use std::boxed::Box;
@@ -13,6 +15,14 @@ impl Rising {
     pub fn new(alloc: Global, moment: u64) -> Result<Rising, AllocError> {
         let next = Box::new(alloc, AtomicU64::new(moment))?;
         Ok(Rising(Box::leak(next)))
+    }
+}
+
+impl StatsSource for Rising {
+    ghost may_show = { λ _ _. Unit {0} };
+
+    fn server_stats(&self) -> ServerStats {
+        ServerStats::none()
     }
 }
 

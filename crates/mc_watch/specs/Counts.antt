@@ -88,7 +88,7 @@ no_ends = record { binary = 0; http = 0; tls = 0; line_too_long = 0; idle = 0; f
 
 -- nothing was counted
 abbrev pub no_totals : Totals
-no_totals = record { accepted = 0; failed = 0; ended = 0; broken = 0; commands = 0; read = 0; written = 0; ends = no_ends; shards = no_shards }
+no_totals = record { accepted = 0; failed = 0; rejected = 0; ended = 0; broken = 0; commands = 0; read = 0; written = 0; ends = no_ends; shards = no_shards }
 
 module _ {C : Type 0} (told : C → ℕ → Type 0) where
   -- the value read from the counter is added
@@ -117,6 +117,7 @@ module _ {C : Type 0} (told : C → ℕ → Type 0) where
     pub ends : AddsEnds before.ends thread.ends after.ends
     pub accepted : after.accepted ≡ before.accepted
     pub failed : after.failed ≡ before.failed
+    pub rejected : after.rejected ≡ before.rejected
     pub shards : after.shards ≡ before.shards
 
   -- the totals of a shard are the values read from its own counters, and the number of all commands for which
@@ -142,7 +143,8 @@ module _ {C : Type 0} (told : C → ℕ → Type 0) where
   pub record AreTotals (counts : Counts C) (totals : Totals) : Type 0 where
     pub seats : Totals
     pub threads : FoldsTo AddsThread no_totals (threads_of counts) seats
-    pub sums : totals ≡ record seats { accepted = totals.accepted; failed = totals.failed; shards = totals.shards }
+    pub sums : totals ≡ record seats { accepted = totals.accepted; failed = totals.failed; rejected = totals.rejected; shards = totals.shards }
     pub accepted : told (shared_value counts.entrance).accepted totals.accepted
     pub failed : told (shared_value counts.entrance).failed totals.failed
+    pub rejected : told (shared_value counts.entrance).rejected totals.rejected
     pub shards : FoldsTo AddsShard no_shards (shards_of counts) totals.shards

@@ -3,6 +3,8 @@ use Rattle.std.specs.Prelude.{ℕ, List, ◌++◌, Option, Some, None, codes, de
 use Rattle.std.specs.Net.Text.{socket_text}
 use Rattle.mc_watch.specs.declared.event.ConnectionEvent.{ConnectionEvent}
 use Rattle.mc_watch.specs.declared.event.ConnectionEvent.TheVariants.{Opened, Closed, NotAccepted, SeatsTaken, SeatFree}
+use Rattle.mc_watch.specs.declared.event.Peer.{Peer}
+use Rattle.mc_watch.specs.declared.event.Peer.TheVariants.{At, Unix}
 use Rattle.mc_watch.specs.declared.event.Manner.{Manner}
 use Rattle.mc_watch.specs.declared.event.Manner.TheVariants.{ByClient, Quit, LineTooLong, Binary, Http, Tls, Idle, ReadFailed, WriteFailed, NoMemory, Shutdown}
 
@@ -19,6 +21,11 @@ manner_text WriteFailed = codes "a write failed"
 manner_text NoMemory = codes "no memory was left for its replies"
 manner_text Shutdown = codes "the server ends"
 
+-- who a connection comes from
+abbrev pub peer_text : Peer → List ℕ
+peer_text (At address) = socket_text address
+peer_text Unix = codes "unix"
+
 -- a count with its noun
 abbrev pub counted_text : ℕ → List ℕ → List ℕ
 counted_text count one =
@@ -27,9 +34,9 @@ counted_text count one =
 -- the text of an event, except for a failed accept with an errno, for which the system has the text
 abbrev pub event_text : ConnectionEvent → Option (List ℕ)
 event_text (Opened peer seat) =
-    Some (socket_text peer ++ (codes " on seat " ++ (decimal seat ++ codes ": opened")))
+    Some (peer_text peer ++ (codes " on seat " ++ (decimal seat ++ codes ": opened")))
 event_text (Closed peer seat manner commands read written) =
-    Some (socket_text peer ++ (codes " on seat " ++ (decimal seat ++ (codes ": " ++ (manner_text manner ++ (codes "; "
+    Some (peer_text peer ++ (codes " on seat " ++ (decimal seat ++ (codes ": " ++ (manner_text manner ++ (codes "; "
     ++ (counted_text commands (codes "command") ++ (codes ", " ++ (counted_text read (codes "byte") ++ (codes " read, "
     ++ (counted_text written (codes "byte") ++ codes " written")))))))))))
 event_text (NotAccepted None) = Some (codes "accept failed")

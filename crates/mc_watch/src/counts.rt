@@ -52,6 +52,8 @@ pub struct EntranceCounts<C = Counter> {
     pub accepted: C,
     /// Failed accepts.
     pub failed: C,
+    /// Connections that were refused, since all seats were taken.
+    pub rejected: C,
 }
 
 /// Totals of `EndCounts` over all threads.
@@ -74,6 +76,8 @@ pub struct Totals {
     pub accepted: u64,
     /// Failed accepts.
     pub failed: u64,
+    /// Connections that were refused, since all seats were taken.
+    pub rejected: u64,
     /// Ended connections, including broken ones.
     pub ended: u64,
     /// Connections that failed or exceeded the idle timeout.
@@ -195,19 +199,21 @@ impl Totals {
 }
 
 impl Counts<Counter> {
-    /// Counters at 0, for `threads` serving threads with a shard each, and the accepting thread.
-    pub fn new(alloc: Global, threads: usize) -> Result<Counts, AllocError>
+    /// Nothing was counted yet, by `threads` threads that serve, `shards` shards that show what they hold, and the thread that
+    /// accepts.
+    pub fn new(alloc: Global, threads: usize, shards: usize) -> Result<Counts, AllocError>
         ensures threads { IfOk result (λ counts. length counts.threads.items ≡ threads) }
-        ensures shards { IfOk result (λ counts. shard_count counts ≡ threads) }
+        ensures shards { IfOk result (λ counts. shard_count counts ≡ shards) }
     {
         let entrance = EntranceCounts {
             accepted: Counter::new(),
             failed: Counter::new(),
+            rejected: Counter::new(),
         };
         let mut counts = Counts {
             entrance: Arc::new(alloc, CachePadded::new(entrance))?,
             threads: Vec::with_capacity(alloc, threads)?,
-            shards: new_shards(alloc, threads)?,
+            shards: new_shards(alloc, shards)?,
         };
         for _ in 0..threads {
             let thread = Arc::new(alloc, CachePadded::new(SeatCounts::new()))?;
@@ -279,6 +285,7 @@ impl<C: Count> Counts<C> {
         }
         totals.accepted = self.entrance.accepted.get();
         totals.failed = self.entrance.failed.get();
+        totals.rejected = self.entrance.rejected.get();
         totals.shards = ShardTotals::default().and_each(&self.shards);
         totals
     }

@@ -29,17 +29,26 @@ pub enum Manner {
     Shutdown,
 }
 
+/// Who a connection comes from.
+#[derive(Clone, Copy)]
+pub enum Peer {
+    /// A client at this address.
+    At(SocketAddr),
+    /// A client of a Unix socket, of which no more is known.
+    Unix,
+}
+
 /// A connection event.
 #[derive(Clone, Copy)]
 pub enum ConnectionEvent {
     /// A connection was assigned to a slot.
     Opened {
-        peer: SocketAddr,
+        peer: Peer,
         seat: usize,
     },
     /// A connection ended.
     Closed {
-        peer: SocketAddr,
+        peer: Peer,
         seat: usize,
         manner: Manner,
         /// Number of commands parsed.
@@ -86,6 +95,20 @@ impl fmt::Display for Manner {
             Manner::NoMemory => "no memory was left for its replies",
             Manner::Shutdown => "the server ends",
         })
+    }
+}
+
+impl fmt::Display for Peer {
+    ghost use Rattle.std.specs.Prelude.{Some};
+    ghost use Rattle.mc_watch.specs.EventText.{peer_text};
+
+    ghost output = { λ peer. Some (peer_text peer) };
+
+    fn fmt<W: fmt::Write>(&self, f: &mut fmt::Formatter<W>) -> fmt::Result {
+        match self {
+            Peer::At(address) => address.fmt(f),
+            Peer::Unix => f.write_str("unix"),
+        }
     }
 }
 

@@ -18,7 +18,7 @@ mod watch;
 pub use counter::{Count, Counter};
 pub use counts::{Counts, EndCounts, EndTotals, EntranceCounts, SeatCounts, Totals};
 pub use dismissal::Dismissal;
-pub use event::{ConnectionEvent, Manner};
+pub use event::{ConnectionEvent, Manner, Peer};
 pub use meter::Meter;
 pub use pulse::{Pulse, Seconds};
 pub use reporter::{Reporter, Reports, reporters};

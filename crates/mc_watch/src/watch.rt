@@ -9,7 +9,7 @@ ghost use Rattle.mc_watch.specs.declared.event.ConnectionEvent.TheVariants.{NotA
 
 use crate::counter::{Count, Counter};
 use crate::counts::{Counts, EntranceCounts, SeatCounts};
-use crate::event::ConnectionEvent;
+use crate::event::{ConnectionEvent, Peer};
 use crate::meter::Meter;
 use crate::pulse::{Pulse, Seconds};
 use crate::reporter::Reporter;
@@ -17,7 +17,6 @@ use crate::shard_counts::ShardCounts;
 use crate::shutdown::{Drain, Shutdown};
 use crossbeam_utils::CachePadded;
 use std::alloc::{AllocError, Global};
-use std::net::SocketAddr;
 use std::sync::Arc;
 
 /// The idle timeout and its clock.
@@ -61,7 +60,7 @@ pub struct SeatWatch<C = Counter> {
     shutdown: Option<Shutdown<C>>,
     reporter: Reporter,
     /// Address of the last client.
-    peer: Option<SocketAddr>,
+    peer: Option<Peer>,
 }
 
 impl<C: Drop> Drop for SeatWatch<C> {
@@ -238,7 +237,7 @@ impl<C: Count> Watch<C> {
 
 impl<C: Count> SeatWatch<C> {
     /// Records a new connection of this client, and returns its meter.
-    pub fn open(&mut self, peer: SocketAddr) -> Meter<C>
+    pub fn open(&mut self, peer: Peer) -> Meter<C>
         ensures read { result.read ≡ 0 }
         ensures written { result.written ≡ 0 }
         ensures commands { result.commands ≡ 0 }
@@ -341,6 +340,17 @@ impl<C: Count> EntranceWatch<C> {
         }
     }
 
+    /// A connection was accepted and refused, since all seats are taken.
+    pub fn rejected(&mut self)
+        ensures counted { IfSome self.old.counts
+            (λ counts. C.was_added (shared_value counts).rejected 1) }
+        ensures same { self.new ≡ self.old }
+    {
+        if let Some(counts) = &self.counts {
+            counts.rejected.add(1);
+        }
+    }
+
     /// Records a failed accept, with its errno if the system gave one.
     pub fn failed(&mut self, fault: Option<i32>)
         ensures counted { IfSome self.old.counts
@@ -372,12 +382,7 @@ impl<C: Count> EntranceWatch<C> {
 }
 
 /// The event of an ended connection.
-fn closed<C: Count>(
-    peer: SocketAddr,
-    seat: usize,
-    commands: u64,
-    meter: &Meter<C>,
-) -> ConnectionEvent
+fn closed<C: Count>(peer: Peer, seat: usize, commands: u64, meter: &Meter<C>) -> ConnectionEvent
     ensures { result ≡
         ConnectionEvent.Closed peer seat meter.now.manner commands meter.now.read
         meter.now.written }

@@ -31,8 +31,8 @@ pub struct Opened {
     pub listeners: Vec<Listener>,
     /// Their addresses and paths, as they are told.
     pub names: String,
-    /// The port of the first address, 0 where there is none.
-    pub port: u16,
+    /// The ports of their addresses, each once.
+    pub ports: Vec<u16>,
 }
 
 impl Opened {
@@ -44,7 +44,7 @@ impl Opened {
         let mut opened = Opened {
             listeners: Vec::new(rt.alloc()),
             names: String::new(rt.alloc()),
-            port: 0,
+            ports: Vec::new(rt.alloc()),
         };
         for word in places.words {
             opened.open_word(rt, word, places)?;
@@ -119,8 +119,8 @@ impl Opened {
         }
         let listener = Listener::at(rt, address)?;
         let local = listener.address().unwrap_or(address);
-        if self.port == 0 {
-            self.port = local.port();
+        if !self.ports.contains(&local.port()) {
+            self.ports.push(local.port())?;
         }
         self.part_names()?;
         write!(self.names, "{local}")?;

@@ -1,6 +1,7 @@
 //! Serves those who connect, as the command line says.
 ghost use Rattle.mc_sizes.specs.Sizes.{AreWithin};
 
+use crate::clock::ServerClock;
 use crate::files::tell_files;
 use crate::places::{Opened, Places, refuse_place};
 use crate::refuse;
@@ -8,7 +9,6 @@ use crate::start::{tell_start, tell_warnings};
 use crate::version::VERSION;
 use mc_metrics::{Ended, NotWatching, Wishes, start_watching};
 use mc_serve::{ServeRefusal, serve_tcp};
-use mc_server::MachineClock;
 use mc_sizes::Sizes;
 use std::alloc::Global;
 use std::fs::File;
@@ -47,27 +47,23 @@ pub fn listen<
     let Opened {
         listeners,
         names,
-        port,
+        ports,
     } = match Opened::at(rt, places) {
         Ok(opened) => opened,
         Err(status) => return status,
     };
-    let (watch, watching) = match start_watching(rt, VERSION, port, sizes, wishes) {
+    let (watch, watching) = match start_watching(rt, VERSION, ports.leak(), sizes, wishes) {
         Ok(begun) => begun,
         Err(fault) => return refuse_watching(rt, fault, sizes.shards, wishes.metrics),
+    };
+    let Ok(clock) = ServerClock::start(*rt, rt.alloc(), &sizes, &watch) else {
+        let _ = watching.end(rt);
+        return refuse(rt, "out of memory");
     };
     tell_start(rt, &sizes, names.as_str());
     tell_files(rt, sizes.seats, sizes.shards, listeners.len());
     tell_warnings(rt, &sizes);
-    let served = serve_tcp(
-        rt,
-        rt.alloc(),
-        listeners,
-        sizes,
-        connections,
-        MachineClock::start(*rt),
-        watch,
-    );
+    let served = serve_tcp(rt, rt.alloc(), listeners, sizes, connections, clock, watch);
     let ended = watching.end(rt);
     match served {
         Ok(_) => report_end(rt, ended),

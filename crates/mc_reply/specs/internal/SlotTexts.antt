@@ -6,8 +6,10 @@ use Rattle.mc_item.specs.declared.answer.Answer.TheVariants.{Hit, Number}
 use Rattle.mc_reply.specs.declared.form.Shape.{Shape}
 use Rattle.mc_reply.specs.declared.form.Shape.TheVariants as shape
 use Rattle.mc_item.specs.declared.stat.Stat.{Stat}
-use Rattle.mc_item.specs.Stat.{all_stats, row_of}
-use Rattle.mc_reply.specs.Text.{memory_line, fixed_text, answer_line, is_no_memory, item_text, meta_text, release, stat_in, stat_text, told}
+use Rattle.mc_item.specs.declared.stat.Stat.TheVariants as stat
+use Rattle.mc_item.specs.Stat.{row_of}
+use Rattle.mc_reply.specs.declared.server_stats.ServerStats.{ServerStats}
+use Rattle.mc_reply.specs.Text.{command_stats, memory_line, fixed_text, answer_line, is_no_memory, item_stats, item_text, meta_text, server_text, stat_in, stat_text, told, traffic_text}
 
 -- the fixed line of an answer; a number has none
 abbrev pub fixed_line : Answer → List ℕ
@@ -40,19 +42,22 @@ items_text with_unique (key ∷ keys) [] = []
 
 -- a number of the shard of a slot
 abbrev pub slot_stat : Stat → Option Answer → ℕ
-slot_stat stat None = 0
-slot_stat stat (Some answer) = stat_in stat answer
+slot_stat one None = 0
+slot_stat one (Some answer) = stat_in one answer
 
 -- the line of a number of all shards together, and all such lines
 abbrev pub sum_line : List (Option Answer) → Stat → List ℕ
-sum_line slots stat = stat_text (row_of stat).0 (decimal (sum_by (slot_stat stat) slots % 2 ^ 64))
+sum_line slots one = stat_text (row_of one).0 (decimal (sum_by (slot_stat one) slots % 2 ^ 64))
 
-unfoldable pub sums_text : List (Option Answer) → List ℕ
-sums_text slots = flat_map (sum_line slots) all_stats
+unfoldable pub sums_text : List (Option Answer) → List Stat → List ℕ
+sums_text slots stats = flat_map (sum_line slots) stats
 
 -- the reply to stats
-abbrev pub stats_over : List (Option Answer) → List ℕ
-stats_over slots = concat (stat_text (codes "version") release ∷ sums_text slots ∷ stat_text (codes "threads") (decimal (length slots)) ∷ codes "END\r\n" ∷ [])
+abbrev pub stats_over : ServerStats → List (Option Answer) → List ℕ
+stats_over server slots =
+    concat (server_text server ∷ sums_text slots command_stats
+    ∷ traffic_text server (sum_by (slot_stat stat.LimitMaxbytes) slots % 2 ^ 64) (length slots)
+    ∷ sums_text slots item_stats ∷ codes "END\r\n" ∷ [])
 
 -- a slot's answer is "out of memory"
 abbrev pub lacks_memory : Option Answer → Bool
@@ -67,5 +72,5 @@ unfoldable pub slots_text : Shape → List (Option Answer) → List ℕ
 slots_text (shape.Fixed fixed) slots = fixed_text fixed
 slots_text (shape.Line noreply lenient) slots = if noreply then [] else unless_lacking slots (first_text (λ answer. answer_line (told answer lenient)) slots)
 slots_text (shape.Values keys with_unique) slots = unless_lacking slots (items_text with_unique keys slots ++ codes "END\r\n")
-slots_text shape.Stats slots = unless_lacking slots (stats_over slots)
+slots_text (shape.Stats server) slots = unless_lacking slots (stats_over server slots)
 slots_text (shape.Meta kind flags value key lenient) slots = unless_lacking slots (first_text (meta_text kind flags value key lenient) slots)

@@ -10,6 +10,7 @@ use crate::sim::page::Page;
 use crate::sim::{Connection, Seat, Sim};
 use mc_conn::{Conn, Taken};
 use mc_model::StepReply;
+use mc_reply::ServerStats;
 use std::alloc::Global;
 
 impl Sim {
@@ -50,7 +51,10 @@ impl Sim {
         let Some(_) = self.find(seat) else {
             return StepReply::Idle;
         };
-        match self.seats[seat].conn.take(alloc, moment) {
+        match self.seats[seat]
+            .conn
+            .take(alloc, moment, &ServerStats::none())
+        {
             Taken::Opened(_) => StepReply::Done,
             Taken::NeedMore => StepReply::Idle,
             Taken::Full => StepReply::Idle,
@@ -171,7 +175,7 @@ fn refresh(alloc: Global, conn: &mut Conn)
 fn ask(alloc: Global, conn: &mut Conn)
     ensures { IfConn conn.old (λ told. IsAllTaken told → Refreshed told conn.new) }
 {
-    let _ = conn.take(alloc, 0);
+    let _ = conn.take(alloc, 0, &ServerStats::none());
 }
 
 /// Writes all replies that are due, behind the earlier output. Memory for all of them is reserved

@@ -20,6 +20,7 @@ returns-in-Ok c =
       joiner = c.open.ensures.joiner;
       joins = c.open.ensures.joins;
       shards = c.open.ensures.shards;
+      noted = c.open.ensures.noted;
     }
 
 pub returns-in-Err : goal.returns-in-Err
@@ -32,4 +33,5 @@ returns-in-Err c =
       joiner = c.open_refusal.ensures.joiner;
       joins = c.open_refusal.ensures.joins;
       shards = c.open_refusal.ensures.shards;
+      noted = c.open_refusal.ensures.noted;
     }

@@ -11,4 +11,5 @@ returns c =
       joiner = c.open.ensures.joiner;
       joins = c.open.ensures.joins;
       shards = c.open.ensures.shards;
+      noted = c.open.ensures.noted;
     }

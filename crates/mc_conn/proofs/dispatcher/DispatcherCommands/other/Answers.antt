@@ -11,4 +11,5 @@ returns c =
       joiner = split.opens.joiner;
       joins = split.opens.joins;
       shards = split.opens.shards;
+      noted = split.opens.noted;
     }

@@ -3,4 +3,4 @@ use Rattle.std.proofs.Common.{◌≡◌, length}
 use Rattle.mc_watch.proofs.counts.Counts+Counter.new.Given as goal
 
 abbrev pub invariant-loop : goal.invariant-loop
-invariant-loop l = (length l.counts.threads.items ≡ l.counter) × (length l.counts.shards.items ≡ l.fn.threads)
+invariant-loop l = (length l.counts.threads.items ≡ l.counter) × (length l.counts.shards.items ≡ l.fn.shards)
