@@ -3,7 +3,7 @@
 
     tools/bench/pauses.py [--items 10000000] [--exptime 0] [--least 5] [PROGRAM]
 
-Stores items with values of 10 bytes, each with this exptime, then sends `flush_all`. Meanwhile a connection asks for `stats`, again
+Stores items with values of 10 bytes, each with this exptime, sends `flush_all`, and stores them again. Meanwhile a connection asks for `stats`, again
 and again. A reply for which the server's threads run for more than `--least` milliseconds is a line: for how long it was awaited, for how
 much of that they ran (so a busy machine doesn't count), and how many items there were then. PROGRAM is the built program, else crates/mcd/out/mcd.
 """
@@ -72,9 +72,11 @@ def main():
         with served.Line(server.port, timeout=60) as line:
             line.ask(b"flush_all\r\n", b"OK\r\n")
         time.sleep(1)
+        watch.phase = "filling again"
+        sent(load, server, [*options, str(asked.items)])
         watch.is_over = True
         watch.join()
-        print(f"{watch.replies:,} replies, {server.most_resident() / served.MIB:,.0f} MiB resident at most")
+        print(f"{watch.replies:,} replies, {server.most_resident() / served.MIB:,.0f} MiB resident at most, {server.resident() / served.MIB:,.0f} at the end")
 
 
 main()

@@ -359,7 +359,7 @@ def filled_by(port, length, cost, expires):
 SIZES = [
     ("--memory 64m", 32, False, 0), ("--memory 64m --shards 4", 128, False, 0), ("--memory 192m", 1024, False, 0),
     ("--memory 128m --seats 4000", 16384, False, 400), ("--memory 16m --shards 8 --seats 500", 32, False, 400),
-    ("--memory 64m", 32, True, 0), ("--memory 76m", 128, True, 0), ("--memory 128m --seats 4000", 16384, True, 400),
+    ("--memory 64m", 32, True, 0), ("--memory 432m --seats 16", 1024, True, 0), ("--memory 128m --seats 4000", 16384, True, 400),
 ]
 
 
