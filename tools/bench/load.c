@@ -3,8 +3,10 @@
    A thread drives its connections by epoll. Each connection keeps --pipeline requests under way; a request
    is a get of one key or of several (--multiget), a set, or with --meta an mg or ms. The value of a key follows from
    the key alone, so each hit is checked byte by byte, and each reply must be the one of the oldest request that is
-   still open. Latency counts from the moment at which a request was put into the send buffer; with --rate it counts
-   from the moment at which it was due. */
+   still open. With --sigma the lengths of values are lognormal, with --value-size as their median: a key always has the
+   same one, but where nothing is read (--sets 1) each set draws its own. With --aside a key that was missed is stored.
+   Latency counts from the moment at which a request was put into the send buffer; with --rate it counts from the moment
+   at which it was due. */
 #define _GNU_SOURCE
 #include <arpa/inet.h>
 #include <errno.h>
@@ -22,14 +24,15 @@
 #include <unistd.h>
 
 enum { GET, SET };
-enum { PATTERN = 1 << 16, BUCKETS = 64 * 64 };
+enum { PATTERN = 1 << 16, BUCKETS = 64 * 64, KEY_ROOM = 256, LONGEST = 100000 };
 
 static struct {
     const char *host;
-    int port, connections, threads, pipeline, multiget, meta, zipf, fill;
-    double seconds, sets, rate, theta;
+    int port, connections, threads, pipeline, multiget, meta, zipf, fill, aside, key_size, exptime;
+    double seconds, sets, rate, theta, sigma;
     uint32_t keys, value_size;
-} ask = {"127.0.0.1", 11211, 1, 1, 1, 1, 0, 0, 0, 5, 0.1, 0, 0.99, 100000, 100};
+    uint64_t requests, seed;
+} ask = {"127.0.0.1", 11211, 1, 1, 1, 1, 0, 0, 0, 0, 16, 0, 5, 0.1, 0, 0.99, 0, 100000, 100, 0, 0};
 
 struct request {
     uint64_t began;
@@ -46,13 +49,15 @@ struct connection {
     struct request *asked; /* a ring of `pipeline` requests */
     uint32_t first;
     uint32_t next_item; /* of a get of several keys: the items seen so far */
+    uint32_t *missed;   /* with --aside: at most `pipeline` keys that are to be stored */
+    int missed_len;
 };
 
 struct thread {
     pthread_t id;
     int epoll, count;
     struct connection *connections;
-    uint64_t seed, requests, hits, misses, bytes_in, faults;
+    uint64_t seed, requests, hits, misses, bytes_in, faults, left;
     uint64_t buckets[BUCKETS];
     uint64_t most;
     uint32_t fill_from, fill_to;
@@ -89,8 +94,16 @@ static uint32_t some_key(struct thread *t) {
     return low;
 }
 
-/* keys of 16 bytes */
-static void key_text(uint32_t key, char *to) { snprintf(to, 17, "key:%012u", key); }
+static void key_text(uint32_t key, char *to) { snprintf(to, KEY_ROOM, "key:%0*u", ask.key_size - 4, key); }
+
+/* how many bytes the value of a key has, or that of one set; the same for the same number */
+static uint32_t size_of(uint64_t number) {
+    if (ask.sigma == 0) return ask.value_size;
+    uint64_t seed = number;
+    double one = ((double)(next_random(&seed) >> 11) + 1) / 9007199254740993.0, other = (double)(next_random(&seed) >> 11) / 9007199254740992.0;
+    double size = ask.value_size * exp(ask.sigma * sqrt(-2 * log(one)) * cos(6.283185307179586 * other));
+    return size < 1 ? 1 : size > LONGEST ? LONGEST : (uint32_t)size;
+}
 
 static const char *value_of(uint32_t key) { return pattern + key * 7919u % PATTERN; }
 
@@ -112,15 +125,15 @@ static void room_for(char **text, size_t *room, size_t wanted) {
 }
 
 static void put_request(struct thread *t, struct connection *c, int kind, uint32_t key, uint64_t began) {
-    char text[17];
-    size_t wanted = c->out_len + ask.value_size + 128 + (size_t)ask.multiget * 20;
-    room_for(&c->out, &c->out_room, wanted);
+    char text[KEY_ROOM];
+    uint32_t size = kind == GET ? 0 : size_of(ask.sets < 1 ? key : next_random(&t->seed));
+    room_for(&c->out, &c->out_room, c->out_len + size + 128 + (size_t)ask.multiget * KEY_ROOM);
     char *at = c->out + c->out_len;
     key_text(key, text);
     if (kind == SET) {
-        at += sprintf(at, ask.meta ? "ms %s %u\r\n" : "set %s 0 0 %u\r\n", text, ask.value_size);
-        memcpy(at, value_of(key), ask.value_size);
-        at += ask.value_size;
+        at += ask.meta ? sprintf(at, "ms %s %u\r\n", text, size) : sprintf(at, "set %s 0 %d %u\r\n", text, ask.exptime, size);
+        memcpy(at, value_of(key), size);
+        at += size;
         *at++ = '\r';
         *at++ = '\n';
     } else if (ask.meta) {
@@ -135,12 +148,18 @@ static void put_request(struct thread *t, struct connection *c, int kind, uint32
     }
     c->out_len = (size_t)(at - c->out);
     c->asked[(c->first + (uint32_t)c->open++) % (uint32_t)ask.pipeline] = (struct request){began, key, kind};
-    (void)t;
 }
 
+/* Whether the thread asks for nothing more. */
+static int is_at_end(struct thread *t) { return is_over || (ask.requests && t->left == 0); }
+
 static void fill_pipeline(struct thread *t, struct connection *c) {
-    while (c->open < ask.pipeline && !is_over) {
+    while (c->open < ask.pipeline && !is_at_end(t)) {
         uint64_t now = now_ns();
+        if (c->missed_len) {
+            put_request(t, c, SET, c->missed[--c->missed_len], now);
+            continue;
+        }
         if (ask.fill) {
             if (t->fill_from >= t->fill_to) return;
             put_request(t, c, SET, t->fill_from++, now);
@@ -154,6 +173,7 @@ static void fill_pipeline(struct thread *t, struct connection *c) {
         }
         int kind = (double)(next_random(&t->seed) >> 11) / 9007199254740992.0 < ask.sets ? SET : GET;
         put_request(t, c, kind, some_key(t), now);
+        t->left--;
     }
 }
 
@@ -173,10 +193,10 @@ static void done(struct thread *t, struct connection *c, struct request *r) {
 
 /* Whether the key is one of those that are still asked, in order; then those before it were misses. */
 static int is_asked(struct thread *t, struct connection *c, struct request *r, const char *key) {
-    char text[17];
+    char text[KEY_ROOM];
     for (; c->next_item < (uint32_t)(r->kind == GET && !ask.meta ? ask.multiget : 1); t->misses++, c->next_item++) {
         key_text(nth_key(r->key, c->next_item), text);
-        if (!memcmp(text, key, 16)) return 1;
+        if (!strcmp(text, key)) return 1;
     }
     return 0;
 }
@@ -200,15 +220,16 @@ static size_t read_reply(struct thread *t, struct connection *c, const char *at,
     if (!is_item) {
         if (!begins(at, line, ask.meta ? "EN\r\n" : "END\r\n")) fault(t, "a get was answered", at, line);
         t->misses += (uint32_t)(ask.meta ? 1 : ask.multiget) - c->next_item;
+        if (ask.aside && c->next_item == 0) c->missed[c->missed_len++] = r->key;
         done(t, c, r);
         return line;
     }
-    size_t whole = line + ask.value_size + 2;
-    if (len < whole) return 0;
-    char key[64] = "";
+    char key[KEY_ROOM] = "";
     unsigned size = 0;
-    int read = ask.meta ? sscanf(at, "VA %u k%63s", &size, key) : sscanf(at, "VALUE %63s %*u %u", key, &size);
-    if (read != 2 || size != ask.value_size || !is_asked(t, c, r, key)) {
+    int read = ask.meta ? sscanf(at, "VA %u k%255s", &size, key) : sscanf(at, "VALUE %255s %*u %u", key, &size);
+    size_t whole = line + size + 2;
+    if (len < whole) return 0;
+    if (read != 2 || !is_asked(t, c, r, key) || size != size_of(nth_key(r->key, c->next_item))) {
         fault(t, "an item that was not asked", at, line);
     } else {
         uint32_t found = nth_key(r->key, c->next_item);
@@ -275,7 +296,7 @@ static void *run(void *given) {
     struct thread *t = given;
     struct epoll_event events[64];
     t->due = (double)now_ns();
-    while (!(is_over || ask.fill) || is_waiting(t)) {
+    while (!(is_at_end(t) || ask.fill) || is_waiting(t)) {
         for (int i = 0; i < t->count; i++) {
             struct connection *c = &t->connections[i];
             if (c->fd < 0) continue;
@@ -306,7 +327,9 @@ static void read_options(int argc, char **argv) {
     static const struct option names[] = {
         {"host", 1, 0, 'h'}, {"port", 1, 0, 'p'}, {"connections", 1, 0, 'c'}, {"threads", 1, 0, 't'}, {"pipeline", 1, 0, 'n'},
         {"multiget", 1, 0, 'm'}, {"meta", 0, 0, 'M'}, {"zipf", 0, 0, 'z'}, {"fill", 0, 0, 'f'}, {"seconds", 1, 0, 's'},
-        {"sets", 1, 0, 'S'}, {"rate", 1, 0, 'r'}, {"keys", 1, 0, 'k'}, {"value-size", 1, 0, 'v'}, {0, 0, 0, 0}};
+        {"sets", 1, 0, 'S'}, {"rate", 1, 0, 'r'}, {"keys", 1, 0, 'k'}, {"value-size", 1, 0, 'v'}, {"key-size", 1, 0, 'K'},
+        {"sigma", 1, 0, 'g'}, {"theta", 1, 0, 'T'}, {"requests", 1, 0, 'R'}, {"aside", 0, 0, 'a'}, {"seed", 1, 0, 'e'},
+        {"exptime", 1, 0, 'x'}, {0, 0, 0, 0}};
     int it;
     while ((it = getopt_long(argc, argv, "", names, NULL)) != -1) {
         switch (it) {
@@ -324,6 +347,13 @@ static void read_options(int argc, char **argv) {
         case 'r': ask.rate = atof(optarg); break;
         case 'k': ask.keys = (uint32_t)atol(optarg); break;
         case 'v': ask.value_size = (uint32_t)atol(optarg); break;
+        case 'K': ask.key_size = atoi(optarg); break;
+        case 'g': ask.sigma = atof(optarg); break;
+        case 'T': ask.theta = atof(optarg); break;
+        case 'R': ask.requests = strtoull(optarg, NULL, 10); break;
+        case 'a': ask.aside = 1; break;
+        case 'e': ask.seed = strtoull(optarg, NULL, 10); break;
+        case 'x': ask.exptime = atoi(optarg); break;
         default: exit(2);
         }
     }
@@ -331,9 +361,10 @@ static void read_options(int argc, char **argv) {
 }
 
 static void prepare(void) {
-    pattern = malloc(PATTERN + ask.value_size);
+    size_t length = PATTERN + (ask.sigma == 0 ? ask.value_size : LONGEST);
+    pattern = malloc(length);
     uint64_t seed = 1;
-    for (size_t i = 0; i < PATTERN + ask.value_size; i++) pattern[i] = (char)('a' + next_random(&seed) % 26);
+    for (size_t i = 0; i < length; i++) pattern[i] = (char)('a' + next_random(&seed) % 26);
     if (!ask.zipf) return;
     zipf_sums = malloc(sizeof *zipf_sums * ask.keys);
     double sum = 0;
@@ -347,7 +378,8 @@ int main(int argc, char **argv) {
     struct thread *all = calloc((size_t)ask.threads, sizeof *all);
     for (int i = 0; i < ask.threads; i++) {
         struct thread *t = &all[i];
-        t->seed = (uint64_t)i * 77 + 5;
+        t->seed = (uint64_t)i * 77 + 5 + (ask.seed << 32);
+        t->left = ask.requests / (uint64_t)ask.threads;
         t->epoll = epoll_create1(0);
         t->count = ask.connections / ask.threads + (i < ask.connections % ask.threads);
         t->connections = calloc((size_t)t->count, sizeof *t->connections);
@@ -357,13 +389,14 @@ int main(int argc, char **argv) {
             struct connection *c = &t->connections[n];
             c->fd = open_connection();
             c->asked = calloc((size_t)ask.pipeline, sizeof *c->asked);
+            c->missed = calloc((size_t)ask.pipeline, sizeof *c->missed);
             struct epoll_event wanted = {.events = EPOLLIN, .data.ptr = c};
             epoll_ctl(t->epoll, EPOLL_CTL_ADD, c->fd, &wanted);
         }
     }
     uint64_t began = now_ns();
     for (int i = 0; i < ask.threads; i++) pthread_create(&all[i].id, NULL, run, &all[i]);
-    if (!ask.fill) {
+    if (!ask.fill && !ask.requests) {
         usleep((useconds_t)(ask.seconds * 1e6));
         is_over = 1;
     }

@@ -330,30 +330,30 @@ def test_a_value_that_no_shard_has_room_for():
 
 
 def planned(words):
-    """What the plan says: MiB at the start, with connections, and for each length of an item."""
+    """What the plan says: MiB at the start, with connections, and for each length of an item without and with an expiry."""
     status, out, _ = ended("--plan", *words)
     assert status == 0
-    figures = {key: int(count) for count, key in re.findall(r"^  (\d+) MiB (.*)$", out, re.M)}
-    return figures["at the start"], figures["with a connection on each seat"],
-    {int(re.search(r"\d+", key)[0]): it for key, it in figures.items() if "full" in key}
+    start, connected = (int(re.search(rf"^  (\d+) MiB {when}$", out, re.M)[1]) for when in ("at the start", "with a connection on each seat"))
+    full = re.findall(r"^  (\d+) MiB full of items of (\d+) bytes, key and value; (\d+) MiB if each has an expiry$", out, re.M)
+    return start, connected, {int(length): (int(never), int(expiring)) for never, length, expiring in full}
 
 
-def filled_by(port, length, cost):
-    """Sets items of this length, key and value, until twice `cost` bytes are spent."""
-    value = b"v" * (length - 16)
+def filled_by(port, length, cost, expires):
+    """Sets items of this length, key and value, until twice `cost` bytes are spent; or with expiries, as many as fit, six times over."""
+    value, rounds, fit = b"v" * (length - 16), 6 if expires else 2, cost // (length + 64)
     with Line(port) as line:
-        sent = 0
-        while sent < 2 * cost:
-            many = b"".join(b"set %016d 0 0 %d noreply\r\n%s\r\n" % (sent // (length + 64) + it, len(value), value) for it in range(2000))
-            line.send(many)
-            sent += 2000 * (length + 64)
+        for first in range(0, rounds * fit, 2000):
+            numbers = (it % fit if expires else it for it in range(first, first + 2000))
+            line.send(b"".join(b"set %016d 0 %d %d noreply\r\n%s\r\n" % (it, 3600 * expires, len(value), value) for it in numbers))
         line.ask(b"mn\r\n", b"MN\r\n")
 
 
-# The options, what an item has, and whether connections are opened.
+# The options, the length of an item, whether it has an expiry, and how many connections are opened. In one row with expiries the queue
+# has just doubled.
 SIZES = [
-    ("--memory 64m", 32, 0), ("--memory 64m --shards 4", 128, 0), ("--memory 192m", 1024, 0), ("--memory 128m --seats 4000", 16384, 400),
-    ("--memory 16m --shards 8 --seats 500", 32, 400),
+    ("--memory 64m", 32, False, 0), ("--memory 64m --shards 4", 128, False, 0), ("--memory 192m", 1024, False, 0),
+    ("--memory 128m --seats 4000", 16384, False, 400), ("--memory 16m --shards 8 --seats 500", 32, False, 400),
+    ("--memory 64m", 32, True, 0), ("--memory 432m --seats 16", 1024, True, 0), ("--memory 128m --seats 4000", 16384, True, 400),
 ]
 
 
@@ -361,7 +361,7 @@ SIZES = [
 def test_the_plan_is_kept():
     """What the process takes is no more than planned, and no less than half of it but for 24 MiB: at its start, and full."""
     told = []
-    for options, length, connections in SIZES:
+    for options, length, expires, connections in SIZES:
         words = options.split()
         start, connected, full = planned(words)
         with Server(*words, "--drop-in") as server:
@@ -374,12 +374,13 @@ def test_the_plan_is_kept():
             for line in lines:
                 line.ask(b"mn\r\n", b"MN\r\n")
             memory = int(re.search(r"--memory (\d+)m", options)[1]) * MIB
-            filled_by(server.port, length, memory)
+            filled_by(server.port, length, memory, expires)
             resident = server.resident() / MIB
             for line in lines:
                 line.close()
-        told.append(f"{resident:.0f} of {full[length]}")
-        assert resident <= full[length] + 1 and resident >= full[length] / 2 - 24, options
+        most = full[length][expires]
+        told.append(f"{resident:.0f} of {most}")
+        assert resident <= most + 1 and resident >= most / 2 - 24, (options, length, expires)
     print("; ".join(told) + " MiB")
 
 

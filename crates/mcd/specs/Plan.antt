@@ -1,5 +1,5 @@
 -- What the process takes, in bytes: a bound on what was measured, which a test holds the process to.
-use Rattle.std.specs.Prelude.{ℕ, ◌+◌, ◌-◌, ◌*◌, ◌/◌, ◌^◌, min}
+use Rattle.std.specs.Prelude.{ℕ, ◌+◌, ◌-◌, ◌*◌, ◌/◌, ◌^◌, Bool, if◌then◌else◌, min}
 use Rattle.mc_sizes.specs.declared.sizes.Sizes.{Sizes}
 
 -- the number, or the greatest of 64 bits
@@ -18,6 +18,11 @@ bytes_at_start sizes = held (4194304 + held (sizes.seats * held (2304 + held (si
 abbrev pub bytes_connected : Sizes → ℕ
 bytes_connected sizes = held (bytes_at_start sizes + held (sizes.seats * 16384))
 
--- full of items whose key and value have this many bytes together: an item costs 64 bytes beside them, and takes 290
-abbrev pub bytes_full : Sizes → ℕ → ℕ
-bytes_full sizes length = held (bytes_connected sizes + held (memory_of sizes / held (length + 64) * held (length + 290)))
+-- what an item takes beside its key and value: 290, and 136 more where it has an expiry
+abbrev pub bytes_beside : Bool → ℕ
+bytes_beside expires = if expires then 426 else 290
+
+-- full of items whose key and value have this many bytes together, which cost 64 bytes beside them
+abbrev pub bytes_full : Sizes → ℕ → Bool → ℕ
+bytes_full sizes length expires =
+    held (bytes_connected sizes + held (memory_of sizes / held (length + 64) * held (length + bytes_beside expires)))

@@ -1,6 +1,6 @@
 //! What the process takes by its options.
 ghost use Rattle.std.specs.Prelude.{◌≡◌};
-ghost use Rattle.mcd.specs.Plan.{bytes_at_start, bytes_connected, bytes_full, memory_of};
+ghost use Rattle.mcd.specs.Plan.{bytes_at_start, bytes_beside, bytes_connected, bytes_full, memory_of};
 
 use crate::refuse;
 use crate::start::{mebibytes, rules_of, tell_warnings};
@@ -41,11 +41,14 @@ fn print_server<R: Print>(rt: &R, sizes: &Sizes) -> io::Result<()> {
     println!(rt; "each shard holds {share} MiB of items; the process takes at most about:")
 }
 
-/// What the process takes full of items, for each of some lengths.
+/// What the process takes full of items, for each of some lengths, without expiries and with them.
 fn print_full<R: Print>(rt: &R, sizes: &Sizes) -> io::Result<()> {
     for length in LENGTHS {
-        let full = mebibytes(bytes_full(sizes, length));
-        println!(rt; "  {full} MiB full of items of {length} bytes, key and value")?;
+        let full = mebibytes(bytes_full(sizes, length, false));
+        let expiring = mebibytes(bytes_full(sizes, length, true));
+        println!(rt;
+            "  {full} MiB full of items of {length} bytes, key and value; {expiring} MiB if each has an expiry"
+        )?;
     }
     Ok(())
 }
@@ -79,10 +82,20 @@ fn bytes_connected(sizes: &Sizes) -> u64
     bytes_at_start(sizes).saturating_add((sizes.seats as u64).saturating_mul(16_384))
 }
 
-/// What it takes full of items whose key and value have `length` bytes together, in bytes.
-fn bytes_full(sizes: &Sizes, length: u64) -> u64
-    ensures { result ≡ bytes_full sizes.now length }
+/// What an item takes beside its key and value, in bytes; more where it has an expiry, for its places in the queue of those that
+/// are looked at.
+fn bytes_beside(expires: bool) -> u64
+    ensures { result ≡ bytes_beside expires }
+{
+    if expires { 426 } else { 290 }
+}
+
+/// What the process takes full of items whose key and value have `length` bytes together, in bytes. Either each has an expiry or
+/// none has one.
+fn bytes_full(sizes: &Sizes, length: u64, expires: bool) -> u64
+    ensures { result ≡ bytes_full sizes.now length expires }
 {
     let items = memory_of(sizes) / length.saturating_add(64);
-    bytes_connected(sizes).saturating_add(items.saturating_mul(length.saturating_add(290)))
+    let each = length.saturating_add(bytes_beside(expires));
+    bytes_connected(sizes).saturating_add(items.saturating_mul(each))
 }
