@@ -9,10 +9,15 @@ use std::sync::atomic::{AtomicU64, Ordering};
 /// Marks a word.
 pub(crate) const WORD: usize = 64;
 
+/// The last bit of a word.
+const LAST: usize = 63;
+
 /// A mark for each number below a bound. Contracts see the number of words.
 #[derive(Drop)]
 pub(crate) struct Board {
     words: Vec<AtomicU64>,
+    /// A bit for each word that may have marks. The last one is that of all words from there on.
+    some: AtomicU64,
 }
 
 impl Model for Board {
@@ -33,19 +38,37 @@ impl Board {
         for _ in 0..count {
             words.push(AtomicU64::new(0))?;
         }
-        Ok(Board { words })
+        Ok(Board {
+            words,
+            some: AtomicU64::new(0),
+        })
     }
 
     /// Marks the number.
     pub(crate) fn mark(&self, number: usize) {
-        let Some(word) = self.words.get(number / WORD) else {
+        self.add(number / WORD, 1u64 << (number % WORD));
+    }
+
+    /// Marks those of the 64 numbers from `64 * word` on that have a bit.
+    pub(crate) fn add(&self, word: usize, bits: u64) {
+        let Some(marks) = self.words.get(word) else {
             return;
         };
-        let bit = 1u64 << (number % WORD);
-        // A mark that is still there is taken after this look at it.
-        if word.load(Ordering::SeqCst) & bit == 0 {
-            word.fetch_or(bit, Ordering::SeqCst);
+        if bits != 0 {
+            set(marks, bits);
+            // In this order: whoever takes this bit finds the marks.
+            set(&self.some, 1u64 << word.min(LAST));
         }
+    }
+
+    /// The words that may have marks since this was last asked: from the first on, before the second.
+    pub(crate) fn range(&self) -> (usize, usize) {
+        let some = take(&self.some);
+        if some >> LAST == 1 {
+            return (0, self.words.len());
+        }
+        let first = some.trailing_zeros() as usize;
+        (first, WORD - some.leading_zeros() as usize)
     }
 
     /// Takes the marks of the 64 numbers from `64 * word` on. In a word that the board doesn't have each is always marked.
@@ -55,19 +78,13 @@ impl Board {
         let Some(marks) = self.words.get(word) else {
             return u64::MAX;
         };
-        if marks.load(Ordering::SeqCst) == 0 {
-            return 0;
-        }
-        marks.swap(0, Ordering::SeqCst)
+        take(marks)
     }
 
     /// Marks all numbers that are marked on the other board, and no more there.
     pub(crate) fn take_all(&self, other: &Board) {
-        for (word, marks) in self.words.iter().enumerate() {
-            let more = other.take(word);
-            if more != 0 {
-                marks.fetch_or(more, Ordering::SeqCst);
-            }
+        for word in 0..self.words.len() {
+            self.add(word, other.take(word));
         }
     }
 
@@ -77,4 +94,20 @@ impl Board {
             .iter()
             .all(|word| word.load(Ordering::SeqCst) == 0)
     }
+}
+
+/// Sets the bits.
+fn set(word: &AtomicU64, bits: u64) {
+    // Bits that are still there are taken after this look at them.
+    if word.load(Ordering::SeqCst) & bits != bits {
+        word.fetch_or(bits, Ordering::SeqCst);
+    }
+}
+
+/// Takes all bits.
+fn take(word: &AtomicU64) -> u64 {
+    if word.load(Ordering::SeqCst) == 0 {
+        return 0;
+    }
+    word.swap(0, Ordering::SeqCst)
 }
