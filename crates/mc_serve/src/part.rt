@@ -9,7 +9,7 @@ ghost use Rattle.mc_threads.specs.Working.{Finishes};
 ghost use Rattle.mc_serve.specs.Seats.{HasSatDown, SeatServes, seat_at};
 ghost use Rattle.mc_serve.specs.declared.sitting.Phase.TheVariants as phase;
 
-use crate::seats::{Seats, WORD};
+use crate::seats::Seats;
 use crate::sitting::Sitting;
 use mc_doors::Door;
 use mc_seat::{Clock, Rooms};
@@ -20,28 +20,11 @@ use mc_worker::Gate;
 use std::alloc::{AllocError, Global};
 use std::sync::Wait;
 
-/// The seats of the server that called, each 64 a word.
-#[derive(Drop)]
-struct Calls {
-    words: Vec<u64>,
-}
-
-impl Calls {
-    /// Takes what was called.
-    fn take(&mut self, sleeper: &Sleeper) -> &[u64] {
-        for (word, called) in self.words.iter_mut().enumerate() {
-            *called = sleeper.callers_in(word);
-        }
-        &self.words
-    }
-}
-
 /// Any number of seats and any number of workers, which one thread serves. In each turn the seats come first: what they send is
-/// on the lanes before a worker waits at its gate.
+/// on the lanes before a worker waits at its gate. They come once more behind the workers, for the replies given in this turn.
 pub struct Part<D: Door, G, K> {
     pub(crate) seats: Seats<D>,
     pub(crate) workers: Vec<Working<G>>,
-    calls: Calls,
     sleeper: Sleeper,
     rooms: Rooms,
     sizes: Sizes,
@@ -54,7 +37,6 @@ impl<D: Door + Drop, G: Drop, K: Drop> Drop for Part<D, G, K> {
         let Part {
             seats: _seats,
             workers: _workers,
-            calls: _calls,
             sleeper: _sleeper,
             rooms: _rooms,
             sizes: _sizes,
@@ -85,18 +67,9 @@ impl<D: Door + Drop, G: Gate + Drop, K: Clock + Drop> Part<D, G, K> {
         ensures sizes { IfOk result (λ part. part.sizes ≡ sizes) }
         ensures clock { IfOk result (λ part. part.clock ≡ clock) }
     {
-        let words = if workers.is_empty() {
-            0
-        } else {
-            sizes.seats.div_ceil(WORD)
-        };
-        let seats = Seats::new(alloc, seats)?;
         Ok(Part {
-            seats,
+            seats: Seats::new(seats),
             workers,
-            calls: Calls {
-                words: vec![in alloc; 0; words]?,
-            },
             sleeper,
             rooms: Rooms::new(alloc)?,
             sizes,
@@ -123,8 +96,11 @@ impl<D: Door + Drop, G: Gate + Drop, K: Clock + Drop> Part<D, G, K> {
             let stepped = self
                 .seats
                 .step(&mut self.sleeper, &self.clock, &mut self.rooms);
-            let served = serve_callers(&mut self.workers, self.calls.take(&self.sleeper));
-            if stepped || served {
+            let served = serve_callers(&mut self.workers, &self.sleeper);
+            let answered = self
+                .seats
+                .step(&mut self.sleeper, &self.clock, &mut self.rooms);
+            if stepped || served || answered {
                 self.sleeper.found();
             } else if self.is_done() {
                 return;
@@ -158,7 +134,6 @@ impl<D: Door + Drop, G: Gate + Drop, K: Clock + Drop> Part<D, G, K> {
         let Part {
             seats,
             workers,
-            calls: _calls,
             sleeper: _sleeper,
             rooms: _rooms,
             sizes: _sizes,
@@ -168,19 +143,30 @@ impl<D: Door + Drop, G: Gate + Drop, K: Clock + Drop> Part<D, G, K> {
     }
 }
 
-/// Gives each worker a turn, for the seats that called. Whether one of them had anything to do.
-fn serve_callers<G: Gate + Drop>(workers: &mut Vec<Working<G>>, called: &[u64]) -> bool
+/// Has each worker serve the seats that called. Whether one had called.
+fn serve_callers<G: Gate + Drop>(workers: &mut Vec<Working<G>>, sleeper: &Sleeper) -> bool
     ensures { (begun : List Desk) → Zips Goes begun (map (λ one. one.worker) workers.old.items) →
         Zips Goes begun (map (λ one. one.worker) workers.new.items) }
 {
-    let mut busy = false;
+    let (first, end) = sleeper.called_words();
+    for word in first..end {
+        let more = serve_word(workers, word, sleeper.callers_in(word));
+        sleeper.call_again(word, more);
+    }
+    first < end
+}
+
+/// Has each worker serve those of the 64 seats of a word that have a bit. It gives those that may have more for one of them.
+fn serve_word<G: Gate + Drop>(workers: &mut Vec<Working<G>>, word: usize, called: u64) -> u64
+    ensures { (begun : List Desk) → Zips Goes begun (map (λ one. one.worker) workers.old.items) →
+        Zips Goes begun (map (λ one. one.worker) workers.new.items) }
+{
+    let mut more = 0;
     for place in 0..workers.len() {
         let working = &mut workers[place];
-        if working.turn(called) {
-            busy = true;
-        }
+        more |= working.turn(word, called);
     }
-    busy
+    more
 }
 
 /// Whether each worker has ended.

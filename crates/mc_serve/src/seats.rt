@@ -1,6 +1,6 @@
 //! The seats of one thread.
 ghost use Rattle.mc_command.specs.declared.rules.Rules.{Rules};
-ghost use Rattle.std.specs.Prelude.{◌≡◌, ℕ, List, IfOk, IsTrue};
+ghost use Rattle.std.specs.Prelude.{◌≡◌, ℕ, List, IsTrue};
 ghost use Rattle.std.specs.List.{AllByRecursion};
 ghost use Rattle.mc_wake.specs.Zips.{Zips};
 ghost use Rattle.mc_serve.specs.Seats.{SeatAt, SeatStands};
@@ -10,32 +10,28 @@ use crate::sitting::{Sitting, Stepped};
 use mc_doors::Door;
 use mc_seat::{Clock, Ready, Rooms};
 use mc_wake::{Marked, Readiness, Sleeper};
-use std::alloc::{AllocError, Global};
 
 /// Seats a word, each with a bit.
-pub(crate) const WORD: usize = 64;
+const WORD: usize = 64;
 
 /// The seats that one thread serves. It steps those that were roused, and those of which the last step did something.
 #[derive(Drop)]
 pub struct Seats<D: Door> {
     pub(crate) all: Vec<Sitting<D>>,
-    /// Which of them did something when they were stepped last, each 64 a word.
-    due: Vec<u64>,
     /// How many of them have not found yet that all their lanes are closed.
     left: usize,
 }
 
 impl<D: Door + Drop> Seats<D> {
-    /// These seats, all of which are stepped first.
-    pub(crate) fn new(alloc: Global, all: Vec<Sitting<D>>) -> Result<Seats<D>, AllocError>
-        ensures { IfOk result (λ seats. seats.all ≡ all) }
+    /// These seats. Their sleeper has each of them roused at first.
+    pub(crate) fn new(all: Vec<Sitting<D>>) -> Seats<D>
+        ensures { result.all ≡ all }
     {
         let left = all.len();
-        let due = vec![in alloc; u64::MAX; left.div_ceil(WORD)]?;
-        Ok(Seats { all, due, left })
+        Seats { all, left }
     }
 
-    /// Steps each seat that has to be, and tells whether there was one.
+    /// Steps the seats that were roused, or did something when they were stepped last. Whether there may have been one.
     pub(crate) fn step<K: Clock>(
         &mut self,
         sleeper: &mut Sleeper,
@@ -54,13 +50,11 @@ impl<D: Door + Drop> Seats<D> {
             SeatStands (λ line. D.Line.sight line) shards rules (K.may_answer clock.now) sat
             (D.told one.door) one.session one.phase) sats self.new.all.items }
     {
-        let mut did = false;
-        for word in 0..self.due.len() {
-            if self.step_word(word, sleeper, clock, rooms) {
-                did = true;
-            }
+        let (first, end) = sleeper.roused_words();
+        for word in first..end {
+            self.step_word(word, sleeper, clock, rooms);
         }
-        did
+        first < end
     }
 
     /// The same, of the 64 seats of a word.
@@ -70,7 +64,7 @@ impl<D: Door + Drop> Seats<D> {
         sleeper: &mut Sleeper,
         clock: &K,
         rooms: &mut Rooms,
-    ) -> bool
+    )
         requires { (shards : ℕ) × (rules : Rules) × (sats : List SeatAt) ×
             Zips (λ sat one.
             SeatStands (λ line. D.Line.sight line) shards rules (K.may_answer clock.now) sat
@@ -83,38 +77,15 @@ impl<D: Door + Drop> Seats<D> {
             SeatStands (λ line. D.Line.sight line) shards rules (K.may_answer clock.now) sat
             (D.told one.door) one.session one.phase) sats self.new.all.items }
     {
-        let marked = self.marked(word, sleeper);
         let mut again = 0u64;
-        let mut over = 0usize;
-        for place in Marked::of(word, marked) {
-            let stepped = self.step_at(place, sleeper, clock, rooms);
-            if stepped == Stepped::Did {
-                again |= 1u64 << (place % WORD);
-            }
-            if stepped == Stepped::Over {
-                over = over.saturating_add(1);
+        for place in Marked::of(word, sleeper.roused_in(word)) {
+            match self.step_at(place, sleeper, clock, rooms) {
+                Stepped::Did => again |= 1u64 << (place % WORD),
+                Stepped::Waits => {}
+                Stepped::Over => self.left = self.left.saturating_sub(1),
             }
         }
-        self.note(word, again, over);
-        marked != 0
-    }
-
-    /// Notes which seats of a word did something, and how many found that all their lanes are closed.
-    fn note(&mut self, word: usize, again: u64, over: usize)
-        ensures { self.new.all ≡ self.old.all }
-    {
-        self.left = self.left.saturating_sub(over);
-        if let Some(due) = self.due.get_mut(word) {
-            *due = again;
-        }
-    }
-
-    /// The seats of a word that have to be stepped.
-    fn marked(&self, word: usize, sleeper: &Sleeper) -> u64 {
-        match self.due.get(word) {
-            Some(due) => *due | sleeper.roused_in(word),
-            None => 0,
-        }
+        sleeper.rouse_again(word, again);
     }
 
     /// Steps the seat at this place, if there is one; where it did something, once more: what it took is sent at once.

@@ -224,6 +224,28 @@ fn a_call_is_told_once(rt: HostRuntime) -> Result<(), Fail> {
     Ok(())
 }
 
+/// Each seat that called stands in one of the words, whatever its number, until the words are taken.
+#[test]
+fn the_words_of_callers_are_given_once(rt: HostRuntime) -> Result<(), Fail> {
+    let alloc = rt.alloc();
+    let all = vec![in alloc; Sleeper::new(alloc, AT_ONCE, 9_000, 0, 1)?]?;
+    let wakers = Wakers::of(alloc, all.as_slice())?;
+    let Some(sleeper) = all.get(0) else {
+        return Ok(());
+    };
+    wakers.call(0, 130);
+    wakers.call(0, 70);
+    holds(&rt, sleeper.called_words() == (1, 3));
+    let (first, end) = sleeper.called_words();
+    holds(&rt, first >= end);
+    wakers.call(0, 8_999);
+    holds(&rt, sleeper.called_words() == (0, 141));
+    sleeper.call_again(5, 6);
+    holds(&rt, sleeper.called_words() == (5, 6));
+    equal(&rt, sleeper.callers_in(5), 6);
+    Ok(())
+}
+
 /// At first each place is roused.
 #[test]
 fn a_place_is_roused_once(rt: HostRuntime) -> Result<(), Fail> {

@@ -19,14 +19,11 @@ use std::sync::Arc;
 /// Seats a block, each with a bit of a word.
 const BLOCK: usize = 64;
 
-/// A worker, with all that its turns need. It serves the seats in blocks of 64, and in a block those alone that called, or whose
-/// lanes may hold more.
+/// A worker, with all that its turns need.
 pub struct Working<G> {
     pub worker: Worker,
     gate: Arc<G, Global>,
     seats: Wakers,
-    /// Per block a word, which has a bit for each seat whose lane may hold more pieces, the lowest for the first.
-    waiting: Vec<u64>,
     /// Per seat: a reply was given to it since it was last roused.
     given: Vec<bool>,
     alloc: Global,
@@ -42,7 +39,6 @@ impl<G: Drop> Drop for Working<G> {
             worker: _worker,
             gate: _gate,
             seats: _seats,
-            waiting: _waiting,
             given: _given,
             alloc: _alloc,
         } = self;
@@ -60,61 +56,27 @@ impl<G: Gate + Drop> Working<G> {
         ensures { IfOk result (λ working. working.worker ≡ worker) }
     {
         let count = worker.seats();
-        let waiting = vec![in alloc; 0u64; count.div_ceil(BLOCK)]?;
         let given = vec![in alloc; false; count]?;
         Ok(Working {
             worker,
             gate,
             seats,
-            waiting,
             given,
             alloc,
         })
     }
 
-    /// Serves the seats that called, and those whose lanes may hold more, and rouses the seats that it gave a reply to; then it
-    /// shows its shard to the gate. Whether there was anything to do. Of each block of seats a word has a bit for each seat that
-    /// called, the lowest for the first.
-    pub fn turn(&mut self, called: &[u64]) -> bool
-        ensures { Goes self.old.worker self.new.worker }
-    {
-        let mut busy = false;
-        for (block, called) in called.iter().enumerate() {
-            if self.serve_block(block, *called) {
-                busy = true;
-            }
-        }
-        if busy {
-            self.worker.show(&*self.gate);
-        }
-        busy
-    }
-
-    /// The same, of one block of seats.
-    fn serve_block(&mut self, block: usize, called: u64) -> bool
-        ensures { Goes self.old.worker self.new.worker }
-    {
-        let Some(waiting) = self.waiting.get(block) else {
-            return false;
-        };
-        let due = called | *waiting;
-        if due == 0 {
-            return false;
-        }
-        let more = self.serve_due(block, due);
-        if let Some(waiting) = self.waiting.get_mut(block) {
-            *waiting = more;
-        }
-        more != 0
-    }
-
-    /// Serves the seats of a block that are marked in a word, and marks in another those whose lanes may hold more.
-    fn serve_due(&mut self, block: usize, due: u64) -> u64
+    /// Serves those of the 64 seats from `64 * block` on that have a bit, and rouses the seats that it gave a reply to; then it
+    /// shows its shard to the gate. It gives a bit for each of them whose lane may hold more.
+    pub fn turn(&mut self, block: usize, called: u64) -> u64
         ensures { Goes self.old.worker self.new.worker }
     {
         let mut more = 0;
-        for seat in Marked::of(block, due) {
+        for seat in Marked::of(block, called) {
             more = self.serve_seat(seat, more);
+        }
+        if more != 0 {
+            self.worker.show(&*self.gate);
         }
         more
     }

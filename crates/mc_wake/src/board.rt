@@ -9,10 +9,15 @@ use std::sync::atomic::{AtomicU64, Ordering};
 /// Number of bits of a word.
 pub(crate) const WORD: usize = 64;
 
+/// The last bit of a word.
+const LAST: usize = 63;
+
 /// An atomic bit set over the numbers below a bound. Contracts see its number of words.
 #[derive(Drop)]
 pub(crate) struct Board {
     words: Vec<AtomicU64>,
+    /// A bit for each word that may have marks. The last one is that of all words from there on.
+    some: AtomicU64,
 }
 
 impl Model for Board {
@@ -33,19 +38,37 @@ impl Board {
         for _ in 0..count {
             words.push(AtomicU64::new(0))?;
         }
-        Ok(Board { words })
+        Ok(Board {
+            words,
+            some: AtomicU64::new(0),
+        })
     }
 
     /// Sets the bit of the number.
     pub(crate) fn mark(&self, number: usize) {
-        let Some(word) = self.words.get(number / WORD) else {
+        self.add(number / WORD, 1u64 << (number % WORD));
+    }
+
+    /// Marks those of the 64 numbers from `64 * word` on that have a bit.
+    pub(crate) fn add(&self, word: usize, bits: u64) {
+        let Some(marks) = self.words.get(word) else {
             return;
         };
-        let bit = 1u64 << (number % WORD);
-        // If the bit is still set, the owner will take it after this look; the store can be saved.
-        if word.load(Ordering::SeqCst) & bit == 0 {
-            word.fetch_or(bit, Ordering::SeqCst);
+        if bits != 0 {
+            set(marks, bits);
+            // In this order: whoever takes this bit finds the marks.
+            set(&self.some, 1u64 << word.min(LAST));
         }
+    }
+
+    /// The words that may have marks since this was last asked: from the first on, before the second.
+    pub(crate) fn range(&self) -> (usize, usize) {
+        let some = take(&self.some);
+        if some >> LAST == 1 {
+            return (0, self.words.len());
+        }
+        let first = some.trailing_zeros() as usize;
+        (first, WORD - some.leading_zeros() as usize)
     }
 
     /// Takes and clears the bits of the 64 numbers from `64 * word` on. For a word out of range,
@@ -56,19 +79,13 @@ impl Board {
         let Some(marks) = self.words.get(word) else {
             return u64::MAX;
         };
-        if marks.load(Ordering::SeqCst) == 0 {
-            return 0;
-        }
-        marks.swap(0, Ordering::SeqCst)
+        take(marks)
     }
 
     /// Moves all set bits of the other set into this one; the other one is then clear.
     pub(crate) fn take_all(&self, other: &Board) {
-        for (word, marks) in self.words.iter().enumerate() {
-            let more = other.take(word);
-            if more != 0 {
-                marks.fetch_or(more, Ordering::SeqCst);
-            }
+        for word in 0..self.words.len() {
+            self.add(word, other.take(word));
         }
     }
 
@@ -78,4 +95,20 @@ impl Board {
             .iter()
             .all(|word| word.load(Ordering::SeqCst) == 0)
     }
+}
+
+/// Sets the bits.
+fn set(word: &AtomicU64, bits: u64) {
+    // Bits that are still there are taken after this look at them.
+    if word.load(Ordering::SeqCst) & bits != bits {
+        word.fetch_or(bits, Ordering::SeqCst);
+    }
+}
+
+/// Takes all bits.
+fn take(word: &AtomicU64) -> u64 {
+    if word.load(Ordering::SeqCst) == 0 {
+        return 0;
+    }
+    word.swap(0, Ordering::SeqCst)
 }

@@ -183,6 +183,26 @@ impl Sleeper {
         self.waker.roused.take(word)
     }
 
+    /// The words in which seats may have called since this was last asked: from the first on, before the second.
+    pub fn called_words(&self) -> (usize, usize) {
+        self.waker.callers.range()
+    }
+
+    /// The words in which places may have been roused since this was last asked: from the first on, before the second.
+    pub fn roused_words(&self) -> (usize, usize) {
+        self.waker.roused.range()
+    }
+
+    /// Has the seats of a word that have a bit called once more.
+    pub fn call_again(&self, word: usize, seats: u64) {
+        self.waker.callers.add(word, seats);
+    }
+
+    /// Has the places of a word that have a bit roused once more.
+    pub fn rouse_again(&self, word: usize, places: u64) {
+        self.waker.roused.add(word, places);
+    }
+
     /// Takes the last event of the socket of the slot at `place`, if there was one.
     pub fn ready(&mut self, place: usize) -> Option<Readiness>
         ensures same { self.new ≡ self.old }

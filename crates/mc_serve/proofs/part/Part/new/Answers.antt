@@ -6,4 +6,4 @@ use Rattle.mc_serve.proofs.Parts.{all_renamed}
 use Rattle.mc_serve.proofs.part.Part.new.Goals as goal
 
 pub returns-clause-ready : goal.returns-clause-ready
-returns-clause-ready g c = all_renamed c.args.seats.items c.in_ok-seats.seats.all.items c.args.sizes c.args.sizes (λ sizes one. HasSatDown sizes.shards (rules_of sizes) (g.D.Door.told one.door) one.session one.phase) refl (ap (λ all. all.items) c.in_ok-seats.ensures) c.requires
+returns-clause-ready g c = all_renamed c.args.seats.items c.new.result.all.items c.args.sizes c.args.sizes (λ sizes one. HasSatDown sizes.shards (rules_of sizes) (g.D.Door.told one.door) one.session one.phase) refl (ap (λ all. all.items) c.new.ensures) c.requires

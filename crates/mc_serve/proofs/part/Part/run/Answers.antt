@@ -21,23 +21,31 @@ step-stepped-requires g c =
     let sizes = c.args.self.now.sizes in
     (sizes.shards, rules_of sizes, map (λ one. seat_at (g.D.Door.told one.door) (seat_ends one.session)) c.args.self.now.seats.all.items, c.loop.invariant.seats)
 
-pub loop-preserved-then-served : goal.loop-preserved-then-served
-loop-preserved-then-served g c =
+pub step-answered-requires : goal.step-answered-requires
+step-answered-requires g c =
     let sizes = c.args.self.now.sizes in
+    let sats = map (λ one. seat_at (g.D.Door.told one.door) (seat_ends one.session)) c.args.self.now.seats.all.items in
+    (sizes.shards, rules_of sizes, sats, c.step-stepped.ensures sizes.shards (rules_of sizes) sats c.loop.invariant.seats)
+
+pub loop-preserved-then-answered : goal.loop-preserved-then-answered
+loop-preserved-then-answered g c =
+    let sizes = c.args.self.now.sizes in
+    let sats = map (λ one. seat_at (g.D.Door.told one.door) (seat_ends one.session)) c.args.self.now.seats.all.items in
     record {
       next = (tt, tt);
       clock = c.loop.invariant.clock;
-      seats = c.step-stepped.ensures sizes.shards (rules_of sizes) (map (λ one. seat_at (g.D.Door.told one.door) (seat_ends one.session)) c.args.self.now.seats.all.items) c.loop.invariant.seats;
+      seats = c.step-answered.ensures sizes.shards (rules_of sizes) sats (c.step-stepped.ensures sizes.shards (rules_of sizes) sats c.loop.invariant.seats);
       workers = c.serve_callers-served.ensures (map (λ one. one.worker) c.args.self.now.workers.items) c.loop.invariant.workers;
     }
 
 pub loop-preserved : goal.loop-preserved
 loop-preserved g c =
     let sizes = c.args.self.now.sizes in
+    let sats = map (λ one. seat_at (g.D.Door.told one.door) (seat_ends one.session)) c.args.self.now.seats.all.items in
     record {
       next = (tt, tt);
       clock = c.loop.invariant.clock;
-      seats = c.step-stepped.ensures sizes.shards (rules_of sizes) (map (λ one. seat_at (g.D.Door.told one.door) (seat_ends one.session)) c.args.self.now.seats.all.items) c.loop.invariant.seats;
+      seats = c.step-answered.ensures sizes.shards (rules_of sizes) sats (c.step-stepped.ensures sizes.shards (rules_of sizes) sats c.loop.invariant.seats);
       workers = c.serve_callers-served.ensures (map (λ one. one.worker) c.args.self.now.workers.items) c.loop.invariant.workers;
     }
 
@@ -46,8 +54,8 @@ returns-then-is_done-clause-seats g c =
     let sizes = c.args.self.now.sizes in
     let sats = map (λ one. seat_at (g.D.Door.told one.door) (seat_ends one.session)) c.args.self.now.seats.all.items in
     rw (← c.loop.invariant.clock)
-    (seats_over c.step-stepped.new.self.all.items sats (λ line. g.D.Line.Outlet.sight line) (λ one. g.D.Door.told one.door) (λ one. one.session) (λ one. one.phase) sizes.shards (rules_of sizes) (g.K.Clock.may_answer c.loop.self.clock)
-    (c.if-is_done.ensures.over refl) (c.step-stepped.ensures sizes.shards (rules_of sizes) sats c.loop.invariant.seats))
+    (seats_over c.step-answered.new.self.all.items sats (λ line. g.D.Line.Outlet.sight line) (λ one. g.D.Door.told one.door) (λ one. one.session) (λ one. one.phase) sizes.shards (rules_of sizes) (g.K.Clock.may_answer c.loop.self.clock)
+    (c.if-is_done.ensures.over refl) (c.step-answered.ensures sizes.shards (rules_of sizes) sats (c.step-stepped.ensures sizes.shards (rules_of sizes) sats c.loop.invariant.seats)))
 
 pub returns-then-is_done-clause-workers : goal.returns-then-is_done-clause-workers
 returns-then-is_done-clause-workers g c =

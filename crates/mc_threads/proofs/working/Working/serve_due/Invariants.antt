@@ -1,5 +1,0 @@
-use Rattle.mc_worker.specs.Desk.{Goes}
-use Rattle.mc_threads.proofs.working.Working.serve_due.Given as goal
-
-abbrev pub invariant-loop-seat : goal.invariant-loop-seat
-invariant-loop-seat g l = Goes l.fn.self.worker l.self.worker
