@@ -339,7 +339,7 @@ def eventually(check, wanted):
     assert found == wanted
 
 
-@fails_with("asks more than its clients", "counts otherwise")
+@fails_with("counts otherwise")
 def test_each_counter_follows_a_conversation():
     asked, answered = b"set a 0 0 1\r\nx\r\nget a\r\n", b"STORED\r\nVALUE a 0 1\r\nx\r\nEND\r\n"
     names = ["memcached_current_connections", "memcached_connections_total", "memcached_read_bytes_total",
@@ -460,7 +460,7 @@ def test_the_page_has_axes_and_limits():
         assert drawn == [("Memory of items", "M0,0H600"), ("Connections", "M0,0H600")]
 
 
-@fails_with("serves half a page")
+@fails_with("has another head on its page")
 def test_the_page_names_its_server():
     """By its machine, and the port that clients use."""
     name = f"{socket.gethostname()}:"
@@ -469,7 +469,7 @@ def test_the_page_names_its_server():
         assert f"<title>{name}{server.port} mcd</title>" in page and f" on {name}{server.port}</h1>" in page
 
 
-@fails_with("serves half a page")
+@fails_with("has another head on its page")
 def test_the_page_stands_alone():
     """It has no script, loads nothing, and follows the dark mode of its browser."""
     with Watched() as server:
