@@ -449,7 +449,7 @@ def main():
         return converse(fault, program, words)
     if fault in CALLS:
         os.execv(program, [program, *CALLS[fault](words)])
-    if fault == "counts otherwise" or fault == "serves half a page":
+    if fault in ("counts otherwise", "serves half a page", "has another head on its page"):
         # What this takes of the memory isn't there for the other faults.
         from tools.checks.faulty_pages import serve_pages
 

@@ -10,6 +10,7 @@ from tools.served import started
 
 PAGES = {
     "counts otherwise": lambda text: re.sub(r"(?m)(?<=[ >])([\d,]+)(?=$|[ <])", lambda it: f"{int(it[1].replace(',', '') or 0) + 7:,}", text),
+    "has another head on its page": lambda text: text.replace("</title>", "!</title>").replace("prefers-color-scheme", "prefers-contrast"),
     "serves half a page": lambda text: text[: len(text) // 2],
 }
 

@@ -291,6 +291,11 @@ def without_use(reply):
     return re.sub(rb"(?<= )([hl])\d+(?=[ \r])", rb"\1", reply)
 
 
+def unmarked(reply):
+    """A reply without the marks of a stale item and of who is to make it again."""
+    return re.sub(rb" [WXZ](?=[ \r])", b"", reply)
+
+
 def is_padded(theirs, keys):
     """Whether memcached keeps a number under one of these keys with spaces behind it."""
     return any(re.fullmatch(rb"VALUE \S+ \d+ \d+\r\n\d+ +\r\nEND\r\n", theirs.ask(b"get " + key + b"\r\n")) for key in keys)
@@ -481,11 +486,13 @@ def servers(drop_in):
 def compare(drop_in, ours, theirs, texts, met):
     """Sends these commands to both servers, on which nothing lies under their keys: what differs by nothing that is named, by the number
     of the command. What is named is counted."""
-    unnamed = {}
+    unnamed, counted_up = {}, set()
     forget(KEYS, ours, theirs)
     for number, text in enumerate(texts):
         mine, other = text.to(ours), text.to(theirs)
-        name = one_compared(drop_in, ours, theirs, text.keys(), mine, other)
+        name = one_compared(drop_in, ours, theirs, text.keys(), mine, other, counted_up)
+        if re.match(rb"(incr|decr|ma) ", text):
+            counted_up.update(text.keys())
         if name is None:
             continue
         if name.startswith(("reply", "counters")):
@@ -493,6 +500,7 @@ def compare(drop_in, ours, theirs, texts, met):
         else:
             met[name] += 1
         forget(text.keys(), ours, theirs)
+        counted_up.difference_update(text.keys())
     return unnamed
 
 
@@ -501,8 +509,9 @@ def forget(keys, *peers):
         peer.ask(b"".join(b"delete " + key + b" noreply\r\n" for key in keys))
 
 
-def one_compared(drop_in, ours, theirs, keys, mine, other):
-    """The name of the difference that one command shows, if any: `reply ..` or `counters ..` where none is named."""
+def one_compared(drop_in, ours, theirs, keys, mine, other, counted_up):
+    """The name of the difference that one command shows, if any: `reply ..` or `counters ..` where none is named. Of the keys in
+    `counted_up` memcached may have a new item, without the marks of the one before."""
     my_reply, other_reply, grown = both_asked(drop_in, ours, theirs, mine, other)
     name = differs_later(drop_in, mine)
     if re.match(rb"(incr|decr|ma) ", mine):
@@ -511,7 +520,10 @@ def one_compared(drop_in, ours, theirs, keys, mine, other):
         ours.ask(b"".join(b"get " + key + b"\r\n" for key in keys))
     if name is None and is_same(my_reply, other_reply):
         return counts_differ(mine, my_reply, *grown) if drop_in else None
-    return name or difference(drop_in, mine, my_reply, other_reply) or f"reply: {shown(my_reply)}\n      {shown(other_reply)}"
+    name = name or difference(drop_in, mine, my_reply, other_reply)
+    if name is None and counted_up.intersection(keys) and is_same(unmarked(my_reply), unmarked(other_reply)):
+        name = "a number that gets longer"
+    return name or f"reply: {shown(my_reply)}\n      {shown(other_reply)}"
 
 
 def both_asked(drop_in, ours, theirs, mine, other):
