@@ -522,6 +522,11 @@ def what_cannot_be_read_is_told():
     equal((status, out, first), (1, b"", "mcd: cannot read the file"))
     equal(second.startswith("mcd: --replay no-such-file: "), True)
     equal("No such file" in second, True)
+    folder = os.open("/", os.O_RDONLY)
+    try:
+        equal(ended(["--stdio"], stdin=folder), (1, b"", "mcd: cannot read\n"))
+    finally:
+        os.close(folder)
 
 
 def what_cannot_be_written_is_told():
@@ -530,6 +535,8 @@ def what_cannot_be_written_is_told():
         file.flush()
         for words in (["--replay", file.name], ["--version"]):
             equal((words[0], *ended(words, stdout=full)), (words[0], 1, None, "mcd: cannot write\n"))
+        ran = subprocess.run([MCD, "--stdio"], input=b"mn\r\n", stdout=full, stderr=subprocess.PIPE, timeout=30)
+        equal((ran.returncode, ran.stderr), (1, b"mcd: cannot write\n"))
 
 
 def a_taken_address_is_told():
