@@ -119,6 +119,7 @@ FAULTS = {
     "each_address": ["listens elsewhere", "ignores the port"],
     "a_fault_comes_before_it_listens": ["listens before it does", "ends with 0"],
     "the_line_at_the_start": ["names its own rules alone"],
+    "closed_standard_descriptors_are_no_sockets": ["is another process"],
     "each_form_of_a_size": ["refuses capital letters", "ignores a value limit"],
     "as_many_shards_as_the_memory_needs": ["has two shards"],
     "a_value_that_no_shard_has_room_for": ["warns of nothing"],

@@ -254,6 +254,30 @@ def memcacheds_rules_at_a_path():
             equal(asked_at(path, b"mn\r\n", 4), b"MN\r\n")
 
 
+def standard_descriptors(server):
+    """What the descriptors 0 to 2 of a process are."""
+    return [os.readlink(f"/proc/{server.pid}/fd/{number}") for number in range(3)]
+
+
+def closed_standard_descriptors_are_no_sockets():
+    """Each is an empty file that can only be read: what is logged reaches no client, and what is printed fails."""
+    shut = ["sh", "-c", 'exec "$0" "$@" <&- >&- 2>&-', MCD]
+    with tempfile.TemporaryDirectory() as folder:
+        path = f"{folder}/socket"
+        process = started([*shut, "-s", path, "--verbose"])
+        try:
+            for _ in range(300):
+                if os.path.exists(path):
+                    break
+                time.sleep(0.1)
+            equal(asked_at(path, b"mn\r\n", 4), b"MN\r\n")
+            equal(standard_descriptors(process), ["/dev/null"] * 3)
+        finally:
+            process.kill()
+            process.wait()
+    equal(subprocess.run([*shut, "--version"], timeout=30).returncode, 1)
+
+
 def a_path_in_use():
     """Neither a socket at which somebody listens is replaced, nor any other file; and the fault names the option and the path."""
     with tempfile.TemporaryDirectory() as folder:
@@ -399,7 +423,8 @@ def the_plan_prints_alone():
 
 
 CHECKS = [
-    debians_options, each_letter, each_fault_of_a_letter, each_address, several_places, a_name_of_several_addresses, a_unix_socket, memcacheds_rules_at_a_path, a_path_in_use, a_fault_comes_before_it_listens, the_line_at_the_start,
+    debians_options, each_letter, each_fault_of_a_letter, each_address, several_places, a_name_of_several_addresses, a_unix_socket, memcacheds_rules_at_a_path,
+    closed_standard_descriptors_are_no_sockets, a_path_in_use, a_fault_comes_before_it_listens, the_line_at_the_start,
     each_form_of_a_size, as_many_shards_as_the_memory_needs, a_value_that_no_shard_has_room_for, the_plan_prints_alone, the_plan_is_kept,
 ]
 
