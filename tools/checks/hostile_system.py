@@ -12,6 +12,7 @@ from served import Line, Server, equal
 PIDFD_GETFD = 438
 
 ASKED, ANSWERED = b"mn\r\n", b"MN\r\n"
+TOO_MANY = b"ERROR Too many open connections\r\n"
 
 
 def sockets_of(server):
@@ -84,6 +85,31 @@ def connections_wait_for_open_files():
     return f"{took:.2f} s of processor time in 3 s"
 
 
+def is_served(port):
+    with Line(port) as line:
+        line.send(ASKED)
+        return line.read(len(ANSWERED)) == ANSWERED
+
+
+def open_files_that_run_out_refuse_by_memcacheds_rules():
+    """Where no more files may be open, each further connection is answered and closed, as where no seat is free."""
+    with Server("--seats", 16, "--drop-in") as server:
+        with Line(server.port) as first:
+            first.ask(ASKED, ANSWERED)
+            used = len(os.listdir(f"/proc/{server.process.pid}/fd"))
+            resource.prlimit(server.process.pid, resource.RLIMIT_NOFILE, (used, used))
+            for _ in range(20):
+                with Line(server.port, timeout=10) as refused:
+                    equal(refused.rest(), TOO_MANY)
+            took = idle_seconds(server)
+            first.ask(ASKED, ANSWERED)
+        deadline = time.monotonic() + 30
+        while not (again := is_served(server.port)) and time.monotonic() < deadline:
+            time.sleep(0.1)
+    equal((again, took <= 0.05), (True, True))
+    return f"{took:.2f} s of processor time in 3 s"
+
+
 def a_lost_listener_ends_the_program():
     """No more connections can come: those that are served are served to their end, and then the program says so."""
     with Server("--seats", 4) as server:
@@ -118,6 +144,7 @@ def one_that_quits_and_stays_leaves_its_seat():
 
 
 CHECKS = [
-    an_idle_server_takes_no_processor_time, connections_wait_for_open_files, a_lost_listener_ends_the_program,
+    an_idle_server_takes_no_processor_time, connections_wait_for_open_files, open_files_that_run_out_refuse_by_memcacheds_rules,
+    a_lost_listener_ends_the_program,
     replies_are_not_gathered_by_the_system, one_that_quits_and_stays_leaves_its_seat,
 ]

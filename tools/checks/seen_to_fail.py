@@ -61,6 +61,8 @@ FAULTS = {
     "a_thousand_clients_are_killed": ["stores torn blocks", "changes a byte"],
     "an_idle_server_takes_no_processor_time": ["spins"],
     "connections_wait_for_open_files": ["is another process"],
+    "open_files_that_run_out_refuse_by_memcacheds_rules": ["is another process"],
+    "connections_that_find_no_memory_are_closed": ["is another process", "spins"],
     "a_lost_listener_ends_the_program": ["ends with 0"],
     "replies_are_not_gathered_by_the_system": ["is another process"],
     "one_that_quits_and_stays_leaves_its_seat": ["has one seat"],

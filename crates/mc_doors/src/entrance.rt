@@ -9,6 +9,7 @@ use rtrb::{Consumer, Producer, RingBuffer};
 use std::alloc::{AllocError, Global};
 use std::io::ErrorKind;
 use std::net::{Net, SocketAddr};
+use std::os::fd::OwnedFd;
 use std::sync::atomic::{AtomicBool, Ordering};
 use std::sync::{Arc, Wait};
 use std::time::Duration;
@@ -35,6 +36,9 @@ const LASTING_FAULTS: [i32; 5] = [
     88, // ENOTSOCK
     95, // EOPNOTSUPP
 ];
+
+/// Linux's error numbers for too many open files, of the process and of the system.
+const NO_FILES: [i32; 2] = [24, 23];
 
 /// What is told between the entrance and the doors.
 #[derive(Drop)]
@@ -156,8 +160,10 @@ pub struct Entrance {
     first: usize,
     /// Connections still to be taken, where their number is bounded.
     left: Option<u64>,
-    /// A connection that comes while all seats are taken is refused: so it is by memcached's rules.
+    /// A connection that comes while all seats are taken or no more files may be open is refused: so it is by memcached's rules.
     refuses: bool,
+    /// A descriptor that is closed to refuse a connection where no more files may be open.
+    spare: Option<OwnedFd>,
     /// How often a seat has said that it is free, a count that stays at its greatest value.
     freed: usize,
     /// It was reported that all seats are taken, and not yet that one is free again.
@@ -180,6 +186,7 @@ impl Drop for Entrance {
             first: _first,
             left: _left,
             refuses: _refuses,
+            spare: _spare,
             freed: _freed,
             is_full: _is_full,
             sleeper: _sleeper,
@@ -221,11 +228,12 @@ impl Entrance {
         let bell = Bell::new(alloc, &sleeper)?;
         let mut listeners = listeners;
         register_all(&mut listeners, &bell.wakers)?;
-        Ok(Entrance {
+        let mut entrance = Entrance {
             listeners,
             first: 0,
             left: connections,
             refuses,
+            spare: None,
             freed: 0,
             is_full: false,
             sleeper,
@@ -234,7 +242,9 @@ impl Entrance {
             ways: Vec::new(alloc),
             seats: Wakers::of(alloc, sleepers)?,
             watch,
-        })
+        };
+        entrance.keep_spare();
+        Ok(entrance)
     }
 
     /// The way to the next seat, of which is watched what that watch says: they are numbered from 0.
@@ -287,6 +297,7 @@ impl Entrance {
     /// is to be asked again once a connection comes or a seat is free.
     fn take_one<R: time::Clock>(&mut self, rt: &R) -> io::Result<bool> {
         self.note_free();
+        self.keep_spare();
         let is_full = self.free.is_empty();
         self.note_full(is_full);
         if is_full && !(self.is_full && self.refuses) {
@@ -325,13 +336,39 @@ impl Entrance {
     }
 
     /// A fault of an accept that passes, as too many open files or a peer that went away, is waited out; another one is returned.
+    /// Where it refuses, and no more files may be open, the next connection is refused.
     fn wait_out<R: time::Clock>(&mut self, rt: &R, fault: io::Error) -> io::Result<bool> {
         self.watch.failed(fault.raw_os_error());
-        if is_lasting(&fault) {
+        if is_one_of(&fault, &LASTING_FAULTS) {
             return Err(fault);
+        }
+        if is_one_of(&fault, &NO_FILES) && self.spare.take().is_some() {
+            return Ok(self.refuse_next());
         }
         thread::sleep(rt, Duration::from_millis(PAUSE_MILLIS));
         Ok(true)
+    }
+
+    /// Refuses the next connection in place of the spare descriptor, if one has come: an `accept` that finds no file doesn't say.
+    /// Whether there may be another.
+    fn refuse_next(&mut self) -> bool {
+        let found = self.look();
+        let has_come = matches!(&found, Found::Connection(_));
+        if let Found::Connection(connection) = found {
+            refuse(connection);
+        }
+        self.keep_spare();
+        has_come
+    }
+
+    /// Opens the spare descriptor again, where it refuses and one more file may be open.
+    fn keep_spare(&mut self) {
+        if !self.refuses || self.spare.is_some() {
+            return;
+        }
+        if let Some(listener) = self.listeners.first() {
+            self.spare = listener.descriptor().ok();
+        }
     }
 
     /// Reports that all seats are taken, or that one is free again. Before each was free once, none is taken.
@@ -392,10 +429,10 @@ fn refuse(connection: NewConnection) {
     let _ = stream.write(TOO_MANY);
 }
 
-/// Whether the fault of an `accept` comes again at each further one.
-fn is_lasting(fault: &io::Error) -> bool {
+/// Whether the fault has one of these error numbers.
+fn is_one_of(fault: &io::Error, numbers: &[i32]) -> bool {
     match fault.raw_os_error() {
-        Some(number) => LASTING_FAULTS.contains(&number),
+        Some(number) => numbers.contains(&number),
         None => false,
     }
 }
