@@ -16,6 +16,7 @@ fails_with = pytest.mark.fails_with
 PIDFD_GETFD = 438
 
 ASKED, ANSWERED = b"mn\r\n", b"MN\r\n"
+TOO_MANY = b"ERROR Too many open connections\r\n"
 
 
 def sockets_of(server):
@@ -88,6 +89,32 @@ def test_connections_wait_for_open_files():
         third.close()
     assert took <= 0.5
     print(f"{took:.2f} s of processor time in 3 s")
+
+
+def is_served(port):
+    with Line(port) as line:
+        line.send(ASKED)
+        return line.read(len(ANSWERED)) == ANSWERED
+
+
+@fails_with("is another process")
+def test_open_files_that_run_out_refuse_by_memcacheds_rules():
+    """Where no more files may be open, each further connection is answered and closed, as where no seat is free."""
+    with Server("--seats", 16, "--drop-in") as server:
+        with Line(server.port) as first:
+            first.ask(ASKED, ANSWERED)
+            used = len(os.listdir(f"/proc/{server.process.pid}/fd"))
+            resource.prlimit(server.process.pid, resource.RLIMIT_NOFILE, (used, used))
+            for _ in range(20):
+                with Line(server.port, timeout=10) as refused:
+                    assert refused.rest() == TOO_MANY
+            took = idle_seconds(server)
+            first.ask(ASKED, ANSWERED)
+        deadline = time.monotonic() + 30
+        while not (again := is_served(server.port)) and time.monotonic() < deadline:
+            time.sleep(0.1)
+    print(f"{took:.2f} s of processor time in 3 s")
+    assert again and took <= 0.05
 
 
 @fails_with("ends with 0")

@@ -513,6 +513,11 @@ def test_what_cannot_be_read_is_told():
     assert (status, out, first) == (1, "", "mcd: cannot read the file")
     assert second.startswith("mcd: --replay no-such-file: ")
     assert "No such file" in second
+    folder = os.open("/", os.O_RDONLY)
+    try:
+        assert ended("--stdio", stdin=folder) == (1, "", "mcd: cannot read\n")
+    finally:
+        os.close(folder)
 
 
 @fails_with("ends with 0")
@@ -522,6 +527,8 @@ def test_what_cannot_be_written_is_told():
         file.flush()
         for words in (["--replay", file.name], ["--version"]):
             assert ended(*words, stdout=full) == (1, "", "mcd: cannot write\n"), words[0]
+        ran = subprocess.run(mcd("--stdio"), input=b"mn\r\n", stdout=full, stderr=subprocess.PIPE, timeout=30)
+        assert (ran.returncode, ran.stderr) == (1, b"mcd: cannot write\n")
 
 
 @fails_with("ends with 0")

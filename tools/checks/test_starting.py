@@ -12,6 +12,7 @@ import socket
 import stat
 import subprocess
 import tempfile
+import time
 
 import pytest
 
@@ -238,6 +239,27 @@ def test_memcacheds_rules_at_a_path():
                     # What the client sent wasn't read.
                     pass
             assert asked_at(path, b"mn\r\n", 4) == b"MN\r\n"
+
+
+def standard_descriptors(server):
+    """What the descriptors 0 to 2 of a process are."""
+    return [os.readlink(f"/proc/{server.pid}/fd/{number}") for number in range(3)]
+
+
+@fails_with("is another process")
+def test_closed_standard_descriptors_are_no_sockets():
+    """Each is an empty file that can only be read: what is logged reaches no client, and what is printed fails."""
+    shut = ["sh", "-c", 'exec "$0" "$@" <&- >&- 2>&-', *mcd()]
+    with tempfile.TemporaryDirectory() as folder:
+        path = f"{folder}/socket"
+        with running([*shut, "-s", path, "--verbose"]) as process:
+            for _ in range(300):
+                if os.path.exists(path):
+                    break
+                time.sleep(0.1)
+            assert asked_at(path, b"mn\r\n", 4) == b"MN\r\n"
+            assert standard_descriptors(process) == ["/dev/null"] * 3
+    assert subprocess.run([*shut, "--version"], timeout=30).returncode == 1
 
 
 @fails_with("ends with 0")

@@ -9,6 +9,7 @@ use rtrb::{Consumer, Producer, RingBuffer};
 use std::alloc::{AllocError, Global};
 use std::io::ErrorKind;
 use std::net::Net;
+use std::os::fd::OwnedFd;
 use std::sync::atomic::{AtomicBool, Ordering};
 use std::sync::{Arc, Wait};
 use std::time::Duration;
@@ -35,6 +36,9 @@ const LASTING_FAULTS: [i32; 5] = [
     88, // ENOTSOCK
     95, // EOPNOTSUPP
 ];
+
+/// Linux's error numbers for too many open files, of the process and of the system.
+const NO_FILES: [i32; 2] = [24, 23];
 
 /// Flags shared by the accepting thread and the slots.
 #[derive(Drop)]
@@ -157,8 +161,11 @@ pub struct Entrance {
     first: usize,
     /// Number of connections still to accept, if it is limited.
     left: Option<u64>,
-    /// Whether a connection is refused while all slots are in use, as by memcached's rules.
+    /// Whether a connection is refused while all slots are in use, or no more files may be open, as by
+    /// memcached's rules.
     refuses: bool,
+    /// A descriptor that is closed to refuse a connection where no more files may be open.
+    spare: Option<OwnedFd>,
     /// Number of times that a slot was reported as free; it saturates.
     freed: usize,
     /// Whether it was reported that all slots are in use, and not yet that one is free again.
@@ -181,6 +188,7 @@ impl Drop for Entrance {
             first: _first,
             left: _left,
             refuses: _refuses,
+            spare: _spare,
             freed: _freed,
             is_full: _is_full,
             sleeper: _sleeper,
@@ -222,11 +230,12 @@ impl Entrance {
         let bell = Bell::new(alloc, &sleeper)?;
         let mut listeners = listeners;
         register_all(&mut listeners, &bell.wakers)?;
-        Ok(Entrance {
+        let mut entrance = Entrance {
             listeners,
             first: 0,
             left: connections,
             refuses,
+            spare: None,
             freed: 0,
             is_full: false,
             sleeper,
@@ -235,7 +244,9 @@ impl Entrance {
             ways: Vec::new(alloc),
             seats: Wakers::of(alloc, sleepers)?,
             watch,
-        })
+        };
+        entrance.keep_spare();
+        Ok(entrance)
     }
 
     /// Makes the channel to the next slot, with its telemetry from `watch`. Slots are numbered from
@@ -290,6 +301,7 @@ impl Entrance {
     /// whether there may be another; otherwise call again after a wake-up.
     fn take_one<R: time::Clock>(&mut self, rt: &R) -> io::Result<bool> {
         self.note_free();
+        self.keep_spare();
         let is_full = self.free.is_empty();
         self.note_full(is_full);
         if is_full && !(self.is_full && self.refuses) {
@@ -329,14 +341,41 @@ impl Entrance {
     }
 
     /// Pauses after a transient error of `accept`, such as too many open files or a peer that
-    /// disconnected; returns any other error.
+    /// disconnected; returns any other error. If it refuses, and no more files may be open, the next
+    /// connection is refused.
     fn wait_out<R: time::Clock>(&mut self, rt: &R, fault: io::Error) -> io::Result<bool> {
         self.watch.failed(fault.raw_os_error());
-        if is_lasting(&fault) {
+        if is_one_of(&fault, &LASTING_FAULTS) {
             return Err(fault);
+        }
+        if is_one_of(&fault, &NO_FILES) && self.spare.take().is_some() {
+            return Ok(self.refuse_next());
         }
         thread::sleep(rt, Duration::from_millis(PAUSE_MILLIS));
         Ok(true)
+    }
+
+    /// Refuses the next connection in place of the spare descriptor, if one has come: an `accept` that
+    /// finds no file doesn't say. Returns whether there may be another.
+    fn refuse_next(&mut self) -> bool {
+        let found = self.look();
+        let has_come = matches!(&found, Found::Connection(_));
+        if let Found::Connection(connection) = found {
+            self.watch.rejected();
+            refuse(connection);
+        }
+        self.keep_spare();
+        has_come
+    }
+
+    /// Opens the spare descriptor again, if it refuses and one more file may be open.
+    fn keep_spare(&mut self) {
+        if !self.refuses || self.spare.is_some() {
+            return;
+        }
+        if let Some(listener) = self.listeners.first() {
+            self.spare = listener.descriptor().ok();
+        }
     }
 
     /// Records that all slots are in use, or that one is free again. Until each slot was free once,
@@ -398,10 +437,10 @@ fn refuse(connection: NewConnection) {
     let _ = stream.write(TOO_MANY);
 }
 
-/// Whether this error of `accept` is permanent.
-fn is_lasting(fault: &io::Error) -> bool {
+/// Whether the fault has one of these error numbers.
+fn is_one_of(fault: &io::Error, numbers: &[i32]) -> bool {
     match fault.raw_os_error() {
-        Some(number) => LASTING_FAULTS.contains(&number),
+        Some(number) => numbers.contains(&number),
         None => false,
     }
 }

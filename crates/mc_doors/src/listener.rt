@@ -6,6 +6,7 @@ use mio::net::{TcpListener, UnixListener, UnixStream};
 use std::fs::{Files, Permissions};
 use std::io::ErrorKind;
 use std::net::{Net, SocketAddr};
+use std::os::fd::{AsFd, OwnedFd};
 use std::os::unix::fs::{FileTypeExt, PermissionsExt};
 use std::{fs, io, net};
 
@@ -47,6 +48,14 @@ impl Listener {
         match self {
             Listener::Tcp(listener) => listener.local_addr().ok(),
             Listener::Unix(_) => None,
+        }
+    }
+
+    /// A further descriptor of its socket.
+    pub(crate) fn descriptor(&self) -> io::Result<OwnedFd> {
+        match self {
+            Listener::Tcp(listener) => listener.as_fd().try_clone_to_owned(),
+            Listener::Unix(listener) => listener.as_fd().try_clone_to_owned(),
         }
     }
 

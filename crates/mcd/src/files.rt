@@ -1,8 +1,11 @@
-//! How many files the system lets the program open.
+//! The files that are open at the start, and how many more the system lets the program open.
 ghost use Rattle.std.specs.Prelude.{◌≡◌, ◌+◌, ◌*◌, ◌-◌, ◌^◌, min};
 
 use libc::types::rlimit;
+use std::fs::File;
 use std::io::Eprint;
+use std::os::fd::{AsRawFd, IntoRawFd};
+use std::rt::Files;
 
 /// The files that each shard's thread has open: its poll twice, and what wakes it.
 const FILES_A_SHARD: u64 = 3;
@@ -10,6 +13,24 @@ const FILES_A_SHARD: u64 = 3;
 /// The files that are open besides: the three standard ones, the three of the thread that accepts, a connection that waits for a
 /// seat, and what says which signals wait.
 const OTHER_FILES: u64 = 8;
+
+/// The last of the descriptors of standard input, output and errors.
+const LAST_STANDARD: i32 = 2;
+
+/// Opens an empty file for each of the standard descriptors that is closed, so that no socket gets its number: what is written
+/// to standard error would reach a client. It can only be read, so a write fails as at a closed one. Where there is no
+/// `/dev/null`, the root directory takes its place.
+pub fn open_standard<R: Files<File = File>>(rt: &R) {
+    for _ in 0..=LAST_STANDARD {
+        let opened = File::open(rt, "/dev/null").or_else(|_| File::open(rt, "/"));
+        match opened {
+            Ok(file) if file.as_raw_fd() <= LAST_STANDARD => {
+                file.into_raw_fd();
+            }
+            _ => return,
+        }
+    }
+}
 
 /// How many files are open while each seat has a connection, the listeners among them.
 fn files_for(seats: usize, shards: usize, listeners: usize) -> u64
