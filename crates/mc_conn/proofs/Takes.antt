@@ -198,13 +198,13 @@ opens_plain old new shown ticket moment may_show form on room number says plan n
     (subst Joined (sym same) joiner) (subst Joins (sym same) joins) put_back shards broken
 
 -- The command that the reader gives is taken: `stats` is opened once it was noted, and any other at once.
-pub gives : (old new : Conn) (after : Dispatcher) (shown : Command) (ticket : Ticket) (moment : ℕ) (may_show : ServerStats → Type 0) → GoesOn old → length old.dispatcher.joiner.forms < old.dispatcher.joiner.window → ticket.0 ≡ opened_count old.dispatcher.joiner →
+pub gives : (old new : Conn) (some : 0 < old.dispatcher.splitter.shards) (after : Dispatcher) (shown : Command) (ticket : Ticket) (moment : ℕ) (may_show : ServerStats → Type 0) → GoesOn old → length old.dispatcher.joiner.forms < old.dispatcher.joiner.window → ticket.0 ≡ opened_count old.dispatcher.joiner →
     NextSays old.reader (next.Command shown) new.reader →
-    TakesIn (record old.dispatcher { splitter = record old.dispatcher.splitter { ticket = ticket; moment = moment }; stats_asked = false }) shown after →
+    TakesIn (record old.dispatcher { splitter = record old.dispatcher.splitter { ticket = ticket; moment = moment; some_shards = some }; stats_asked = false }) shown after →
     OpensNoted may_show after new.dispatcher → new.put_back ≡ old.put_back → new.broken ≡ old.broken →
     IfConn old (λ told. TakesCommand told moment may_show ticket new)
-gives old new after shown ticket moment may_show on room number says takes noted put_back broken =
-    let before : Dispatcher = record old.dispatcher { splitter = record old.dispatcher.splitter { ticket = ticket; moment = moment }; stats_asked = false } in
+gives old new some after shown ticket moment may_show on room number says takes noted put_back broken =
+    let before : Dispatcher = record old.dispatcher { splitter = record old.dispatcher.splitter { ticket = ticket; moment = moment; some_shards = some }; stats_asked = false } in
     elim after.stats_asked as (λ b. after.stats_asked ≡ b → MatchBool b ((server : ServerStats) × may_show server × OpensStats after server new.dispatcher) (new.dispatcher ≡ after) → IfConn old (λ told. TakesCommand told moment may_show ticket new)) [
       | true ↦ λ is_noted by.
           let is = stats_noted before after shown refl is_noted takes in

@@ -123,14 +123,14 @@ stops_now received may_answer begin now told service conn stop rounds some is st
 }
 
 -- No further command was taken, and the call says why.
-pub takes_stop : {may_show : ServerStats → Type 0} (received : ℕ → List Shown) (may_answer : ℕ → Type 0) (begin now : Sight) (told : Told) (service : Service) (conn : Conn) (moment : ℕ) (stop : Took) → TakeSays service.conn moment may_show stop conn → ((ticket : Ticket) → stop ≡ took.Opened ticket → ⊥) → (rounds : ℕ) →
+pub takes_stop : (may_show : ServerStats → Type 0) (received : ℕ → List Shown) (may_answer : ℕ → Type 0) (begin now : Sight) (told : Told) (service : Service) (conn : Conn) (moment : ℕ) (stop : Took) → TakeSays service.conn moment may_show stop conn → ((ticket : Ticket) → stop ≡ took.Opened ticket → ⊥) → (rounds : ℕ) →
     TakesSome received may_answer begin now told rounds service → TakesAll received may_answer begin now told (record service { conn = conn; stop = stop })
-takes_stop received may_answer begin now told service conn moment (took.Opened ticket) says other rounds some = absurd (other ticket refl)
-takes_stop received may_answer begin now told service conn moment took.NeedMore says other rounds some =
+takes_stop may_show received may_answer begin now told service conn moment (took.Opened ticket) says other rounds some = absurd (other ticket refl)
+takes_stop may_show received may_answer begin now told service conn moment took.NeedMore says other rounds some =
     let needs = says (record told { taken = some.taken }) some.serves.conn_is in stops_now _ _ _ _ told _ conn took.NeedMore rounds some needs.now (needs.all, needs.comes) (λ e. absurd cc)
-takes_stop received may_answer begin now told service conn moment took.Full says other rounds some =
+takes_stop may_show received may_answer begin now told service conn moment took.Full says other rounds some =
     let fills = says (record told { taken = some.taken }) some.serves.conn_is in let full = fills.full in stops_now _ _ _ _ told _ conn took.Full rounds some fills.now (omega (arith, full)) (λ e. full)
-takes_stop received may_answer begin now told service conn moment took.Closed says other rounds some =
+takes_stop may_show received may_answer begin now told service conn moment took.Closed says other rounds some =
     let over = says (record told { taken = some.taken }) some.serves.conn_is in stops_now _ _ _ _ told _ conn took.Closed rounds some over.1 over.0 (λ e. absurd cc)
 
 -- No connection has so many commands.

@@ -49,11 +49,11 @@ shut_of told is (inr (inl shut)) = shut
 shut_of told is (inr (inr done)) = absurd (let e : true ≡ false = sym done.0 ∙ is.comes in cc)
 
 -- The state of a connection after `take` found no command.
-pub asked : {may_show : ServerStats → Type 0} (old new : Conn) (moment : ℕ) (result : Took) → TakeSays old moment may_show result new → (told : Told) → IsConn old told → IsAllTaken told → Refreshed told new
-asked old new moment (took.Opened ticket) says told is all = let o = says told is in absurd (one_more_than_all told o.one all o.next)
-asked old new moment took.NeedMore says told is all = let n = says told is in record { now = n.now; waits = λ unset every place. inr n.waits }
-asked old new moment took.Full says told is all = let n = says told is in record { now = n.now; waits = λ unset every place. absurd (let full = n.full in omega (arith, full, place)) }
-asked old new moment took.Closed says told is all = let n = says told is in record { now = n.1; waits = λ unset every place. inl (shut_of told unset n.0) }
+pub asked : (may_show : ServerStats → Type 0) (old new : Conn) (moment : ℕ) (result : Took) → TakeSays old moment may_show result new → (told : Told) → IsConn old told → IsAllTaken told → Refreshed told new
+asked may_show old new moment (took.Opened ticket) says told is all = let o = says told is in absurd (one_more_than_all told o.one all o.next)
+asked may_show old new moment took.NeedMore says told is all = let n = says told is in record { now = n.now; waits = λ unset every place. inr n.waits }
+asked may_show old new moment took.Full says told is all = let n = says told is in record { now = n.now; waits = λ unset every place. absurd (let full = n.full in omega (arith, full, place)) }
+asked may_show old new moment took.Closed says told is all = let n = says told is in record { now = n.1; waits = λ unset every place. inl (shut_of told unset n.0) }
 
 -- all of a piece is taken where all before it is used up, whether or not more commands come
 pub takes_bytes : (old new : Conn) (told : Told) (bytes : List ℕ) (count : ℕ) → IsOpen told → Refreshed told old → count ≤ length bytes → IsConn new (record told { fed = told.fed ++ take count bytes }) →

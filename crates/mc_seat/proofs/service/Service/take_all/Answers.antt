@@ -12,7 +12,7 @@ loop-preserved g c received begin now told serving =
 
 pub returns-in_default : goal.returns-in_default
 returns-in_default g c received begin now told serving =
-    takes_stop received _ begin now told _ _ c.now.result c.take.result c.take.ensures.says c.in_default.not-Opened _ (c.loop.invariant received begin now told serving)
+    takes_stop _ received _ begin now told _ _ c.now.result c.take.result c.take.ensures.says c.in_default.not-Opened _ (c.loop.invariant received begin now told serving)
 
 pub returns : goal.returns
 returns g c received begin now told serving = absurd (takes_full received _ begin now told _ c.loop.counter (omega arith) (c.loop.invariant received begin now told serving))
