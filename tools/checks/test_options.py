@@ -515,7 +515,8 @@ def test_what_cannot_be_read_is_told():
     assert "No such file" in second
     folder = os.open("/", os.O_RDONLY)
     try:
-        assert ended("--stdio", stdin=folder) == (1, "", "mcd: cannot read\n")
+        ran = subprocess.run(mcd("--stdio"), stdin=folder, capture_output=True, timeout=30)
+        assert (ran.returncode, ran.stdout, ran.stderr) == (1, b"", b"mcd: cannot read\n")
     finally:
         os.close(folder)
 
