@@ -4,6 +4,7 @@ use Rattle.std.proofs.Common.{◌≡◌, false, inr, List, [], ◌∷◌, refl, 
 use Rattle.mc_item.specs.declared.answer.Answer.TheVariants as answer
 use Rattle.mc_item.specs.Expiry.{expiry_of}
 use Rattle.mc_item.specs.Kind.{key_of, kind_of}
+use Rattle.mc_reply.specs.Server.{no_server}
 use Rattle.mc_split.specs.Pieces.{pieces_of}
 use Rattle.mc_store.specs.State.{State, empty_state}
 use Rattle.mc_store.specs.Step.{Answers, IsStep, noted_in, step_of}
@@ -22,7 +23,7 @@ abbrev opened : Event
 opened = Opened 0
 
 abbrev took : Event
-took = Took 0 flush 1000 false
+took = Took 0 flush 1000 no_server false
 
 abbrev ran : Event
 ran = Ran 0 0 piece answer.Done
@@ -72,7 +73,7 @@ is_lawful = (lit< tt, ((lit< tt, λ gone. absurd (cc)), ((lit< tt, lit< tt, runs
 no_such_seat : MayFollow one_each [] (Opened 1) → ⊥
 no_such_seat may = absurd (omega (arith, may))
 
-not_opened : MayFollow one_each (opened ∷ []) (Took 1 flush 1000 false) → ⊥
+not_opened : MayFollow one_each (opened ∷ []) (Took 1 flush 1000 no_server false) → ⊥
 not_opened may = let there = may.0 in absurd (omega (arith, there))
 
 not_asked_for : MayFollow one_each (opened ∷ []) ran → ⊥
