@@ -1,7 +1,7 @@
 -- The number of connections in the listen backlog, from a table of TCP sockets as Linux shows it
 -- (/proc/self/net/tcp and tcp6): a line for each socket.
 use Rattle.std.specs.Prelude.{ℕ, ◌≡◌, ◌+◌, ◌-◌, ◌^◌, ◌&&◌, ◌==◌, List, [], length, Option, Some, None, bytes_eq, codes, min, nat_eq, nat_lt, slice_get, unwrap_or, if◌then◌else◌}
-use Rattle.std.specs.List.{list_all, slice_split, sum_by}
+use Rattle.std.specs.List.{list_all, list_any, slice_split, sum_by}
 use Rattle.std.specs.Char.{digit_value}
 use Rattle.std.specs.Str.Lines.{lines}
 use Rattle.std.specs.Str.Parse.{digits_value, without_leading_plus}
