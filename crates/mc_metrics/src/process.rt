@@ -7,6 +7,7 @@ use std::fs::File;
 use std::io;
 use std::io::{Read, Seek, SeekFrom};
 use std::os::fd::AsRawFd;
+use std::os::unix::fs::FileExt;
 use std::rt::Files;
 
 /// Size of a memory page in bytes, on x86-64: the unit of /proc/self/stat.
@@ -20,7 +21,7 @@ const SYSTEM: usize = 12;
 
 const PAGES: usize = 21;
 
-/// Buffer size for reading a directory, in bytes: more than a hundred names.
+/// Buffer size for reading a directory or the process's times, in bytes: more than a hundred names.
 const ROOM: usize = 4_096;
 
 /// Maximum number of such reads: enough for some eight million files.
@@ -59,7 +60,7 @@ impl Drop for ProcessFiles {
     }
 }
 
-/// The process's number, and what the processors have done for it, as the system says: 0 where it can't be read.
+/// The process's number and its CPU time; 0 for what can't be read.
 #[derive(Clone, Copy, Debug, Default, PartialEq, Eq)]
 pub struct ProcessTimes {
     /// Its number.
@@ -71,27 +72,26 @@ pub struct ProcessTimes {
 }
 
 impl ProcessTimes {
-    /// What they are now.
-    pub fn now<R: Files<File = File>>(rt: &R, alloc: Global) -> ProcessTimes {
-        let text = match stat_text(rt, alloc) {
-            Ok(text) => text,
-            Err(_) => String::new(alloc),
-        };
-        let words = behind_name(text.as_str());
+    /// The current times, by /proc/self/stat. The file is read without its position, so that any thread
+    /// may call this.
+    pub fn now(stat: &File) -> ProcessTimes {
+        let mut buffer = [0; ROOM];
+        let text = text_at_start(stat, &mut buffer);
+        let words = behind_name(text);
         ProcessTimes {
-            pid: number_at(text.as_str(), 0),
+            pid: number_at(text, 0),
             user: number_at(words, USER),
             system: number_at(words, SYSTEM),
         }
     }
 }
 
-/// The text of the file of its times, which is opened for this read alone, so that any thread may ask.
-fn stat_text<R: Files<File = File>>(rt: &R, alloc: Global) -> io::Result<String> {
-    let mut text = String::new(alloc);
-    let mut stat = File::open(rt, "/proc/self/stat")?;
-    stat.read_to_string(&mut text)?;
-    Ok(text)
+/// The beginning of a file, as far as the buffer has room; empty if it can't be read.
+fn text_at_start<'a>(file: &File, buffer: &'a mut [u8]) -> &'a str {
+    match file.read_at(buffer, 0) {
+        Ok(count) => str::from_utf8(&buffer[..count]).unwrap_or(""),
+        Err(_) => "",
+    }
 }
 
 impl ProcessFiles {

@@ -15,9 +15,9 @@ use std::time;
 /// The machine's time, and what the threads of the server have counted, which all copies share.
 #[derive(Clone, Copy)]
 pub struct ServerClock<R> {
-    rt: R,
-    alloc: Global,
     clock: MachineClock<R>,
+    /// /proc/self/stat, if it can be opened.
+    stat: Option<&'static File>,
     /// Its time at the start.
     started: u64,
     /// How many connections are served at a time at most.
@@ -26,8 +26,9 @@ pub struct ServerClock<R> {
     counts: Option<&'static Counts>,
 }
 
-impl<R: time::Clock + Copy> ServerClock<R> {
-    /// It starts now. The memory of the counts is never freed: each thread looks at them until it ends.
+impl<R: time::Clock + Files<File = File> + Copy> ServerClock<R> {
+    /// It starts now. The memory of the counts is never freed, and the file never closed: each thread
+    /// reads them until it ends.
     pub fn start(
         rt: R,
         alloc: Global,
@@ -38,11 +39,14 @@ impl<R: time::Clock + Copy> ServerClock<R> {
             Some(counts) => Some(leaked(alloc, counts.share(alloc)?)?),
             None => None,
         };
+        let stat = match File::open(&rt, "/proc/self/stat") {
+            Ok(stat) => Some(leaked(alloc, stat)?),
+            Err(_) => None,
+        };
         let clock = MachineClock::start(rt);
         Ok(ServerClock {
-            rt,
-            alloc,
             clock,
+            stat,
             started: clock.now(),
             seats: sizes.seats as u64,
             counts,
@@ -50,17 +54,20 @@ impl<R: time::Clock + Copy> ServerClock<R> {
     }
 }
 
-/// The counts at a place that is never freed.
-fn leaked(alloc: Global, counts: Counts) -> Result<&'static Counts, AllocError> {
-    Ok(Box::leak(Box::new(alloc, counts)?))
+/// The value at a place that is never freed.
+fn leaked<T: 'static>(alloc: Global, value: T) -> Result<&'static T, AllocError> {
+    Ok(Box::leak(Box::new(alloc, value)?))
 }
 
-impl<R: time::Clock + Files<File = File>> StatsSource for ServerClock<R> {
+impl<R: time::Clock> StatsSource for ServerClock<R> {
     ghost may_show = { λ _ _. Unit {0} };
 
     fn server_stats(&self) -> ServerStats {
         let time = self.clock.now();
-        let process = ProcessTimes::now(&self.rt, self.alloc);
+        let process = match self.stat {
+            Some(stat) => ProcessTimes::now(stat),
+            None => ProcessTimes::default(),
+        };
         let totals = match self.counts {
             Some(counts) => counts.totals(),
             None => Totals::default(),
@@ -81,7 +88,7 @@ impl<R: time::Clock + Files<File = File>> StatsSource for ServerClock<R> {
     }
 }
 
-impl<R: time::Clock + Files<File = File>> Clock for ServerClock<R> {
+impl<R: time::Clock> Clock for ServerClock<R> {
     ghost may_answer = { λ _ _. Unit {0} };
 
     fn now(&self) -> u64 {
