@@ -40,7 +40,7 @@ impl<R: time::Clock + Files<File = File> + Copy> ServerClock<R> {
             None => None,
         };
         let stat = match File::open(&rt, "/proc/self/stat") {
-            Ok(stat) => Some(leaked(alloc, stat)?),
+            Ok(stat) => Some(leaked_file(alloc, stat)?),
             Err(_) => None,
         };
         let clock = MachineClock::start(rt);
@@ -54,9 +54,14 @@ impl<R: time::Clock + Files<File = File> + Copy> ServerClock<R> {
     }
 }
 
-/// The value at a place that is never freed.
-fn leaked<T: 'static>(alloc: Global, value: T) -> Result<&'static T, AllocError> {
-    Ok(Box::leak(Box::new(alloc, value)?))
+/// The counts at a place that is never freed.
+fn leaked(alloc: Global, counts: Counts) -> Result<&'static Counts, AllocError> {
+    Ok(Box::leak(Box::new(alloc, counts)?))
+}
+
+/// The file, which is never closed.
+fn leaked_file(alloc: Global, file: File) -> Result<&'static File, AllocError> {
+    Ok(Box::leak(Box::new(alloc, file)?))
 }
 
 impl<R: time::Clock> StatsSource for ServerClock<R> {
