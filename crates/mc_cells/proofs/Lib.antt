@@ -1,3 +1,4 @@
 pub mod Chains
 pub mod Fills
 pub mod Kept
+pub mod Listed

@@ -4,6 +4,8 @@
 mod chain;
 mod cutting;
 mod keeping;
+#[cfg(test)]
+mod tests;
 
 pub use chain::{Cell, cells_of};
 pub use cutting::Page;
