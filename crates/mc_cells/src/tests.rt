@@ -1,5 +1,5 @@
 //! Texts that come and go, beside a plain list of them.
-ghost use Rattle.std.specs.Prelude.{◌≤◌, ◌≡◌, length, IfOk};
+ghost use Rattle.std.specs.Prelude.{◌≡◌, length, IfOk};
 
 mod shelf;
 
