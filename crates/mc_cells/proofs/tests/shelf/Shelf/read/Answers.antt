@@ -10,7 +10,13 @@ cut-requires-clause-lies c =
     let kept : List Handle = inside.kept.items in
     let i = c.args.index in
     let within : i < length kept =
-    omega (arith, c.requires, length-texts inside.cells.all.items kept, ap (λ (ts : List (List ℕ)). length ts) c.self.view_is) in
+    omega (
+      arith,
+      c.requires,
+      length-texts inside.cells.all.items kept,
+      ap (λ (ts : List (List ℕ)). length ts)
+          c.self.view_is,
+    ) in
     let handle = c.index.result.now in
     let all = parts kept i handle within c.index.ensures in
     let held = subst (λ (ks : List Handle). Keeps inside.cells ks) all c.self.invariant.0 in

@@ -11,7 +11,13 @@ release-requires-clause-kept c =
     let kept : List Handle = inside.kept.items in
     let i = c.args.index in
     let within : i < length kept =
-    omega (arith, c.requires, length-texts inside.cells.all.items kept, ap (λ (ts : List (List ℕ)). length ts) c.self.view_is) in
+    omega (
+      arith,
+      c.requires,
+      length-texts inside.cells.all.items kept,
+      ap (λ (ts : List (List ℕ)). length ts)
+          c.self.view_is,
+    ) in
     let all = parts kept i c.remove-first.result within c.remove-first.ensures.value in
     (take i kept, drop (suc i) kept, subst (λ (ks : List Handle). Keeps inside.cells ks) all c.self.invariant.0)
 
@@ -21,11 +27,19 @@ invariant_of-self c =
     let kept : List Handle = inside.kept.items in
     let i = c.args.index in
     let within : i < length kept =
-    omega (arith, c.requires, length-texts inside.cells.all.items kept, ap (λ (ts : List (List ℕ)). length ts) c.self.view_is) in
+    omega (
+      arith,
+      c.requires,
+      length-texts inside.cells.all.items kept,
+      ap (λ (ts : List (List ℕ)). length ts)
+          c.self.view_is,
+    ) in
     let all = parts kept i c.remove-first.result within c.remove-first.ensures.value in
     let held = subst (λ (ks : List Handle). Keeps inside.cells ks) all c.self.invariant.0 in
     let left = c.release.ensures.left (take i kept) (drop (suc i) kept) held in
-    let short = All-append (λ (h : Handle). h.1 ≤ 4095) (take i kept) (drop (suc i) kept) (All-take (λ (h : Handle). h.1 ≤ 4095) i kept c.self.invariant.1) (All-drop (λ (h : Handle). h.1 ≤ 4095) (suc i) kept c.self.invariant.1) in
+    let short = All-append (λ (h : Handle). h.1 ≤ 4095) (take i kept) (drop (suc i) kept) (All-take (λ (h :
+    Handle). h.1 ≤ 4095) i kept c.self.invariant.1) (All-drop (λ (h : Handle). h.1 ≤ 4095) (suc i) kept
+    c.self.invariant.1) in
     rw c.remove-first.ensures.items (left.keeps, short)
 
 pub returns : goal.returns
@@ -34,7 +48,13 @@ returns c =
     let kept : List Handle = inside.kept.items in
     let i = c.args.index in
     let within : i < length kept =
-    omega (arith, c.requires, length-texts inside.cells.all.items kept, ap (λ (ts : List (List ℕ)). length ts) c.self.view_is) in
+    omega (
+      arith,
+      c.requires,
+      length-texts inside.cells.all.items kept,
+      ap (λ (ts : List (List ℕ)). length ts)
+          c.self.view_is,
+    ) in
     let all = parts kept i c.remove-first.result within c.remove-first.ensures.value in
     let held = subst (λ (ks : List Handle). Keeps inside.cells ks) all c.self.invariant.0 in
     let left = c.release.ensures.left (take i kept) (drop (suc i) kept) held in
