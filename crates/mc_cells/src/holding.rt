@@ -1,10 +1,10 @@
 //! Values: short ones in cells, long ones in blocks of their own that are shared.
-ghost use Rattle.std.specs.Prelude.{◌≡◌, ◌+◌, ◌≤◌, ◌<◌, ◌∷◌, ◌++◌, [], List, length, IfOk, OnErr};
-ghost use Rattle.mc_cells.specs.declared.TheConstants.{TEXT_LIMIT};
+ghost use Rattle.std.specs.Prelude.{◌≡◌, ◌+◌, ◌≤◌, ◌<◌, ◌∷◌, ◌++◌, [], List, length, IfOk, IsOk, OnErr};
+ghost use Rattle.mc_cells.specs.declared.TheConstants.{GREATEST_CELLS, TEXT_LIMIT};
 
 use crate::cutting::Page;
 use crate::keeping::Cells;
-use crate::{LONG, TEXT_LIMIT};
+use crate::{GREATEST_CELLS, LONG, TEXT_LIMIT};
 use bytes::Bytes;
 use slab::Slab;
 use std::alloc::{AllocError, Global};
@@ -27,7 +27,6 @@ pub struct Values {
 }
 
 impl Values {
-    ghost use Rattle.slab.specs.Slab.{slab_len};
     ghost use Rattle.mc_cells.specs.Sizes.{cells_of};
     ghost use Rattle.mc_cells.specs.Kept.{room_of, taken};
     ghost use Rattle.mc_cells.specs.Held.{Holds, HoldsOn, Stands, count_long, short, value_at, values_of};
@@ -57,6 +56,11 @@ impl Values {
         ensures err { (kept : List ThePlace) → Holds self.old kept →
             OnErr result (HoldsOn self.old self.new kept) }
         ensures len { IfOk result (λ place. place.len ≡ length text.now) }
+        ensures succeeds { (kept : List ThePlace) → Holds self.old kept →
+            taken (short kept) + cells_of (length text.now) ≤ room_of self.old.cells →
+            taken (short kept) + cells_of (length text.now) ≤ GREATEST_CELLS → IsOk result }
+        ensures cells { room_of self.old.cells ≤ room_of self.new.cells }
+        ensures long { self.new.long ≡ self.old.long }
     {
         let first = self.cells.keep(text)?;
         Ok(Place {
@@ -74,12 +78,17 @@ impl Values {
         ensures err { (kept : List ThePlace) → Holds self.old kept →
             OnErr result (HoldsOn self.old self.new kept) }
         ensures len { IfOk result (λ place. place.len ≡ LONG) }
+        ensures succeeds { (kept : List ThePlace) → Holds self.old kept →
+            count_long kept + 1 ≤ self.old.long.capacity →
+            self.old.long.capacity ≤ GREATEST_CELLS → IsOk result }
+        ensures long { self.old.long.capacity ≤ self.new.long.capacity }
+        ensures cells { self.new.cells ≡ self.old.cells }
     {
-        let key = self.long.vacant_key();
-        if key > u32::MAX as usize {
+        self.long.reserve(1)?;
+        if self.long.capacity() > GREATEST_CELLS {
             return Err(AllocError);
         }
-        self.long.insert(value)?;
+        let key = self.long.insert_reserved(value);
         Ok(Place {
             first: key as u32,
             len: LONG,
@@ -92,6 +101,8 @@ impl Values {
         requires kept { (before after : List ThePlace) × Holds self.old (before ++ place ∷ after) }
         ensures left { (before after : List ThePlace) → Holds self.old (before ++ place ∷ after) →
             HoldsOn self.old self.new (before ++ after) }
+        ensures cells { room_of self.new.cells ≡ room_of self.old.cells }
+        ensures long { self.new.long.capacity ≡ self.old.long.capacity }
     {
         let len = place.len as usize;
         if len > TEXT_LIMIT {
@@ -108,6 +119,8 @@ impl Values {
         ensures value { IfOk result (λ value. value ≡ value_at self.old place) }
         ensures same { (kept : List ThePlace) → Holds self.old kept →
             HoldsOn self.old self.new kept }
+        ensures cells { self.new.cells ≡ self.old.cells }
+        ensures long { self.new.long ≡ self.old.long }
     {
         let len = place.len as usize;
         if len <= TEXT_LIMIT {
@@ -122,6 +135,8 @@ impl Values {
     /// Takes all values out.
     pub fn clear(&mut self)
         ensures empty { Holds self.new [] }
+        ensures cells { room_of self.new.cells ≡ room_of self.old.cells }
+        ensures long { self.new.long.capacity ≡ self.old.long.capacity }
     {
         self.cells.clear();
         self.long.clear();
