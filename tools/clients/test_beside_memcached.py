@@ -441,7 +441,8 @@ def server_shown(port, process):
 @pytest.mark.skipif(not shutil.which("memcached"), reason="memcached isn't installed")
 def test_stats_shows_the_server_as_memcached_does():
     """The names of the process, its connections and its traffic, in memcached's order, and the same numbers."""
-    with Server("--drop-in", "-c", "64") as ours:
+    # One thread, as memcached's below: it has counted what it wrote before it reads the next command.
+    with Server("--drop-in", "-c", "64", "-t", "1") as ours:
         names, shown = server_shown(ours.port, ours.process)
     port = free_port()
     with running(["memcached", "-u", "nobody", "-l", "127.0.0.1", "-p", str(port), "-c", "64", "-t", "1"]) as process:
