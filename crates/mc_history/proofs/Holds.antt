@@ -1,9 +1,9 @@
 -- What holds after each lawful history.
-use Rattle.std.proofs.Common.{◌≡◌, ℕ, ◌+◌, ◌<◌, ◌==◌, true, false, cond, inl, inr, List, [], ◌∷◌, ◌++◌, length, Some, refl, sym, ap, subst, ◌∙◌, arith, append-nil, append_assoc}
+use Rattle.std.proofs.Common.{◌≡◌, ℕ, ◌+◌, ◌<◌, ◌==◌, true, false, cond, inl, inr, List, [], ◌∷◌, ◌++◌, length, map, Some, refl, sym, ap, subst, ◌∙◌, arith, append-nil}
 use Rattle.std.specs.List.{AllByRecursion, slice_get}
 use Rattle.std.proofs.lemmas.Bool.Decides.{eqb_tells}
 use Rattle.std.proofs.lemmas.List.{length-map, map-append}
-use Rattle.std.proofs.lemmas.Option.{same_Some}
+use Rattle.std.proofs.lemmas.Option.{slice_get_within}
 use Rattle.mc_ring.proofs.Lists.{all_append, all_weaken}
 use Rattle.mc_sizes.specs.declared.sizes.Sizes.{Sizes}
 use Rattle.mc_split.specs.declared.plan.Piece.{Piece}
@@ -16,31 +16,12 @@ use Rattle.mc_model.specs.Events.{RunsNext}
 use Rattle.mc_model.proofs.Logs.{Run-push, of_asker-no, of_asker-yes, on_shard-no, on_shard-yes}
 use Rattle.mc_history.specs.declared.event.Event.{Event}
 use Rattle.mc_history.specs.declared.event.Event.TheVariants.{Opened, Took, Ran}
-use Rattle.mc_history.specs.Worlds.{entries_of, link_in, ran_in, seats_in, seats_of, taken_in, taken_of, world_in}
+use Rattle.mc_history.specs.Worlds.{asked, entries_of, link_in, ran_in, ran_on, seats_in, seats_of, taken_in, taken_of, work_on, world_in}
 use Rattle.mc_history.specs.Lawful.{Holds, IsHistory, MayFollow}
-use Rattle.mc_history.proofs.Lists.{picked_push}
-use Rattle.mc_history.proofs.Worlds.{connection_part}
-use Rattle.mc_history.proofs.Follows.{holds_of_all, seats_push, unopened_parts}
-
--- The pieces that a shard ran for a connection are the first of these.
-abbrev Begins : List Piece → List Piece → Type 0
-Begins some all = (rest : List Piece) × (some ++ rest ≡ all)
-
--- with the next piece of a list, what begins the list still does
-begins_next : (some all : List Piece) (piece : Piece) → Begins some all → slice_get all (length some) ≡ Some piece → Begins (some ++ piece ∷ []) all
-begins_next [] [] piece b next = absurd (cc)
-begins_next [] (p ∷ all) piece b next = (all, ap (λ q. q ∷ all) (sym (same_Some p piece next)))
-begins_next (s ∷ some) [] piece b next = absurd (cc (b.1))
-begins_next (s ∷ some) (p ∷ all) piece b next =
-    let rest = begins_next some all piece (b.0, cc (b.1)) next in (rest.0, cc (b.1, rest.1))
-
--- what begins a list begins a longer one
-begins_longer : (some all more : List Piece) → Begins some all → Begins some (all ++ more)
-begins_longer some all more b = (b.0 ++ more, sym (append_assoc some b.0 more) ∙ ap (λ ps. ps ++ more) b.1)
-
--- The shard and the connection of an entry are there.
-abbrev IsOwned : Sizes → ℕ → Entry → Type 0
-IsOwned sizes opened entry = (entry.shard < sizes.shards) × (entry.asker < opened)
+use Rattle.mc_history.proofs.Lists.{Begins, begins_longer, begins_next, picked_push}
+use Rattle.mc_history.proofs.Follows.{holds_of_all, seats_push}
+use Rattle.mc_history.proofs.Placed.{unopened_took}
+use Rattle.mc_history.proofs.Lanes.{IsOwned, lanes_push}
 
 -- what a shard ran for a connection, of this log
 abbrev ran_for : ℕ → ℕ → List Entry → List Piece
@@ -83,6 +64,7 @@ record Kept (sizes : Sizes) (history : List Event) : Type 0 where
   pub in_order : (k s : ℕ) → Begins (ran_for k s (ran_in history)) (due sizes.shards s (taken_in k history))
   pub owned : AllByRecursion (IsOwned sizes (length (seats_in history))) (ran_in history)
   pub steps : IsLawful sizes (ran_in history)
+  pub lanes : (c s : ℕ) → Begins (map asked (ran_on c s history)) (work_on sizes.shards c s history)
   pub seated : AllByRecursion (λ seat. seat < sizes.seats) (seats_in history)
 
 -- what the event adds to each of these may be added
@@ -90,7 +72,7 @@ record Kept (sizes : Sizes) (history : List Event) : Type 0 where
 may_of : (sizes : Sizes) (past : List Event) (event : Event) → MayFollow sizes past event → (k : ℕ) → AllByRecursion MayBeTaken (taken_of k event)
 may_of sizes past (Opened seat) may k = tt
 may_of sizes past (Ran shard asker piece answer) may k = tt
-may_of sizes past (Took connection command moment given_up) may k =
+may_of sizes past (Took seat connection command moment given_up) may k =
     let one : Taken = record { entry = command; moment = moment; given_up = given_up } in
     elim (connection == k) as (λ b. AllByRecursion MayBeTaken (cond b (one ∷ []) [])) [
       | true ↦ (may.1, tt)
@@ -99,24 +81,24 @@ may_of sizes past (Took connection command moment given_up) may k =
 
 order_of : (sizes : Sizes) (past : List Event) (event : Event) → Kept sizes past → MayFollow sizes past event → (k s : ℕ) → Begins (ran_for k s (ran_in past ++ entries_of event)) (due sizes.shards s (taken_in k past))
 order_of sizes past (Opened seat) was may k s = subst (λ log. Begins (ran_for k s log) (due sizes.shards s (taken_in k past))) (sym (append-nil (ran_in past))) (was.in_order k s)
-order_of sizes past (Took connection command moment given_up) was may k s = subst (λ log. Begins (ran_for k s log) (due sizes.shards s (taken_in k past))) (sym (append-nil (ran_in past))) (was.in_order k s)
+order_of sizes past (Took seat connection command moment given_up) was may k s = subst (λ log. Begins (ran_for k s log) (due sizes.shards s (taken_in k past))) (sym (append-nil (ran_in past))) (was.in_order k s)
 order_of sizes past (Ran shard asker piece answer) was may k s =
     ran_push sizes past (record { shard = shard; asker = asker; piece = piece; answer = answer }) was.in_order may.2 k s
 
 owned_of : (sizes : Sizes) (past : List Event) (event : Event) → MayFollow sizes past event → AllByRecursion (IsOwned sizes (length (seats_in past))) (entries_of event)
 owned_of sizes past (Opened seat) may = tt
-owned_of sizes past (Took connection command moment given_up) may = tt
-owned_of sizes past (Ran shard asker piece answer) may = ((may.0, may.1), tt)
+owned_of sizes past (Took seat connection command moment given_up) may = tt
+owned_of sizes past (Ran shard asker piece answer) may = ((may.0, slice_get_within (seats_in past) asker may.1.seat may.1.on_seat), tt)
 
 steps_of : (sizes : Sizes) (past : List Event) (event : Event) → IsLawful sizes (ran_in past) → MayFollow sizes past event → IsLawful sizes (ran_in past ++ entries_of event)
 steps_of sizes past (Opened seat) was may = subst (λ log. IsLawful sizes log) (sym (append-nil (ran_in past))) was
-steps_of sizes past (Took connection command moment given_up) was may = subst (λ log. IsLawful sizes log) (sym (append-nil (ran_in past))) was
+steps_of sizes past (Took seat connection command moment given_up) was may = subst (λ log. IsLawful sizes log) (sym (append-nil (ran_in past))) was
 steps_of sizes past (Ran shard asker piece answer) was may =
     steps_push sizes past (record { shard = shard; asker = asker; piece = piece; answer = answer }) was may.2
 
 seated_of : (sizes : Sizes) (past : List Event) (event : Event) → MayFollow sizes past event → AllByRecursion (λ seat. seat < sizes.seats) (seats_of event)
 seated_of sizes past (Opened seat) may = (may, tt)
-seated_of sizes past (Took connection command moment given_up) may = tt
+seated_of sizes past (Took seat connection command moment given_up) may = tt
 seated_of sizes past (Ran shard asker piece answer) may = tt
 
 -- the first of what is due stay so where more is due
@@ -142,12 +124,13 @@ kept_push sizes past event was may =
       in_order = λ k s. order_push sizes past event k s (order_of sizes past event was may k s);
       owned = subst (λ es. AllByRecursion now es) (sym (picked_push entries_of past event)) (all_weaken here now later (ran_in past ++ entries_of event) (all_append here (ran_in past) (entries_of event) was.owned (owned_of sizes past event may)));
       steps = subst (λ log. IsLawful sizes log) (sym (picked_push entries_of past event)) (steps_of sizes past event was.steps may);
+      lanes = λ c s. lanes_push sizes past event c s was.owned may (was.lanes c s);
       seated = subst (λ ss. AllByRecursion (λ seat. seat < sizes.seats) ss) (sym (picked_push seats_of past event)) (all_append (λ seat. seat < sizes.seats) (seats_in past) (seats_of event) was.seated (seated_of sizes past event may));
     }
 
 kept_all : (sizes : Sizes) (history : List Event) → IsHistory sizes history → Kept sizes history
 kept_all sizes history lawful = holds_of_all sizes (Kept sizes) (kept_push sizes) [] history
-    (record { may = λ k. tt; in_order = λ k s. ([], refl); owned = tt; steps = λ s below. (empty_shard sizes s, refl); seated = tt }) lawful
+    (record { may = λ k. tt; in_order = λ k s. ([], refl); owned = tt; steps = λ s below. (empty_shard sizes s, refl); lanes = λ c s. ([], refl); seated = tt }) lawful
 
 -- What the model promises of its worlds holds of each lawful history.
 pub holds : (sizes : Sizes) (history : List Event) → IsHistory sizes history → Holds sizes history
@@ -158,6 +141,7 @@ holds sizes history lawful =
       in_order = λ k s. kept.in_order k s;
       owned = kept.owned;
       steps = kept.steps;
-      unopened = λ k beyond. sym (connection_part k history) ∙ ap (taken_in k) (unopened_parts sizes history lawful k beyond);
+      lanes = kept.lanes;
+      unopened = unopened_took sizes history lawful;
       seated = kept.seated;
     }

@@ -2,7 +2,10 @@ pub mod Lists
 pub mod Worlds
 pub mod Roles
 pub mod Follows
+pub mod Placed
+pub mod Lanes
 pub mod Holds
+pub mod Later
 pub mod Views
 pub mod Seeing
 pub mod Steps

@@ -1,6 +1,7 @@
 -- Beginnings of lists, and what is picked from each element of them.
-use Rattle.std.proofs.Common.{◌≡◌, Bool, true, false, cond, List, [], ◌∷◌, ◌++◌, refl, sym, ap, ◌∙◌, append-nil}
-use Rattle.std.specs.List.{flat_map, filter}
+use Rattle.std.proofs.Common.{◌≡◌, ℕ, zero, suc, ◌⊎◌, inl, inr, Bool, true, false, cond, List, [], ◌∷◌, ◌++◌, length, Some, refl, sym, ap, ◌∙◌, append-nil, append_assoc}
+use Rattle.std.specs.List.{AllByRecursion, flat_map, filter, slice_get}
+use Rattle.std.proofs.lemmas.Option.{same_Some}
 use Rattle.std.proofs.lemmas.List.Concat.{flat_map-append}
 use Rattle.std.proofs.lemmas.List.Elements.{filter-append}
 use Rattle.mc_model.specs.Grows.{Lengthens}
@@ -57,3 +58,62 @@ both_tests p q x ps qs rest = elim (q x) as (λ b. q x ≡ b → filter p (cond 
 pub filter_swap : {X : Type 0} (p q : X → Bool) (xs : List X) → filter p (filter q xs) ≡ filter q (filter p xs)
 filter_swap p q [] = refl
 filter_swap p q (x ∷ xs) = both_tests p q x (filter p xs) (filter q xs) (filter_swap p q xs)
+
+-- What holds of all elements holds of those that pass a test.
+pub all_filter : {X : Type 0} (p : X → Bool) (P : X → Type 0) (xs : List X) → AllByRecursion P xs → AllByRecursion P (filter p xs)
+all_filter p P [] all = tt
+all_filter p P (x ∷ xs) all = elim (p x) as (λ b. AllByRecursion P (cond b (x ∷ filter p xs) (filter p xs))) [
+  | true ↦ (all.0, all_filter p P xs all.1)
+  | false ↦ all_filter p P xs all.1
+]
+
+-- Two tests with the same answer on each element pass the same ones.
+pub filter_same : {X : Type 0} (p q : X → Bool) (P : X → Type 0) → ((x : X) → P x → p x ≡ q x) → (xs : List X) → AllByRecursion P xs → filter p xs ≡ filter q xs
+filter_same p q P same [] all = refl
+filter_same p q P same (x ∷ xs) all =
+    ap (λ b. cond b (x ∷ filter p xs) (filter p xs)) (same x all.0) ∙ ap (λ ys. cond (q x) (x ∷ ys) ys) (filter_same p q P same xs all.1)
+
+-- What is picked from each element is the same.
+pub flat_same : {X Y : Type 0} (f g : X → List Y) (P : X → Type 0) → ((x : X) → P x → f x ≡ g x) → (xs : List X) → AllByRecursion P xs → flat_map f xs ≡ flat_map g xs
+flat_same f g P same [] all = refl
+flat_same f g P same (x ∷ xs) all = ap (λ ys. ys ++ flat_map f xs) (same x all.0) ∙ ap (λ ys. g x ++ ys) (flat_same f g P same xs all.1)
+
+-- An element of two lists in a row is one of the first or of the second.
+pub get_either : {X : Type 0} (xs ys : List X) (i : ℕ) (x : X) → slice_get (xs ++ ys) i ≡ Some x → (slice_get xs i ≡ Some x) ⊎ ((j : ℕ) × (slice_get ys j ≡ Some x))
+get_either [] ys i x here = inr (i, here)
+get_either (y ∷ xs) ys zero x here = inl here
+get_either (y ∷ xs) ys (suc i) x here = get_either xs ys i x here
+
+-- so are those behind the first
+rest_none : {X : Type 0} (b : Bool) (y : X) (ys : List X) → cond b (y ∷ ys) ys ≡ [] → ys ≡ []
+rest_none true y ys none = absurd (cc none)
+rest_none false y ys none = none
+
+-- Where no element passes a test, none that is there does.
+pub none_passes : {X : Type 0} (p : X → Bool) (xs : List X) (i : ℕ) (x : X) → filter p xs ≡ [] → slice_get xs i ≡ Some x → p x ≡ true → ⊥
+none_passes p [] i x none here passes = absurd (cc here)
+none_passes p (y ∷ xs) zero x none here passes =
+    let at = same_Some y x here in
+    absurd (cc (sym (ap (λ b. cond b (y ∷ filter p xs) (filter p xs)) (ap p at ∙ passes)) ∙ none))
+none_passes p (y ∷ xs) (suc i) x none here passes = none_passes p xs i x (rest_none (p y) y (filter p xs) none) here passes
+
+-- What is the same with more behind it has nothing behind it.
+pub nothing_more : {X : Type 0} (xs ys : List X) → xs ++ ys ≡ xs → ys ≡ []
+nothing_more [] ys same = same
+nothing_more (x ∷ xs) ys same = nothing_more xs ys (cc same)
+
+-- The first ones are the beginning of all.
+abbrev pub Begins : {X : Type 0} → List X → List X → Type 0
+Begins {X} some all = (rest : List X) × (some ++ rest ≡ all)
+
+-- with the next element of a list, what begins the list still does
+pub begins_next : {X : Type 0} (some all : List X) (x : X) → Begins some all → slice_get all (length some) ≡ Some x → Begins (some ++ x ∷ []) all
+begins_next [] [] x b next = absurd (cc)
+begins_next [] (p ∷ all) x b next = (all, ap (λ q. q ∷ all) (sym (same_Some p x next)))
+begins_next (s ∷ some) [] x b next = absurd (cc (b.1))
+begins_next (s ∷ some) (p ∷ all) x b next =
+    let rest = begins_next some all x (b.0, cc (b.1)) next in (rest.0, cc (b.1, rest.1))
+
+-- what begins a list begins a longer one
+pub begins_longer : {X : Type 0} (some all more : List X) → Begins some all → Begins some (all ++ more)
+begins_longer some all more b = (b.0 ++ more, sym (append_assoc some b.0 more) ∙ ap (λ ps. ps ++ more) b.1)

@@ -1,23 +1,33 @@
 -- What contracts see of a token's steps.
-use Rattle.std.proofs.Common.{◌≡◌, ℕ, Bool, true, cond, List, [], ◌∷◌, ◌++◌, refl, sym, ap, ◌∙◌, eq-eqb}
+use Rattle.std.proofs.Common.{◌≡◌, ℕ, ◌<◌, Bool, true, cond, List, [], ◌∷◌, ◌++◌, length, Some, refl, sym, ap, subst, ◌∙◌, arith, append-nil, length-append, eq-eqb}
+use Rattle.std.specs.List.{slice_get}
+use Rattle.std.proofs.lemmas.Option.{slice_get_within}
 use Rattle.atomic_table.specs.Seated.{TableId}
 use Rattle.mc_command.specs.declared.command.Command.{Command}
+use Rattle.mc_sizes.specs.declared.sizes.Sizes.{Sizes}
+use Rattle.mc_ring.proofs.Lists.{get_last}
 use Rattle.mc_item.specs.declared.answer.Answer.{Answer}
 use Rattle.mc_split.specs.declared.plan.Piece.{Piece}
 use Rattle.mc_conn.specs.History.{Taken}
+use Rattle.mc_conn.proofs.Gets.{get_front}
+use Rattle.mc_model.specs.Grows.{Lengthens}
 use Rattle.mc_model.specs.Log.{on_shard}
+use Rattle.mc_model.proofs.Growing.{further}
 use Rattle.mc_history.specs.declared.event.Event.{Event}
-use Rattle.mc_history.specs.declared.event.Event.TheVariants.{Ran, Took}
+use Rattle.mc_history.specs.declared.event.Event.TheVariants.{Opened, Ran, Took}
 use Rattle.mc_history.specs.declared.knowledge.Knowledge.{Knowledge}
 use Rattle.mc_history.specs.declared.knowledge.Role.{Role}
-use Rattle.mc_history.specs.declared.knowledge.Role.TheVariants.{Connection, Shard}
-use Rattle.mc_history.specs.Worlds.{entries_of, ran_in, taken_in, taken_of}
+use Rattle.mc_history.specs.declared.knowledge.Role.TheVariants.{Seat, Shard}
+use Rattle.mc_history.specs.Worlds.{IsLastOn, entries_of, ran_in, seats_in, seats_of, taken_in, taken_of}
+use Rattle.mc_history.specs.Lawful.{IsHistory}
 use Rattle.mc_history.specs.Roles.{is_own, own_part}
 use Rattle.mc_history.specs.Rule.{Extends}
 use Rattle.mc_history.specs.Tokens.{Acting, Adds, Sees}
-use Rattle.mc_history.proofs.Lists.{picked_push}
+use Rattle.mc_history.proofs.Lists.{lengthens_picked, picked_push}
 use Rattle.mc_history.proofs.Roles.{own_yes}
-use Rattle.mc_history.proofs.Worlds.{connection_part, shard_part}
+use Rattle.mc_history.proofs.Worlds.{shard_part}
+use Rattle.mc_history.proofs.Follows.{follow_front}
+use Rattle.mc_history.proofs.Placed.{taken_is, unopened_took}
 
 -- an actor that knows this, of the history in this table
 abbrev acting : TableId → Knowledge → Acting
@@ -49,16 +59,45 @@ part_added role event old new is adds =
 part_heard : (role : Role) (heard : List Event) (old new : Acting) → old.role ≡ role → Sees heard old new → own_part role new.events ≡ own_part role old.events
 part_heard role heard old new is sees = sym (part_of role new (sees.role ∙ is)) ∙ (sees.own ∙ part_of role old is)
 
--- The command that a connection adds is the next that it took.
-pub added_command : (k : ℕ) (command : Command) (moment : ℕ) (given_up : Bool) (old new : Acting) → old.role ≡ Connection k → Adds (Took k command moment given_up) old new
-    → taken_in k new.events ≡ taken_in k old.events ++ record { entry = command; moment = moment; given_up = given_up } ∷ []
-added_command k command moment given_up old new is adds =
-    let event = Took k command moment given_up in
+-- What begins a lawful history is lawful.
+lawful_before : (sizes : Sizes) (seen history : List Event) → Lengthens seen history → IsHistory sizes history → IsHistory sizes seen
+lawful_before sizes seen history more lawful = follow_front sizes [] seen more.0 (subst (λ h. IsHistory sizes h) more.1 lawful)
+
+-- A connection's seat stays what it is.
+seat_later : (k c : ℕ) (seen history : List Event) → Lengthens seen history → slice_get (seats_in seen) k ≡ Some c → slice_get (seats_in history) k ≡ Some c
+seat_later k c seen history more on =
+    let longer = lengthens_picked seats_of seen history more in
+    ap (λ ss. slice_get ss k) longer.1 ∙ get_front (seats_in seen) longer.0 k c on
+
+-- The command that a seat adds is the next that its connection took.
+pub added_command : (sizes : Sizes) (c k : ℕ) (command : Command) (moment : ℕ) (given_up : Bool) (old new : Acting) → IsHistory sizes new.events → slice_get (seats_in old.events) k ≡ Some c → old.role ≡ Seat c
+    → Adds (Took c k command moment given_up) old new → taken_in k new.events ≡ taken_in k old.events ++ record { entry = command; moment = moment; given_up = given_up } ∷ []
+added_command sizes c k command moment given_up old new lawful on is adds =
+    let event = Took c k command moment given_up in
     let one : Taken = record { entry = command; moment = moment; given_up = given_up } in
     let mine : taken_of k event ≡ one ∷ [] = ap (λ b. cond b (one ∷ []) []) (eq-eqb k k refl) in
-    sym (connection_part k new.events) ∙ (ap (taken_in k) (part_added (Connection k) event old new is adds)
-    ∙ (picked_push (taken_of k) (own_part (Connection k) old.events) event
-    ∙ (ap (λ ts. taken_in k (own_part (Connection k) old.events) ++ ts) mine ∙ ap (λ ts. ts ++ one ∷ []) (connection_part k old.events))))
+    let more : Lengthens old.events new.events = further old.events adds.before new.events adds.more (event ∷ [], adds.events) in
+    sym (taken_is sizes c k new.events lawful (seat_later k c old.events new.events more on)) ∙ (ap (taken_in k) (part_added (Seat c) event old new is adds)
+    ∙ (picked_push (taken_of k) (own_part (Seat c) old.events) event
+    ∙ (ap (λ ts. taken_in k (own_part (Seat c) old.events) ++ ts) mine ∙ ap (λ ts. ts ++ one ∷ []) (taken_is sizes c k old.events (lawful_before sizes old.events new.events more lawful) on))))
+
+-- The connection that a seat opens is the last there, and has taken nothing.
+pub added_opening : (sizes : Sizes) (c : ℕ) (old new : Acting) → IsHistory sizes new.events → (adds : Adds (Opened c) old new) → IsLastOn c (length (seats_in adds.before)) new.events × (taken_in (length (seats_in adds.before)) new.events ≡ [])
+added_opening sizes c old new lawful adds =
+    let before = adds.before in
+    let k = length (seats_in before) in
+    let event = Opened c in
+    let seats : seats_in new.events ≡ seats_in before ++ c ∷ [] = ap seats_in adds.events ∙ picked_push seats_of before event in
+    let first = lawful_before sizes before new.events (event ∷ [], adds.events) lawful in (
+      record {
+        here = ap (λ ss. slice_get ss k) seats ∙ get_last (seats_in before) c;
+        last = λ later after at.
+            let within : later < length (seats_in before ++ c ∷ []) = slice_get_within (seats_in before ++ c ∷ []) later c (sym (ap (λ ss. slice_get ss later) seats) ∙ at) in
+            let long = length-append (seats_in before) (c ∷ []) in
+            absurd (omega (arith, within, long, after));
+      },
+      ap (taken_in k) adds.events ∙ (picked_push (taken_of k) before event ∙ (append-nil (taken_in k before) ∙ unopened_took sizes before first k (omega arith))),
+    )
 
 -- The entry that a shard adds is the next that it ran.
 pub added_entry : (s asker : ℕ) (piece : Piece) (answer : Answer) (old new : Acting) → old.role ≡ Shard s → Adds (Ran s asker piece answer) old new
@@ -68,10 +107,11 @@ added_entry s asker piece answer old new is adds =
     sym (shard_part s new.events) ∙ (ap ran_in (part_added (Shard s) event old new is adds)
     ∙ (picked_push entries_of (own_part (Shard s) old.events) event ∙ ap (λ es. es ++ entries_of event) (shard_part s old.events)))
 
--- A connection that hears of others has taken what it had.
-pub heard_commands : (k : ℕ) (heard : List Event) (old new : Acting) → old.role ≡ Connection k → Sees heard old new → taken_in k new.events ≡ taken_in k old.events
-heard_commands k heard old new is sees =
-    sym (connection_part k new.events) ∙ (ap (taken_in k) (part_heard (Connection k) heard old new is sees) ∙ connection_part k old.events)
+-- A seat that hears of others: its connection has taken what it had.
+pub heard_commands : (sizes : Sizes) (c k : ℕ) (heard : List Event) (old new : Acting) → IsHistory sizes new.events → slice_get (seats_in old.events) k ≡ Some c → old.role ≡ Seat c → Sees heard old new → taken_in k new.events ≡ taken_in k old.events
+heard_commands sizes c k heard old new lawful on is sees =
+    sym (taken_is sizes c k new.events lawful (seat_later k c old.events new.events sees.more on)) ∙ (ap (taken_in k) (part_heard (Seat c) heard old new is sees)
+    ∙ taken_is sizes c k old.events (lawful_before sizes old.events new.events sees.more lawful) on)
 
 -- A shard that hears of others has run what it had.
 pub heard_entries : (s : ℕ) (heard : List Event) (old new : Acting) → old.role ≡ Shard s → Sees heard old new → on_shard s (ran_in new.events) ≡ on_shard s (ran_in old.events)

@@ -1,13 +1,10 @@
 -- A history and its tokens as contracts see them.
-use Rattle.std.specs.Prelude.{ℕ, ◌≡◌, List, [], ◌∷◌, ◌++◌, length}
+use Rattle.std.specs.Prelude.{ℕ, ◌≡◌, List, [], ◌∷◌, ◌++◌}
 use Rattle.atomic_table.specs.Seated.{TableId}
 use Rattle.mc_sizes.specs.declared.sizes.Sizes.{Sizes}
 use Rattle.mc_model.specs.Grows.{Lengthens}
 use Rattle.mc_history.specs.declared.event.Event.{Event}
-use Rattle.mc_history.specs.declared.event.Event.TheVariants.{Opened}
 use Rattle.mc_history.specs.declared.knowledge.Role.{Role}
-use Rattle.mc_history.specs.declared.knowledge.Role.TheVariants.{Connection}
-use Rattle.mc_history.specs.Worlds.{seats_in}
 use Rattle.mc_history.specs.Roles.{own_part}
 
 -- which history it is, and the sizes of its server
@@ -26,10 +23,11 @@ pub record Acting : Type 0 where
   pub role : Role
   pub events : List Event
 
--- the shards that have no actor yet: this one, and all behind it
+-- the seats and the shards that have no actor yet: these, and all behind them
 pub record Waiting : Type 0 where
   pub name : Name
-  pub from : ℕ
+  pub seats : ℕ
+  pub shards : ℕ
 
 -- The event was added to all that had happened, of which the actor knew its own part.
 pub record Adds (event : Event) (old new : Acting) : Type 0 where
@@ -39,14 +37,6 @@ pub record Adds (event : Event) (old new : Acting) : Type 0 where
   pub more : Lengthens old.events before
   pub events : new.events ≡ before ++ event ∷ []
   pub own : own_part new.role new.events ≡ own_part old.role old.events ++ event ∷ []
-
--- A connection was opened on this seat, and this is its actor. It has the next number, and has done nothing yet.
-pub record Opens (name : Name) (seat : ℕ) (new : Acting) : Type 0 where
-  pub name_is : new.name ≡ name
-  pub before : List Event
-  pub role : new.role ≡ Connection (length (seats_in before))
-  pub events : new.events ≡ before ++ Opened seat ∷ []
-  pub own : own_part new.role new.events ≡ []
 
 -- The actor has seen these events too. It did nothing.
 pub record Sees (heard : List Event) (old new : Acting) : Type 0 where

@@ -1,4 +1,4 @@
-//! An actor: a connection's thread or a shard's worker, with all that it has seen. Each step is a load of a word that nobody
+//! An actor: a seat's thread or a shard's worker, with all that it has seen. Each step is a load of a word that nobody
 //! writes.
 ghost use Rattle.std.specs.Prelude.{◌≡◌, ◌<◌, [], true};
 ghost use Rattle.mc_history.specs.declared.event.Event.{Event};
@@ -14,7 +14,7 @@ use crate::rule::{AddsEvent, Hears, Looks, Occurrence, Shows};
 use atomic_table::Seat;
 use std::marker::{Brand, Model};
 
-/// The right to add the events of one connection or shard. It takes no bytes.
+/// The right to add the events of one seat's connections or of one shard. It takes no bytes.
 #[derive(Drop)]
 pub struct Actor {
     seat: Seat<u64, Knowledge>,

@@ -9,9 +9,10 @@ pub enum Event {
     Opened {
         seat: usize,
     },
-    /// The connection of this number took a command, at this moment in seconds since 1970. It was given up where memory ran
-    /// out before a shard was asked.
+    /// The connection of this number, the last that was opened on this seat, took a command, at this moment in seconds since
+    /// 1970. It was given up where memory ran out before a shard was asked.
     Took {
+        seat: usize,
         connection: usize,
         command: Command,
         moment: u64,

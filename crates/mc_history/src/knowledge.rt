@@ -7,12 +7,12 @@ use std::collections::LinkedList;
 pub enum Role {
     /// Nobody's.
     Reader,
-    /// Those of the connection of this number.
-    Connection { number: usize },
+    /// Those of the connections on this seat.
+    Seat { number: usize },
     /// Those of this shard.
     Shard { index: usize },
-    /// Those of this shard and of all behind it.
-    Shards { from: usize },
+    /// Those of these seats and shards: of the first ones named, and of all behind them.
+    Rest { seats: usize, shards: usize },
 }
 
 /// What a token knows of the history.

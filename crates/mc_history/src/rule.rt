@@ -39,16 +39,6 @@ impl<E: Occurrence> Play<u64, Knowledge> for AddsEvent<E> {
     ghost then = { λ s me found new. (new.1 ≡ me.1) × Extends E.event me.0 new.0 };
 }
 
-/// A connection is opened, and a new token may add its events.
-pub(crate) struct OpensConnection<E: Occurrence>(PhantomData<E>);
-
-impl<E: Occurrence> Play<u64, Knowledge> for OpensConnection<E> {
-    ghost use Rattle.std.specs.Prelude.{◌≡◌, []};
-    ghost use Rattle.mc_history.specs.Rule.{IsNew};
-
-    ghost then = { λ s me found new. (new.1 ≡ []) × IsNew E.event me.0 new.0 };
-}
-
 /// A token looks at all that has happened.
 pub(crate) struct Looks;
 
@@ -70,10 +60,21 @@ impl Split<Knowledge> for Shows {
     ghost right = { λ v. reader v.sizes v.seen };
 }
 
-/// A new token may add the events of the first shard of those that this one could.
-pub(crate) struct Deals;
+/// A new token may add the events of the first seat of those that this one could.
+pub(crate) struct DealsSeat;
 
-impl Split<Knowledge> for Deals {
+impl Split<Knowledge> for DealsSeat {
+    ghost use Rattle.mc_history.specs.Rule.{first_seat, later_seats};
+
+    ghost left = { later_seats };
+
+    ghost right = { first_seat };
+}
+
+/// The same, of the first shard.
+pub(crate) struct DealsShard;
+
+impl Split<Knowledge> for DealsShard {
     ghost use Rattle.mc_history.specs.Rule.{first_shard, later_shards};
 
     ghost left = { later_shards };

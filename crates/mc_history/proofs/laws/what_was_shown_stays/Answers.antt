@@ -1,4 +1,5 @@
 use Rattle.mc_history.proofs.Follows.{due_stays}
+use Rattle.mc_history.proofs.Lanes.{work_grows}
 use Rattle.mc_history.proofs.Roles.{opened_later}
 use Rattle.mc_history.proofs.laws.what_was_shown_stays.Goals as goal
 
@@ -7,3 +8,6 @@ returns-clause-opened c = opened_later
 
 pub returns-clause-due : goal.returns-clause-due
 returns-clause-due c = due_stays
+
+pub returns-clause-work : goal.returns-clause-work
+returns-clause-work c = work_grows

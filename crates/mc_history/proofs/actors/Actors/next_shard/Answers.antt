@@ -1,6 +1,6 @@
 use Rattle.std.proofs.Common.{◌∙◌, sym, ap}
-use Rattle.mc_history.proofs.Steps.{deals_splits}
-use Rattle.mc_history.proofs.shards.Shards.next.Goals as goal
+use Rattle.mc_history.proofs.Steps.{shard_splits}
+use Rattle.mc_history.proofs.actors.Actors.next_shard.Goals as goal
 
 pub split_seat-requires : goal.split_seat-requires
 split_seat-requires c =
@@ -8,5 +8,5 @@ split_seat-requires c =
     let own = c.self.inside.seat in (
       ap (λ a. a.name.table) c.self.view_is ∙ (ap (λ n. n.table) c.requires.same ∙ sym (ap (λ n. n.table) c.history.view_is)),
       c.history.invariant,
-      deals_splits table.key own.id own.me.0 c.self.invariant.1,
+      shard_splits table.key own.id own.me.0 c.self.invariant.1,
     )

@@ -1,0 +1,94 @@
+-- What may follow what a token has seen may follow all that happened.
+use Rattle.std.proofs.Common.{◌≡◌, ℕ, ◌==◌, Bool, true, inl, inr, List, [], length, Some, refl, sym, ap, subst, ◌∙◌, eq-eqb}
+use Rattle.std.specs.List.{filter, slice_get}
+use Rattle.std.proofs.lemmas.List.Elements.{filter-append}
+use Rattle.mc_sizes.specs.declared.sizes.Sizes.{Sizes}
+use Rattle.mc_split.specs.declared.plan.Piece.{Piece}
+use Rattle.mc_conn.specs.Due.{due}
+use Rattle.mc_conn.proofs.Gets.{get_front}
+use Rattle.mc_model.specs.Log.{Entry, Run, of_asker, on_shard}
+use Rattle.mc_model.specs.Sized.{empty_shard}
+use Rattle.mc_model.specs.Grows.{Lengthens}
+use Rattle.mc_history.specs.declared.event.Event.{Event}
+use Rattle.mc_history.specs.declared.event.Event.TheVariants.{Opened, Took, Ran}
+use Rattle.mc_history.specs.declared.knowledge.Role.{Role}
+use Rattle.mc_history.specs.declared.knowledge.Role.TheVariants.{Seat}
+use Rattle.mc_history.specs.Worlds.{IsLastOn, is_on, ran_in, ran_on, seats_in, seats_of, taken_in, work_on}
+use Rattle.mc_history.specs.Lawful.{IsHistory, IsNextOnLane, MayFollow}
+use Rattle.mc_history.specs.Roles.{is_own, own_part}
+use Rattle.mc_history.proofs.Lists.{filter_swap, get_either, lengthens_picked, none_passes, nothing_more}
+use Rattle.mc_history.proofs.Roles.{part_within}
+use Rattle.mc_history.proofs.Worlds.{acts_for_seat, same_entries, seats_part}
+use Rattle.mc_history.proofs.Follows.{due_stays, follow_front}
+use Rattle.mc_history.proofs.Lanes.{of_seat-more, on_shard-asked, work_grows}
+use Rattle.mc_history.proofs.Holds.{holds}
+
+-- The last connection on a seat is so later, where no other was opened there.
+last_stays : (c k : ℕ) (seen history : List Event) → Lengthens seen history → own_part (Seat c) history ≡ own_part (Seat c) seen → IsLastOn c k seen → IsLastOn c k history
+last_stays c k seen history more same was =
+    let seats = seats_in seen in
+    let longer = lengthens_picked seats_of seen history more in
+    let here : ℕ → Bool = λ one. one == c in
+    let none : filter here longer.0 ≡ [] =
+    nothing_more (filter here seats) (filter here longer.0)
+    (sym (filter-append here seats longer.0) ∙ (ap (filter here) (sym longer.1) ∙ (sym (seats_part c history) ∙ (ap seats_in same ∙ seats_part c seen)))) in
+    record {
+      here = ap (λ ss. slice_get ss k) longer.1 ∙ get_front seats longer.0 k c was.here;
+      last = λ later after at. elim (get_either seats longer.0 later c (sym (ap (λ ss. slice_get ss later) longer.1) ∙ at)) [
+        | inl old ↦ was.last later after old
+        | inr new ↦ none_passes here longer.0 new.0 c none new.1 (eq-eqb c c refl)
+      ];
+    }
+
+-- The next piece of a lane is so later, where the shard ran no more.
+next_stays : (sizes : Sizes) (s k : ℕ) (piece : Piece) (seen history : List Event) → IsHistory sizes history → Lengthens seen history → on_shard s (ran_in history) ≡ on_shard s (ran_in seen) → IsNextOnLane sizes seen s k piece → IsNextOnLane sizes history s k piece
+next_stays sizes s k piece seen history lawful more same next =
+    let seats = seats_in seen in
+    let longer = lengthens_picked seats_of seen history more in
+    let grows = work_grows sizes next.seat s seen history lawful more in
+    let owned = (holds sizes seen (follow_front sizes [] seen more.0 (subst (λ h. IsHistory sizes h) more.1 lawful))).owned in
+    let ran : ran_on next.seat s history ≡ ran_on next.seat s seen =
+    ap (filter (λ (entry : Entry). is_on next.seat (seats_in history) entry.asker)) same
+    ∙ (ap (λ ss. filter (λ (entry : Entry). is_on next.seat ss entry.asker) (on_shard s (ran_in seen))) longer.1
+    ∙ of_seat-more next.seat seats longer.0 (on_shard s (ran_in seen)) (on_shard-asked sizes (length seats) s (ran_in seen) owned)) in
+    record {
+      seat = next.seat;
+      on_seat = ap (λ ss. slice_get ss k) longer.1 ∙ get_front seats longer.0 k next.seat next.on_seat;
+      next = ap (λ n. slice_get (work_on sizes.shards next.seat s history) n) (ap length ran)
+          ∙ (ap (λ ws. slice_get ws (length (ran_on next.seat s seen))) grows.1
+          ∙ get_front (work_on sizes.shards next.seat s seen) grows.0 (length (ran_on next.seat s seen)) (k, piece) next.next);
+    }
+
+-- so it is the next, where the shard ran no more
+due_later : (sizes : Sizes) (seen history : List Event) (s k : ℕ) (piece : Piece) → Lengthens seen history → on_shard s (ran_in history) ≡ on_shard s (ran_in seen) → slice_get (due sizes.shards s (taken_in k seen)) (length (on_shard s (of_asker k (ran_in seen)))) ≡ Some piece
+    → slice_get (due sizes.shards s (taken_in k history)) (length (on_shard s (of_asker k (ran_in history)))) ≡ Some piece
+due_later sizes seen history s k piece more same next =
+    let here : Entry → Bool = λ e. e.shard == s in
+    let mine : Entry → Bool = λ e. e.asker == k in
+    let count : length (on_shard s (of_asker k (ran_in history))) ≡ length (on_shard s (of_asker k (ran_in seen))) =
+    ap length (filter_swap here mine (ran_in history) ∙ (ap (of_asker k) same ∙ sym (filter_swap here mine (ran_in seen)))) in
+    ap (λ i. slice_get (due sizes.shards s (taken_in k history)) i) count
+    ∙ due_stays sizes.shards s k (length (on_shard s (of_asker k (ran_in seen)))) seen history piece more next
+
+-- Of an event that is the token's own: if it may follow what the token has seen, it may follow all that happened.
+pub may_later : (sizes : Sizes) (role : Role) (seen history : List Event) (event : Event) → IsHistory sizes history → is_own role event ≡ true → Lengthens seen history → own_part role history ≡ own_part role seen → MayFollow sizes seen event → MayFollow sizes history event
+may_later sizes role seen history (Opened seat) lawful own more same may = may
+may_later sizes role seen history (Took seat connection command moment given_up) lawful own more same may =
+    let event = Took seat connection command moment given_up in
+    let part = part_within (Seat seat) role history seen (acts_for_seat role event seat (eq-eqb seat seat refl) own) same in
+    (last_stays seat connection seen history more part may.0, may.1)
+may_later sizes role seen history (Ran shard asker piece answer) lawful own more same may =
+    let runs = may.2 in
+    let entries = same_entries role history seen (Ran shard asker piece answer) shard (eq-eqb shard shard refl) own same in (
+      may.0,
+      next_stays sizes shard asker piece seen history lawful more entries may.1,
+      record {
+        shard_is = runs.shard_is;
+        asker_is = runs.asker_is;
+        next = due_later sizes seen history shard asker piece more entries runs.next;
+        before = runs.before;
+        after = runs.after;
+        left = subst (λ (log : List Entry). Run (empty_shard sizes shard) log runs.before) (sym entries) runs.left;
+        step = runs.step;
+      },
+    )
