@@ -7,17 +7,18 @@ use Rattle.std.proofs.Math.Seq.{take-append_seam}
 use Rattle.mc_ring.specs.Lane.{Far, Near, Side}
 use Rattle.mc_ring.specs.Ends.{Ends, lanes_of}
 use Rattle.mc_ring.specs.EndsLaws.{get-set_other, length-slice_set}
-use Rattle.mc_ring.specs.Made.{AreLanes, AreNewEnds, IsLane, IsUnused}
+use Rattle.mc_ring.specs.Made.{AreLanes, AreNewEnds, AreRouted, IsLane, IsUnused}
+use Rattle.mc_ring.specs.Route.{Name}
 use Rattle.mc_ring.specs.internal.Joined.{Joined, Joins}
 use Rattle.mc_ring.proofs.Lists.{all_at, all_push, get_below, get_last}
 
 -- The first shards have one lane more, the others have not.
-pub record JoinsFirst (capacity done : ℕ) (old new : List (Ends Far)) (row : List Near) : Type 0 where
+pub record JoinsFirst (name : Name) (number capacity done : ℕ) (old new : List (Ends Far)) (row : List Near) : Type 0 where
   pub count : length new ≡ length old
   pub row_count : length row ≡ done
   pub unused : AllByRecursion IsUnused row
   pub holds : AllByRecursion (λ near. near.past.lane.capacity ≡ capacity) row
-  pub each : (s : ℕ) (shard shard' : Ends Far) (near : Near) → s < done → slice_get old s ≡ Some shard → slice_get new s ≡ Some shard' → slice_get row s ≡ Some near → Joined shard shard' near
+  pub each : (s : ℕ) (shard shard' : Ends Far) (near : Near) → s < done → slice_get old s ≡ Some shard → slice_get new s ≡ Some shard' → slice_get row s ≡ Some near → Joined name number shard shard' near
   pub others : (s : ℕ) → done ≤ s → slice_get new s ≡ slice_get old s
 
 -- Shards that have no lane.
@@ -49,8 +50,8 @@ module _ {A : Type 0} where
 length-lanes : {Out In : Type 0} (ends : Ends (Side Out In)) → length (lanes_of ends) ≡ length ends.lanes
 length-lanes {Out} {In} ends = length-map ends.lanes (λ (e : Side Out In). e.past.lane)
 
-pub joins_none : (capacity : ℕ) (old : List (Ends Far)) → JoinsFirst capacity 0 old old []
-joins_none capacity old = record {
+pub joins_none : (name : Name) (number capacity : ℕ) (old : List (Ends Far)) → JoinsFirst name number capacity 0 old old []
+joins_none name number capacity old = record {
   count = refl;
   row_count = refl;
   unused = tt;
@@ -60,9 +61,9 @@ joins_none capacity old = record {
 }
 
 -- after the last shard, where the room behind the elements is cut off again
-pub joins_all : (capacity done : ℕ) (old new behind : List (Ends Far)) (row : List Near) (count : ℕ) → length old ≤ done → done ≤ length new → count ≡ length old → JoinsFirst capacity done old new row
-    → Joins capacity old (take count (new ++ behind)) row
-joins_all capacity done old new behind row count whole within counted first =
+pub joins_all : (name : Name) (number capacity done : ℕ) (old new behind : List (Ends Far)) (row : List Near) (count : ℕ) → length old ≤ done → done ≤ length new → count ≡ length old → JoinsFirst name number capacity done old new row
+    → Joins name number capacity old (take count (new ++ behind)) row
+joins_all name number capacity done old new behind row count whole within counted first =
     let same : take count (new ++ behind) ≡ new = rw (counted ∙ sym first.count) (take-append_seam new behind) in
     rw same (record {
       count = first.count;
@@ -73,10 +74,10 @@ joins_all capacity done old new behind row count whole within counted first =
     })
 
 -- Where the first shards have a lane to the new seat, and the next gets one, unused and as large, one more has it.
-pub joins_next : (capacity done : ℕ) (old new : List (Ends Far)) (row : List Near) (was next : Ends Far) (near : Near) → slice_get new done ≡ Some was
-    → JoinsFirst capacity done old new row → IsUnused near → near.past.lane.capacity ≡ capacity → Joined was next near
-    → JoinsFirst capacity (done + 1) old (slice_set new done next) (row ++ near ∷ [])
-joins_next capacity done old new row was next near here first unused holds joined = record {
+pub joins_next : (name : Name) (number capacity done : ℕ) (old new : List (Ends Far)) (row : List Near) (was next : Ends Far) (near : Near) → slice_get new done ≡ Some was
+    → JoinsFirst name number capacity done old new row → IsUnused near → near.past.lane.capacity ≡ capacity → Joined name number was next near
+    → JoinsFirst name number capacity (done + 1) old (slice_set new done next) (row ++ near ∷ [])
+joins_next name number capacity done old new row was next near here first unused holds joined = record {
   count = length-slice_set new done next ∙ first.count;
   row_count = length-append row (near ∷ []) ∙ (let e = first.row_count in omega arith);
   unused = all_push IsUnused row near first.unused unused;
@@ -111,15 +112,15 @@ new_ends_more {Out} {In} number count capacity old new end grown unused holds ar
   holds = rw (map-append (λ (e : Side Out In). e.past.lane) old.lanes (end ∷ [])) (all_push (λ lane. lane.capacity ≡ capacity) (lanes_of old) end.past.lane are.holds holds);
 })
 
-lane_stays : (seat : Ends Near) (shard shard' : Ends Far) (near : Near) → Joined shard shard' near → IsLane seat shard → IsLane seat shard'
-lane_stays seat shard shard' near joined is = rw joined.grown (record {
+lane_stays : (seat : Ends Near) (shard shard' : Ends Far) (near : Near) (name : Name) (number : ℕ) → Joined name number shard shard' near → IsLane seat shard → IsLane seat shard'
+lane_stays seat shard shard' near name number joined is = rw joined.grown (record {
   lane = is.lane;
   near = is.near;
   far = rw (map-append (λ (e : Far). e.past.lane) shard.lanes (joined.far ∷ [])) (get-before (lanes_of shard) joined.far.past.lane seat.number is.lane is.far);
 })
 
-lane_made : (seat : Ends Near) (shard shard' : Ends Far) (near : Near) → Joined shard shard' near → slice_get seat.lanes shard.number ≡ Some near → seat.number ≡ length shard.lanes → IsLane seat shard'
-lane_made seat shard shard' near joined here last = rw joined.grown (record {
+lane_made : (seat : Ends Near) (shard shard' : Ends Far) (near : Near) (name : Name) (number : ℕ) → Joined name number shard shard' near → slice_get seat.lanes shard.number ≡ Some near → seat.number ≡ length shard.lanes → IsLane seat shard'
+lane_made seat shard shard' near name number joined here last = rw joined.grown (record {
   lane = near.past.lane;
   near = slice_get-map (λ (e : Near). e.past.lane) seat.lanes shard.number ∙ rw here refl;
   far = rw (map-append (λ (e : Far). e.past.lane) shard.lanes (joined.far ∷ []), last, ← joined.lane) (rw (← length-lanes shard) (get_last (lanes_of shard) joined.far.past.lane));
@@ -130,16 +131,16 @@ every_map f P [] all = tt
 every_map f P (x ∷ xs) all = (all.0, every_map f P xs all.1)
 
 -- what a shard was before the row came
-record Before (capacity s : ℕ) (old : List (Ends Far)) (row : List Near) (shard' : Ends Far) : Type 0 where
+record Before (name : Name) (number capacity s : ℕ) (old : List (Ends Far)) (row : List Near) (shard' : Ends Far) : Type 0 where
   shard : Ends Far
   near : Near
   here : slice_get old s ≡ Some shard
   there : slice_get row s ≡ Some near
-  joined : Joined shard shard' near
+  joined : Joined name number shard shard' near
   holds : near.past.lane.capacity ≡ capacity
 
-shard_before : {capacity : ℕ} {old new : List (Ends Far)} {row : List Near} (joins : Joins capacity old new row) (s : ℕ) (shard' : Ends Far) → slice_get new s ≡ Some shard' → Before capacity s old row shard'
-shard_before {capacity} {old} {new} {row} joins s shard' here' =
+shard_before : {name : Name} {number capacity : ℕ} {old new : List (Ends Far)} {row : List Near} (joins : Joins name number capacity old new row) (s : ℕ) (shard' : Ends Far) → slice_get new s ≡ Some shard' → Before name number capacity s old row shard'
+shard_before {name} {number} {capacity} {old} {new} {row} joins s shard' here' =
     let within : s < length new = slice_get_within new s shard' here' in
     let was = get_below old s (let e = joins.count in omega arith) in
     let there = get_below row s (let e = joins.count in let f = joins.row_count in omega arith) in
@@ -153,9 +154,9 @@ shard_before {capacity} {old} {new} {row} joins s shard' here' =
     }
 
 -- Once one seat more has a lane to each shard, there is a lane between each shard and each seat, that one too.
-pub lanes_next : (seats shards capacity : ℕ) (near : List (Ends Near)) (old new : List (Ends Far)) (row : List Near) → Joins capacity old new row
+pub lanes_next : (name : Name) (seats shards capacity : ℕ) (near : List (Ends Near)) (old new : List (Ends Far)) (row : List Near) → Joins name seats capacity old new row
     → AreLanes seats shards capacity near old → AreLanes (seats + 1) shards capacity (near ++ record { number = seats; lanes = row } ∷ []) new
-lanes_next seats shards capacity near old new row joins are =
+lanes_next name seats shards capacity near old new row joins are =
     let seat_new : Ends Near = record { number = seats; lanes = row } in
     record {
       seat_count = length-append near (seat_new ∷ []) ∙ (let e = are.seat_count in omega arith);
@@ -176,7 +177,24 @@ lanes_next seats shards capacity near old new row joins are =
           let was = shard_before joins s shard' here' in
           let old_shard = are.each_shard s was.shard was.here in
           elim (get_push near seat_new c seat here) [
-            | inl before ↦ lane_stays seat was.shard shard' was.near was.joined (are.each_lane c s seat was.shard before was.here)
-            | inr last ↦ rw (← last.1) (lane_made seat_new was.shard shard' was.near was.joined (rw old_shard.number_is was.there) (sym old_shard.counted))
+            | inl before ↦ lane_stays seat was.shard shard' was.near name seats was.joined (are.each_lane c s seat was.shard before was.here)
+            | inr last ↦ rw (← last.1) (lane_made seat_new was.shard shard' was.near name seats was.joined (rw old_shard.number_is was.there) (sym old_shard.counted))
           ];
     }
+
+-- The new seat's lanes have their routes too.
+pub routed_next : (name : Name) (seats shards capacity : ℕ) (near : List (Ends Near)) (old new : List (Ends Far)) (row : List Near) → Joins name seats capacity old new row
+    → AreLanes seats shards capacity near old → AreRouted name near → AreRouted name (near ++ record { number = seats; lanes = row } ∷ [])
+routed_next name seats shards capacity near old new row joins are routed c s seat end here there =
+    let seat_new : Ends Near = record { number = seats; lanes = row } in
+    elim (get_push near seat_new c seat here) [
+      | inl before ↦ routed c s seat end before there
+      | inr last ↦
+          let there' : slice_get row s ≡ Some end = rw (← last.1) at there in
+          let within : s < length row = slice_get_within row s end there' in
+          let was = get_below old s (let f = joins.row_count in omega arith) in
+          let is = get_below new s (let e = joins.count in let f = joins.row_count in omega arith) in
+          let joined = joins.each s was.0 is.0 end was.1 is.1 there' in
+          let shard_is = are.each_shard s was.0 was.1 in
+          joined.routed ∙ rw (shard_is.number_is, last.0, are.seat_count) refl
+    ]

@@ -61,6 +61,10 @@ pub record AtLane {End : Type 0} (says : End → End → Type 0) (place : ℕ) (
   pub set : new ≡ record old { lanes = slice_set old.lanes place after }
   pub said : says before after
 
+-- This holds of the lane at a place, where there is one.
+abbrev pub HoldsAt : {End : Type 0} → (End → Type 0) → ℕ → Ends End → Type 0
+HoldsAt {End} says place ends = (end : End) → slice_get ends.lanes place ≡ Some end → says end
+
 -- which lanes they are
 abbrev pub lanes_of : {Out In : Type 0} → Ends (Side Out In) → List Lane
 lanes_of ends = map (λ end. end.past.lane) ends.lanes

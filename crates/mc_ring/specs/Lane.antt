@@ -1,6 +1,6 @@
 -- What a contract sees of the two ends of a lane. A lane is the two rings between a seat and a shard: parcels go from
 -- the seat to the shard, replies come back.
-use Rattle.std.specs.Prelude.{ℕ, ◌≤◌, ◌+◌, List, length}
+use Rattle.std.specs.Prelude.{ℕ, ◌<◌, ◌+◌, List, length}
 use denote.RawPtr.{Ptr}
 use Rattle.std.specs.declared.alloc.Global.{Global}
 use Rattle.rtrb.specs.Shared.{Names}
@@ -9,6 +9,7 @@ use Rattle.rtrb.specs.declared.producer.Producer.{Producer}
 use Rattle.rtrb.specs.declared.consumer.Consumer.{Consumer}
 use Rattle.mc_ring.specs.declared.parcel.Parcel.{Parcel}
 use Rattle.mc_ring.specs.Reply.{Shown}
+use Rattle.mc_ring.specs.Route.{Route}
 
 -- which ring it is
 pub record Ring : Type 0 where
@@ -23,11 +24,12 @@ ring_in producer = record { words = producer.end.words; slots = producer.end.slo
 abbrev pub ring_out : {T P : Type 0} → Consumer T Global P → Ring
 ring_out consumer = record { words = consumer.end.words; slots = consumer.end.slots; names = consumer.end.names; heap = consumer.end.heap }
 
--- which lane it is: its rings, and how many items each of them holds
+-- which lane it is: its rings, how many items each of them holds, and its route
 pub record Lane : Type 0 where
   pub parcels : Ring
   pub replies : Ring
   pub capacity : ℕ
+  pub route : Route
 
 -- what went out and came in at one end of a lane, from the lane's beginning on
 pub record Past (Out In : Type 0) : Type 0 where
@@ -51,6 +53,6 @@ Near = Side Parcel Shown
 abbrev pub Far : Type 0
 Far = Side Shown Parcel
 
--- Room is known for each push until as many were made as the ring holds.
+-- Room is known for each push behind the first item until as many were made as the ring holds.
 abbrev pub HasRoom : {T P : Type 0} → Producer T Global P → Type 0
-HasRoom producer = producer_capacity producer ≤ known_free producer + length (sent producer)
+HasRoom producer = producer_capacity producer < known_free producer + length (sent producer)

@@ -1,4 +1,6 @@
 pub mod Reply
+pub mod Route
+pub mod Stamps
 pub mod Lane
 pub mod Ends
 pub mod EndsLaws

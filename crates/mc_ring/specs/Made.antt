@@ -3,6 +3,7 @@ use Rattle.std.specs.Prelude.{◌≡◌, ℕ, ◌≤◌, ◌+◌, List, [], ◌+
 use Rattle.std.specs.List.{AllByRecursion}
 use Rattle.mc_ring.specs.Lane.{Far, Lane, Near, Side}
 use Rattle.mc_ring.specs.Ends.{AtLane, Ends, Looks, lanes_of}
+use Rattle.mc_ring.specs.Route.{Name}
 
 -- Nothing has passed on the lane, and all its room is known.
 pub record IsUnused {Out In : Type 0} (end : Side Out In) : Type 0 where
@@ -31,6 +32,12 @@ pub record AreLanes (seats shards capacity : ℕ) (near : List (Ends Near)) (far
   pub each_seat : (number : ℕ) (seat : Ends Near) → slice_get near number ≡ Some seat → AreNewEnds number shards capacity seat
   pub each_shard : (number : ℕ) (shard : Ends Far) → slice_get far number ≡ Some shard → AreNewEnds number seats capacity shard
   pub each_lane : (c s : ℕ) (seat : Ends Near) (shard : Ends Far) → slice_get near c ≡ Some seat → slice_get far s ≡ Some shard → IsLane seat shard
+
+-- Each lane of these seats has the route from its seat to its shard, in this history.
+abbrev pub AreRouted : Name → List (Ends Near) → Type 0
+AreRouted name near =
+    (c s : ℕ) (seat : Ends Near) (end : Near) → slice_get near c ≡ Some seat → slice_get seat.lanes s ≡ Some end →
+    end.past.lane.route ≡ record { seat = c; shard = s; name = name }
 
 -- Both ends of a lane were looked at in one thread: parcels and replies are the numbers that wait, and in each direction
 -- what was received, then what waits, is what was sent.

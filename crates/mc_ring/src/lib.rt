@@ -8,10 +8,13 @@ mod parcel;
 mod reply;
 mod seat;
 mod shard;
+mod stamped;
+mod token;
 
-pub use making::{RingRefusal, lanes};
+pub use making::{RingRefusal, lanes, lanes_with};
 pub use pair::beside;
 pub use parcel::Parcel;
 pub use reply::Reply;
 pub use seat::SeatEnds;
 pub use shard::ShardEnds;
+pub use token::{Source, Token};

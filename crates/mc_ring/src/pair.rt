@@ -5,10 +5,11 @@ ghost use Rattle.mc_ring.specs.Made.{IsLane, LooksAtBoth};
 
 use crate::seat::{SeatEnds, SeatLane};
 use crate::shard::{ShardEnds, ShardLane};
+use crate::token::Token;
 
 /// How many parcels and how many replies wait on the lane of a seat and a shard, which must be of one call of `lanes`:
 /// what was received, then what waits, is what was sent, in both directions. No memory is taken.
-pub fn beside(seat: &mut SeatEnds, shard: &mut ShardEnds) -> (usize, usize)
+pub fn beside<T: Token + Drop>(seat: &mut SeatEnds<T>, shard: &mut ShardEnds<T>) -> (usize, usize)
     requires { IsLane seat.old shard.old }
     ensures looked { LooksAtBoth seat.old seat.new shard.old shard.new result.0 result.1 }
     ensures seat { AreSameEnds seat.old seat.new }
@@ -22,7 +23,7 @@ pub fn beside(seat: &mut SeatEnds, shard: &mut ShardEnds) -> (usize, usize)
 
 /// How many parcels and how many replies wait on a lane. The producers look first: what a producer learns of the
 /// consumer's end would else be looked at before the consumer has looked.
-fn lane_beside(near: &mut SeatLane, far: &mut ShardLane) -> (usize, usize)
+fn lane_beside<T: Token + Drop>(near: &mut SeatLane<T>, far: &mut ShardLane<T>) -> (usize, usize)
     requires { near.old.past.lane ≡ far.old.past.lane }
     ensures near { Looks near.old near.new }
     ensures far { Looks far.old far.new }

@@ -1,5 +1,9 @@
-use Rattle.mc_ring.specs.Made.{AreLanes}
+use Rattle.std.proofs.Common.{◌≡◌}
+use Rattle.mc_ring.specs.Made.{AreLanes, AreRouted}
 use Rattle.mc_ring.proofs.making.all_lanes.Given as goal
 
 abbrev pub invariant-loop-number : goal.invariant-loop-number
-invariant-loop-number l = AreLanes l.number l.shards l.capacity l.near.items l.far.items
+invariant-loop-number g l =
+    AreLanes l.number l.shards l.capacity l.near.items l.far.items
+    × AreRouted (g.S.Source.name l.fn.source) l.near.items
+    × (g.S.Source.name l.source ≡ g.S.Source.name l.fn.source)

@@ -33,10 +33,10 @@ all_made count shards far most least new capacity =
     }
 
 pub loop-number-init : goal.loop-number-init
-loop-number-init c = rw c.in_ok-far.ensures.items (record { counted = refl; each = λ number shard here. absurd cc })
+loop-number-init g c = rw c.in_ok-far.ensures.items (record { counted = refl; each = λ number shard here. absurd cc })
 
 pub loop-number-preserved : goal.loop-number-preserved
-loop-number-preserved c = one_more c.loop-number.number _ _ (rw c.new.ensures at c.in_ok-push.ensures.items) c.loop-number.invariant
+loop-number-preserved g c = one_more c.loop-number.number _ _ (rw c.new.ensures at c.in_ok-push.ensures.items) c.loop-number.invariant
 
 pub returns : goal.returns
-returns c = all_made _ _ _ c.loop-number.auto.number-end c.loop-number-test.false c.loop-number.invariant
+returns g c = all_made _ _ _ c.loop-number.auto.number-end c.loop-number-test.false c.loop-number.invariant

@@ -5,7 +5,7 @@ use Rattle.mc_ring.proofs.SameEnds.{read_here, same_ends_here}
 use Rattle.mc_ring.proofs.pair.beside.Goals as goal
 
 pub returns-clause-looked : goal.returns-clause-looked
-returns-clause-looked c =
+returns-clause-looked g c =
     let s_is : c.number-shard_number.result ≡ c.shard.inside.number = search rules in
     let c_is : c.number-seat_number.result ≡ c.seat.inside.number = search rules in
     let near_lane : slice_get (map (λ (end : Near). end.past.lane) c.seat.inside.lanes.items) c.shard.inside.number ≡ Some c.requires.lane = rw (← c.seat.view_is, ← c.shard.view_is) at c.requires.near in
@@ -34,7 +34,7 @@ returns-clause-looked c =
     })
 
 pub returns-clause-seat : goal.returns-clause-seat
-returns-clause-seat c =
+returns-clause-seat g c =
     let s_is : c.number-shard_number.result ≡ c.shard.inside.number = search rules in
     let near_lane : slice_get (map (λ (end : Near). end.past.lane) c.seat.inside.lanes.items) c.shard.inside.number ≡ Some c.requires.lane = rw (← c.seat.view_is, ← c.shard.view_is) at c.requires.near in
     rw (← c.seat.view_is) (same_ends_here c.seat.inside.number c.seat.inside.lanes.items c.number-shard_number.result c.index_mut-near.result.now c.lane_beside.new.near
@@ -42,7 +42,7 @@ returns-clause-seat c =
     (ap (λ past. past.lane) c.lane_beside.ensures.near.past))
 
 pub returns-clause-shard : goal.returns-clause-shard
-returns-clause-shard c =
+returns-clause-shard g c =
     let c_is : c.number-seat_number.result ≡ c.seat.inside.number = search rules in
     let far_lane : slice_get (map (λ (end : Far). end.past.lane) c.shard.inside.lanes.items) c.seat.inside.number ≡ Some c.requires.lane = rw (← c.seat.view_is, ← c.shard.view_is) at c.requires.far in
     rw (← c.shard.view_is) (same_ends_here c.shard.inside.number c.shard.inside.lanes.items c.number-seat_number.result c.index_mut-far.result.now c.lane_beside.new.far

@@ -1,18 +1,20 @@
 use Rattle.std.proofs.Common.{rules, arith}
+use Rattle.mc_ring.specs.declared.parcel.Parcel.{Parcel}
 use Rattle.mc_ring.specs.Reply.{shown}
+use Rattle.mc_ring.specs.Stamps.{item_seen}
 use Rattle.mc_ring.proofs.Prefixes.{map_longer, longer_trans}
 use Rattle.mc_ring.proofs.pair.lane_beside.Goals as goal
 
 pub returns-clause-near : goal.returns-clause-near
-returns-clause-near c = rw (← c.near.view_is) (record {
+returns-clause-near g c = rw (← c.near.view_is) (record {
   past = search rules;
-  ahead = map_longer shown _ _ (longer_trans _ _ _ c.slots_beside-2.ensures.consumer.2 c.slots_beside-replies.ensures.looked.2);
+  ahead = map_longer (item_seen shown) _ _ (longer_trans _ _ _ c.slots_beside-2.ensures.consumer.2 c.slots_beside-replies.ensures.looked.2);
   free = omega arith;
 })
 
 pub returns-clause-far : goal.returns-clause-far
-returns-clause-far c = rw (← c.far.view_is) (record {
+returns-clause-far g c = rw (← c.far.view_is) (record {
   past = search rules;
-  ahead = longer_trans _ _ _ c.slots_beside.ensures.consumer.2 c.slots_beside-parcels.ensures.looked.2;
+  ahead = map_longer (item_seen (λ (parcel : Parcel). parcel)) _ _ (longer_trans _ _ _ c.slots_beside.ensures.consumer.2 c.slots_beside-parcels.ensures.looked.2);
   free = omega arith;
 })
