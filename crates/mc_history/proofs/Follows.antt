@@ -12,14 +12,14 @@ use Rattle.mc_history.specs.Worlds.{seats_in, seats_of, taken_in, taken_of}
 use Rattle.mc_history.specs.Lawful.{IsHistory, MayAllFollow, MayFollow}
 use Rattle.mc_history.proofs.Lists.{lengthens_picked, picked_push}
 
-follow_push : (sizes : Sizes) (past later : List Event) (event : Event) → MayAllFollow sizes past later → MayFollow sizes (past ++ later) event → MayAllFollow sizes past (later ++ event ∷ [])
-follow_push sizes past [] event all may = (subst (λ p. MayFollow sizes p event) (append-nil past) may, tt)
-follow_push sizes past (first ∷ later) event all may =
-    (all.0, follow_push sizes (past ++ first ∷ []) later event all.1 (subst (λ p. MayFollow sizes p event) (sym (append_assoc past (first ∷ []) later)) may))
+follow_join : (sizes : Sizes) (past one other : List Event) → MayAllFollow sizes past one → MayAllFollow sizes (past ++ one) other → MayAllFollow sizes past (one ++ other)
+follow_join sizes past [] other first second = subst (λ p. MayAllFollow sizes p other) (append-nil past) second
+follow_join sizes past (event ∷ one) other first second =
+    (first.0, follow_join sizes (past ++ event ∷ []) one other first.1 (subst (λ p. MayAllFollow sizes p other) (sym (append_assoc past (event ∷ []) one)) second))
 
--- A lawful history with an event that may follow it is lawful.
-pub history_push : (sizes : Sizes) (history : List Event) (event : Event) → IsHistory sizes history → MayFollow sizes history event → IsHistory sizes (history ++ event ∷ [])
-history_push sizes history event lawful may = follow_push sizes [] history event lawful may
+-- A lawful history with events that may follow it, one after another, is lawful.
+pub history_join : (sizes : Sizes) (history events : List Event) → IsHistory sizes history → MayAllFollow sizes history events → IsHistory sizes (history ++ events)
+history_join sizes history events lawful all = follow_join sizes [] history events lawful all
 
 -- What begins with lawful events begins lawfully.
 pub follow_front : (sizes : Sizes) (past one other : List Event) → MayAllFollow sizes past (one ++ other) → MayAllFollow sizes past one

@@ -1,6 +1,7 @@
 -- What may follow what a token has seen may follow all that happened.
-use Rattle.std.proofs.Common.{◌≡◌, ℕ, ◌==◌, Bool, true, inl, inr, List, [], length, Some, refl, sym, ap, subst, ◌∙◌, eq-eqb}
-use Rattle.std.specs.List.{filter, slice_get}
+use Rattle.std.proofs.Common.{◌≡◌, ℕ, ◌==◌, Bool, true, inl, inr, List, [], ◌∷◌, ◌++◌, length, map, Some, refl, sym, ap, subst, ◌∙◌, append-nil, eq-eqb}
+use Rattle.std.specs.List.{AllByRecursion, filter, slice_get}
+use Rattle.mc_conn.specs.History.{MayBeTaken, Taken}
 use Rattle.std.proofs.lemmas.List.Elements.{filter-append}
 use Rattle.mc_sizes.specs.declared.sizes.Sizes.{Sizes}
 use Rattle.mc_split.specs.declared.plan.Piece.{Piece}
@@ -13,10 +14,11 @@ use Rattle.mc_history.specs.declared.event.Event.{Event}
 use Rattle.mc_history.specs.declared.event.Event.TheVariants.{Opened, Took, Ran}
 use Rattle.mc_history.specs.declared.knowledge.Role.{Role}
 use Rattle.mc_history.specs.declared.knowledge.Role.TheVariants.{Seat}
-use Rattle.mc_history.specs.Worlds.{IsLastOn, is_on, ran_in, ran_on, seats_in, seats_of, taken_in, work_on}
-use Rattle.mc_history.specs.Lawful.{IsHistory, IsNextOnLane, MayFollow}
+use Rattle.mc_history.specs.Worlds.{IsLastOn, is_on, ran_in, ran_on, seats_in, seats_of, taken_in, took, work_on}
+use Rattle.mc_history.specs.Lawful.{IsHistory, IsNextOnLane, MayAllFollow, MayFollow}
+use Rattle.mc_history.specs.Rule.{MayJoin}
 use Rattle.mc_history.specs.Roles.{is_own, own_part}
-use Rattle.mc_history.proofs.Lists.{filter_swap, get_either, lengthens_picked, none_passes, nothing_more}
+use Rattle.mc_history.proofs.Lists.{filter_swap, get_either, lengthens_picked, none_passes, nothing_more, picked_push}
 use Rattle.mc_history.proofs.Roles.{part_within}
 use Rattle.mc_history.proofs.Worlds.{acts_for_seat, same_entries, seats_part}
 use Rattle.mc_history.proofs.Follows.{due_stays, follow_front}
@@ -92,3 +94,30 @@ may_later sizes role seen history (Ran shard asker piece answer) lawful own more
         step = runs.step;
       },
     )
+
+-- So it may join, whatever others did.
+pub may_join : (sizes : Sizes) (role : Role) (seen : List Event) (event : Event) → is_own role event ≡ true → MayFollow sizes seen event → MayJoin sizes role seen (event ∷ [])
+may_join sizes role seen event own may history lawful more same = (may_later sizes role seen history event lawful own more same may, tt)
+
+-- a connection that is the last on its seat takes commands, one after another
+take_all : (sizes : Sizes) (c k : ℕ) (taken : List Taken) (history : List Event) → IsLastOn c k history → AllByRecursion MayBeTaken taken → MayAllFollow sizes history (map (took c k) taken)
+take_all sizes c k [] history last may = tt
+take_all sizes c k (one ∷ taken) history last may =
+    let event = took c k one in
+    let seats : seats_in (history ++ event ∷ []) ≡ seats_in history = picked_push seats_of history event ∙ append-nil (seats_in history) in
+    let still : IsLastOn c k (history ++ event ∷ []) = record {
+      here = ap (λ ss. slice_get ss k) seats ∙ last.here;
+      last = λ later after at. last.last later after (sym (ap (λ ss. slice_get ss later) seats) ∙ at);
+    } in
+    ((last, may.0), take_all sizes c k taken (history ++ event ∷ []) still may.1)
+
+-- The commands of a seat's last connection may join.
+pub take_joins : (sizes : Sizes) (role : Role) (c k : ℕ) (taken : List Taken) (seen : List Event) → role ≡ Seat c → IsLastOn c k seen → AllByRecursion MayBeTaken taken → MayJoin sizes role seen (map (took c k) taken)
+take_joins sizes role c k taken seen is last may history lawful more same =
+    let part : own_part (Seat c) history ≡ own_part (Seat c) seen = subst (λ r. own_part r history ≡ own_part r seen) is same in
+    take_all sizes c k taken history (last_stays c k seen history more part last) may
+
+-- They are the seat's own.
+pub taken_own : (role : Role) (c k : ℕ) (taken : List Taken) → role ≡ Seat c → AllByRecursion (λ event. is_own role event ≡ true) (map (took c k) taken)
+taken_own role c k [] is = tt
+taken_own role c k (one ∷ taken) is = (ap (λ r. is_own r (took c k one)) is ∙ eq-eqb c c refl, taken_own role c k taken is)

@@ -6,6 +6,7 @@ pub mod Placed
 pub mod Lanes
 pub mod Holds
 pub mod Later
+pub mod Turns
 pub mod Views
 pub mod Seeing
 pub mod Steps

@@ -5,11 +5,6 @@ use Rattle.std.proofs.lemmas.Option.{same_Some}
 use Rattle.std.proofs.lemmas.List.Concat.{flat_map-append}
 use Rattle.std.proofs.lemmas.List.Elements.{filter-append}
 use Rattle.mc_model.specs.Grows.{Lengthens}
-use Rattle.mc_model.proofs.Growing.{further}
-
--- What begins a list begins it also where one element more comes behind it.
-pub lengthens_push : {X : Type 0} (xs ys : List X) (y : X) → Lengthens xs ys → Lengthens xs (ys ++ y ∷ [])
-lengthens_push xs ys y more = further xs ys (ys ++ y ∷ []) more (y ∷ [], refl)
 
 -- What is picked from a beginning begins what is picked from the whole.
 pub lengthens_picked : {X Y : Type 0} (pick : X → List Y) (xs ys : List X) → Lengthens xs ys → Lengthens (flat_map pick xs) (flat_map pick ys)
@@ -26,6 +21,16 @@ filter_yes p xs x is = filter-append p xs (x ∷ []) ∙ ap (λ b. filter p xs +
 -- An element that doesn't pass it changes nothing.
 pub filter_no : {X : Type 0} (p : X → Bool) (xs : List X) (x : X) → p x ≡ false → filter p (xs ++ x ∷ []) ≡ filter p xs
 filter_no p xs x is = filter-append p xs (x ∷ []) ∙ (ap (λ b. filter p xs ++ cond b (x ∷ []) []) is ∙ append-nil (filter p xs))
+
+-- All pass a test.
+pub filter_all : {X : Type 0} (p : X → Bool) (xs : List X) → AllByRecursion (λ x. p x ≡ true) xs → filter p xs ≡ xs
+filter_all p [] all = refl
+filter_all p (x ∷ xs) all = ap (λ b. cond b (x ∷ filter p xs) (filter p xs)) all.0 ∙ ap (λ ys. x ∷ ys) (filter_all p xs all.1)
+
+-- None passes it.
+pub filter_none : {X : Type 0} (p : X → Bool) (xs : List X) → AllByRecursion (λ x. p x ≡ false) xs → filter p xs ≡ []
+filter_none p [] none = refl
+filter_none p (x ∷ xs) none = ap (λ b. cond b (x ∷ filter p xs) (filter p xs)) none.0 ∙ filter_none p xs none.1
 
 not_stricter : {X : Type 0} (p q : X → Bool) → ((x : X) → p x ≡ true → q x ≡ true) → (x : X) → q x ≡ false → p x ≡ false
 not_stricter p q stricter x is = elim (p x) as (λ b. p x ≡ b → b ≡ false) [

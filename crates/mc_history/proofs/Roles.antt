@@ -10,15 +10,11 @@ use Rattle.mc_history.specs.declared.knowledge.Role.{Role}
 use Rattle.mc_history.specs.declared.knowledge.Role.TheVariants.{Reader, Seat, Shard, Rest}
 use Rattle.mc_history.specs.Worlds.{IsOpened, seats_in, seats_of}
 use Rattle.mc_history.specs.Roles.{AreApart, IsWithin, is_own, own_part}
-use Rattle.mc_history.proofs.Lists.{filter_within, filter_yes, filter_no, lengthens_picked}
+use Rattle.mc_history.proofs.Lists.{filter_within, filter_yes, lengthens_picked}
 
 -- An event of its own comes last in a token's part.
 pub own_yes : (role : Role) (history : List Event) (event : Event) → is_own role event ≡ true → own_part role (history ++ event ∷ []) ≡ own_part role history ++ event ∷ []
 own_yes role history event is = filter_yes (is_own role) history event is
-
--- An event of another's leaves a token's part as it was.
-pub own_no : (role : Role) (history : List Event) (event : Event) → is_own role event ≡ false → own_part role (history ++ event ∷ []) ≡ own_part role history
-own_no role history event is = filter_no (is_own role) history event is
 
 -- A connection that was opened is so later.
 pub opened_later : (k : ℕ) (seen history : List Event) → Lengthens seen history → IsOpened k seen → IsOpened k history
@@ -105,10 +101,6 @@ apart_within one other within apart inside = apart_swap within one (λ event is.
 -- What lies within a role is apart from what that is apart from.
 pub within_apart : (within one other : Role) → IsWithin within one → AreApart one other → AreApart within other
 within_apart within one other inside apart event is = apart event (inside event is)
-
--- Where one may add an event, nobody apart from it may.
-pub not_own : (one other : Role) (event : Event) → AreApart one other → is_own one event ≡ true → is_own other event ≡ false
-not_own one other event apart is = apart event is
 
 -- A reader has no part.
 pub none_own : (history : List Event) → own_part Reader history ≡ []

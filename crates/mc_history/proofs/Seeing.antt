@@ -1,6 +1,8 @@
 -- What contracts see of a token's steps.
-use Rattle.std.proofs.Common.{◌≡◌, ℕ, ◌<◌, Bool, true, cond, List, [], ◌∷◌, ◌++◌, length, Some, refl, sym, ap, subst, ◌∙◌, arith, append-nil, length-append, eq-eqb}
-use Rattle.std.specs.List.{slice_get}
+use Rattle.std.proofs.Common.{◌≡◌, ℕ, ◌<◌, Bool, true, cond, List, [], ◌∷◌, ◌++◌, length, map, Some, refl, sym, ap, subst, ◌∙◌, arith, append-nil, length-append, eq-eqb}
+use Rattle.std.specs.List.{AllByRecursion, slice_get}
+use Rattle.std.proofs.lemmas.List.Concat.{flat_map-append}
+use Rattle.std.proofs.lemmas.List.Elements.{filter-append}
 use Rattle.std.proofs.lemmas.Option.{slice_get_within}
 use Rattle.atomic_table.specs.Seated.{TableId}
 use Rattle.mc_command.specs.declared.command.Command.{Command}
@@ -18,12 +20,12 @@ use Rattle.mc_history.specs.declared.event.Event.TheVariants.{Opened, Ran, Took}
 use Rattle.mc_history.specs.declared.knowledge.Knowledge.{Knowledge}
 use Rattle.mc_history.specs.declared.knowledge.Role.{Role}
 use Rattle.mc_history.specs.declared.knowledge.Role.TheVariants.{Seat, Shard}
-use Rattle.mc_history.specs.Worlds.{IsLastOn, entries_of, ran_in, seats_in, seats_of, taken_in, taken_of}
+use Rattle.mc_history.specs.Worlds.{IsLastOn, entries_of, ran_in, seats_in, seats_of, taken_in, taken_of, took}
 use Rattle.mc_history.specs.Lawful.{IsHistory}
-use Rattle.mc_history.specs.Roles.{is_own, own_part}
+use Rattle.mc_history.specs.Roles.{is_own, own_part, seat_of}
 use Rattle.mc_history.specs.Rule.{Extends}
-use Rattle.mc_history.specs.Tokens.{Acting, Adds, Sees}
-use Rattle.mc_history.proofs.Lists.{lengthens_picked, picked_push}
+use Rattle.mc_history.specs.Tokens.{Acting, Adds, Sees, TakesAll}
+use Rattle.mc_history.proofs.Lists.{filter_all, lengthens_picked, picked_push}
 use Rattle.mc_history.proofs.Roles.{own_yes}
 use Rattle.mc_history.proofs.Worlds.{shard_part}
 use Rattle.mc_history.proofs.Follows.{follow_front}
@@ -33,8 +35,12 @@ use Rattle.mc_history.proofs.Placed.{taken_is, unopened_took}
 abbrev acting : TableId → Knowledge → Acting
 acting table v = record { name = record { table = table; sizes = v.sizes }; role = v.role; events = v.seen }
 
+-- of events of its own a token's part has all
+own_all : (role : Role) (before events : List Event) → AllByRecursion (λ event. is_own role event ≡ true) events → own_part role (before ++ events) ≡ own_part role before ++ events
+own_all role before events own = filter-append (is_own role) before events ∙ ap (λ l. own_part role before ++ l) (filter_all (is_own role) events own)
+
 -- Where a step extends what an actor knows by an event of its own, the event is added.
-pub added : (event : Event) (table table' : TableId) (v w : Knowledge) → is_own v.role event ≡ true → Extends event v w → table' ≡ table → Adds event (acting table v) (acting table' w)
+pub added : (event : Event) (table table' : TableId) (v w : Knowledge) → is_own v.role event ≡ true → Extends (event ∷ []) v w → table' ≡ table → Adds event (acting table v) (acting table' w)
 added event table table' v w own step same =
     let is = step.new in
     record {
@@ -44,6 +50,21 @@ added event table table' v w own step same =
       more = step.more;
       events = ap (λ u. u.seen) is;
       own = ap (λ u. own_part u.role u.seen) is ∙ (own_yes v.role step.before event own ∙ ap (λ part. part ++ event ∷ []) step.own);
+    }
+
+-- So are commands.
+pub all_taken : (k : ℕ) (taken : List Taken) (table table' : TableId) (v w : Knowledge) → AllByRecursion (λ event. is_own v.role event ≡ true) (map (took (seat_of v.role) k) taken) → Extends (map (took (seat_of v.role) k) taken) v w → table' ≡ table
+    → TakesAll k taken (acting table v) (acting table' w)
+all_taken k taken table table' v w own step same =
+    let is = step.new in
+    let events = map (took (seat_of v.role) k) taken in
+    record {
+      name = ap (λ u. (acting table' u).name) is ∙ ap (λ t. (acting t v).name) same;
+      role = ap (λ u. u.role) is;
+      before = step.before;
+      more = step.more;
+      events = ap (λ u. u.seen) is;
+      own = ap (λ u. own_part u.role u.seen) is ∙ (own_all v.role step.before events own ∙ ap (λ part. part ++ events) step.own);
     }
 
 -- the part of a role that is known
@@ -80,6 +101,21 @@ added_command sizes c k command moment given_up old new lawful on is adds =
     sym (taken_is sizes c k new.events lawful (seat_later k c old.events new.events more on)) ∙ (ap (taken_in k) (part_added (Seat c) event old new is adds)
     ∙ (picked_push (taken_of k) (own_part (Seat c) old.events) event
     ∙ (ap (λ ts. taken_in k (own_part (Seat c) old.events) ++ ts) mine ∙ ap (λ ts. ts ++ one ∷ []) (taken_is sizes c k old.events (lawful_before sizes old.events new.events more lawful) on))))
+
+took_all : (c k : ℕ) (taken : List Taken) → taken_in k (map (took c k) taken) ≡ taken
+took_all c k [] = refl
+took_all c k (one ∷ taken) = ap (λ b. cond b (one ∷ []) [] ++ taken_in k (map (took c k) taken)) (eq-eqb k k refl) ∙ ap (λ ts. one ∷ ts) (took_all c k taken)
+
+-- The commands that a seat adds together are the next that its connection took.
+pub added_commands : (sizes : Sizes) (c k : ℕ) (taken : List Taken) (old new : Acting) → IsHistory sizes new.events → slice_get (seats_in old.events) k ≡ Some c → old.role ≡ Seat c → TakesAll k taken old new → taken_in k new.events ≡ taken_in k old.events ++ taken
+added_commands sizes c k taken old new lawful on is takes =
+    let events = map (took (seat_of old.role) k) taken in
+    let more : Lengthens old.events new.events = further old.events takes.before new.events takes.more (events, takes.events) in
+    let part : own_part (Seat c) new.events ≡ own_part (Seat c) old.events ++ map (took c k) taken =
+    sym (part_of (Seat c) new (takes.role ∙ is)) ∙ (takes.own ∙ (ap (λ l. l ++ events) (part_of (Seat c) old is) ∙ ap (λ r. own_part (Seat c) old.events ++ map (took (seat_of r) k) taken) is)) in
+    sym (taken_is sizes c k new.events lawful (seat_later k c old.events new.events more on)) ∙ (ap (taken_in k) part
+    ∙ (flat_map-append (taken_of k) (own_part (Seat c) old.events) (map (took c k) taken)
+    ∙ (ap (λ ts. taken_in k (own_part (Seat c) old.events) ++ ts) (took_all c k taken) ∙ ap (λ ts. ts ++ taken) (taken_is sizes c k old.events (lawful_before sizes old.events new.events more lawful) on))))
 
 -- The connection that a seat opens is the last there, and has taken nothing.
 pub added_opening : (sizes : Sizes) (c : ℕ) (old new : Acting) → IsHistory sizes new.events → (adds : Adds (Opened c) old new) → IsLastOn c (length (seats_in adds.before)) new.events × (taken_in (length (seats_in adds.before)) new.events ≡ [])

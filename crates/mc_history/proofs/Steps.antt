@@ -1,57 +1,63 @@
 -- Each step of a token keeps the rule.
-use Rattle.std.proofs.Common.{◌≡◌, ℕ, ◌+◌, false, List, [], ◌∷◌, ◌++◌, slice_set, inl, inr, refl, sym, subst, ◌∙◌, true}
+use Rattle.std.proofs.Common.{◌≡◌, ℕ, ◌+◌, false, List, [], ◌∷◌, ◌++◌, slice_set, inl, inr, refl, sym, ap, subst, ◌∙◌, true, append-nil}
 use mathlib.Core.Option.{some}
 use lib.ListN.{get_elem?}
 use Rattle.atomic_table.specs.Table.{State, keeps, Allows, Splits, Joins}
 use Rattle.atomic_table.proofs.Lists.{at_set, set_again}
 use Rattle.mc_sizes.specs.declared.sizes.Sizes.{Sizes}
-use Rattle.mc_model.proofs.Growing.{stays}
+use Rattle.std.specs.List.{AllByRecursion}
+use Rattle.std.proofs.lemmas.List.Elements.{filter-append}
+use Rattle.mc_ring.proofs.Lists.{all_weaken}
+use Rattle.mc_model.proofs.Growing.{further, stays}
 use Rattle.mc_history.specs.declared.event.Event.{Event}
 use Rattle.mc_history.specs.declared.knowledge.Knowledge.{Knowledge}
 use Rattle.mc_history.specs.declared.knowledge.Role.{Role}
 use Rattle.mc_history.specs.declared.knowledge.Role.TheVariants.{Rest, Seat, Shard}
-use Rattle.mc_history.specs.Lawful.{IsHistory, MayFollow}
-use Rattle.mc_history.specs.Roles.{AreApart, IsWithin, is_own}
-use Rattle.mc_history.specs.Rule.{Extends, Fits, IsKept, Learns, first_seat, first_shard, hearing, later_seats, later_shards, reader, seats_from, seeing, shards_from, used_up}
-use Rattle.mc_history.proofs.Lists.{lengthens_push}
-use Rattle.mc_history.proofs.Roles.{apart_reader, apart_seats, apart_shards, apart_within, first_seat_within, first_shard_within, later_seats_within, later_shards_within, none_own, not_own, own_no, part_within}
-use Rattle.mc_history.proofs.Follows.{history_push}
-use Rattle.mc_history.proofs.Later.{may_later}
+use Rattle.mc_history.specs.Lawful.{IsHistory, MayAllFollow}
+use Rattle.mc_history.specs.Roles.{AreApart, IsWithin, is_own, own_part, seat_of}
+use Rattle.mc_history.specs.Rule.{Extends, Fits, IsKept, Learns, MayJoin, first_seat, first_shard, hearing, later_seats, later_shards, reader, seeing, shards_from, used_up}
+use Rattle.mc_history.proofs.Lists.{filter_none}
+use Rattle.mc_history.proofs.Roles.{apart_reader, apart_seats, apart_shards, apart_within, first_seat_within, first_shard_within, later_seats_within, later_shards_within, none_own, part_within}
+use Rattle.mc_history.proofs.Follows.{history_join}
 use Rattle.mc_history.proofs.Views.{apart_set, apart_snoc, fit_set, fit_snoc}
 
--- what a token knows fits after an event of another's
-fits_later : (history : List Event) (event : Event) (v : Knowledge) → Fits history v → is_own v.role event ≡ false → Fits (history ++ event ∷ []) v
-fits_later history event v fits other = record {
-  seen = lengthens_push v.seen history event fits.seen;
-  heard = lengthens_push v.heard history event fits.heard;
-  own = own_no v.role history event other ∙ fits.own;
+-- what a token knows fits after events of another's
+fits_later : (history events : List Event) (v : Knowledge) → Fits history v → AllByRecursion (λ event. is_own v.role event ≡ false) events → Fits (history ++ events) v
+fits_later history events v fits other = record {
+  seen = further v.seen history (history ++ events) fits.seen (events, refl);
+  heard = further v.heard history (history ++ events) fits.heard (events, refl);
+  own = filter-append (is_own v.role) history events ∙ (ap (λ l. own_part v.role history ++ l) (filter_none (is_own v.role) events other) ∙ (append-nil (own_part v.role history) ∙ fits.own));
 }
+
+-- what is the token's own is nobody else's
+all_others : (one other : Role) (events : List Event) → AreApart one other → AllByRecursion (λ event. is_own one event ≡ true) events → AllByRecursion (λ event. is_own other event ≡ false) events
+all_others one other events apart own = all_weaken (λ event. is_own one event ≡ true) (λ event. is_own other event ≡ false) (λ event mine. apart event mine) events own
 
 -- who has seen all
 fits_whole : (history : List Event) (v : Knowledge) → Fits history (seeing v history)
 fits_whole history v = record { seen = stays history; heard = (history, refl); own = refl }
 
--- An event that is the token's own, and may follow what it has seen, is added.
-pub adds_allows : (sizes : Sizes) (slots id word : ℕ) (v : Knowledge) (c : List (ℕ × ℕ)) (event : Event) → v.sizes ≡ sizes → is_own v.role event ≡ true → MayFollow v.sizes v.seen event
-    → Allows (λ (s : State ℕ Knowledge). IsKept sizes s.views) slots id (v, c) word (λ n. n) (λ found new. (new.1 ≡ c) × Extends event v new.0)
-adds_allows sizes slots id word v c event same own may s kept count at small =
+-- Events that are the token's own, and may follow whatever others did meanwhile, are added.
+pub adds_allows : (sizes : Sizes) (slots id word : ℕ) (v : Knowledge) (c : List (ℕ × ℕ)) (events : List Event) → v.sizes ≡ sizes → AllByRecursion (λ event. is_own v.role event ≡ true) events → MayJoin v.sizes v.role v.seen events
+    → Allows (λ (s : State ℕ Knowledge). IsKept sizes s.views) slots id (v, c) word (λ n. n) (λ found new. (new.1 ≡ c) × Extends events v new.0)
+adds_allows sizes slots id word v c events same own may s kept count at small =
     let history = kept.history in
     let fits = kept.fit id v at in
-    let follows : MayFollow sizes history event = may_later sizes v.role v.seen history event kept.lawful own fits.seen fits.own (subst (λ z. MayFollow z v.seen event) same may) in
-    let lawful : IsHistory sizes (history ++ event ∷ []) = history_push sizes history event kept.lawful follows in
-    let w : Knowledge = seeing v (history ++ event ∷ []) in (
+    let follow : MayAllFollow sizes history events = (subst (λ z. MayJoin z v.role v.seen events) same may) history kept.lawful fits.seen fits.own in
+    let lawful : IsHistory sizes (history ++ events) = history_join sizes history events kept.lawful follow in
+    let w : Knowledge = seeing v (history ++ events) in (
       w,
       keeps,
       tt,
       record {
-        history = history ++ event ∷ [];
+        history = history ++ events;
         lawful = lawful;
-        fit = fit_set (history ++ event ∷ []) s.views id w
-            (fits_whole (history ++ event ∷ []) v)
-            (λ j u other here. fits_later history event u (kept.fit j u here) (not_own v.role u.role event (kept.apart id j v u (λ is. other (sym is)) at here) own));
+        fit = fit_set (history ++ events) s.views id w
+            (fits_whole (history ++ events) v)
+            (λ j u other here. fits_later history events u (kept.fit j u here) (all_others v.role u.role events (kept.apart id j v u (λ is. other (sym is)) at here) own));
         apart = apart_set s.views id v w kept.apart at (λ e is. is);
       },
-      (refl, record { before = history; more = fits.seen; own = fits.own; new = refl; lawful = subst (λ z. IsHistory z (history ++ event ∷ [])) (sym same) lawful }),
+      (refl, record { before = history; more = fits.seen; own = fits.own; new = refl; lawful = subst (λ z. IsHistory z (history ++ events)) (sym same) lawful }),
     )
 
 -- A token looks at all that has happened.
@@ -135,9 +141,9 @@ dealt sizes id v left right left_in right_in apart s kept at =
     }
 
 -- The first of the seats is dealt out.
-pub seat_splits : (sizes : Sizes) (id : ℕ) (v : Knowledge) → v.role ≡ Rest (seats_from v.role) (shards_from v.role) → Splits (λ (s : State ℕ Knowledge). IsKept sizes s.views) id v (later_seats v) (first_seat v)
+pub seat_splits : (sizes : Sizes) (id : ℕ) (v : Knowledge) → v.role ≡ Rest (seat_of v.role) (shards_from v.role) → Splits (λ (s : State ℕ Knowledge). IsKept sizes s.views) id v (later_seats v) (first_seat v)
 seat_splits sizes id v is =
-    let seats = seats_from v.role in
+    let seats = seat_of v.role in
     let shards = shards_from v.role in
     dealt sizes id v (Rest (seats + 1) shards) (Seat seats)
     (subst (λ r. IsWithin (Rest (seats + 1) shards) r) (sym is) (later_seats_within seats shards))
@@ -145,9 +151,9 @@ seat_splits sizes id v is =
     (apart_seats seats shards)
 
 -- or the first of the shards
-pub shard_splits : (sizes : Sizes) (id : ℕ) (v : Knowledge) → v.role ≡ Rest (seats_from v.role) (shards_from v.role) → Splits (λ (s : State ℕ Knowledge). IsKept sizes s.views) id v (later_shards v) (first_shard v)
+pub shard_splits : (sizes : Sizes) (id : ℕ) (v : Knowledge) → v.role ≡ Rest (seat_of v.role) (shards_from v.role) → Splits (λ (s : State ℕ Knowledge). IsKept sizes s.views) id v (later_shards v) (first_shard v)
 shard_splits sizes id v is =
-    let seats = seats_from v.role in
+    let seats = seat_of v.role in
     let shards = shards_from v.role in
     dealt sizes id v (Rest seats (shards + 1)) (Shard shards)
     (subst (λ r. IsWithin (Rest seats (shards + 1)) r) (sym is) (later_shards_within seats shards))

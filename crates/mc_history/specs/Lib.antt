@@ -3,3 +3,4 @@ pub mod Lawful
 pub mod Roles
 pub mod Rule
 pub mod Tokens
+pub mod Allowed

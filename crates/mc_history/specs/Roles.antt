@@ -30,6 +30,13 @@ is_own (Seat number) event = is_of_seat number event
 is_own (Shard index) event = is_of_shard index event
 is_own (Rest seats shards) event = is_of_rest seats shards event
 
+-- the seat that a token may act for
+abbrev pub seat_of : Role → ℕ
+seat_of Reader = 0
+seat_of (Seat number) = number
+seat_of (Shard index) = 0
+seat_of (Rest seats shards) = seats
+
 -- of a history what tokens of this role added
 abbrev pub own_part : Role → List Event → List Event
 own_part role history = filter (is_own role) history

@@ -1,5 +1,5 @@
 -- The rule of the table: what the tokens of a history know. The table's word has no meaning.
-use Rattle.std.specs.Prelude.{ℕ, ◌≡◌, ◌≢◌, ◌+◌, List, [], ◌∷◌, ◌++◌}
+use Rattle.std.specs.Prelude.{ℕ, ◌≡◌, ◌≢◌, ◌+◌, List, [], ◌++◌}
 use mathlib.Core.Option.{some}
 use lib.ListN.{get_elem?}
 use Rattle.mc_command.specs.declared.rules.Profile.TheVariants.{Own}
@@ -9,8 +9,8 @@ use Rattle.mc_history.specs.declared.event.Event.{Event}
 use Rattle.mc_history.specs.declared.knowledge.Knowledge.{Knowledge}
 use Rattle.mc_history.specs.declared.knowledge.Role.{Role}
 use Rattle.mc_history.specs.declared.knowledge.Role.TheVariants.{Reader, Seat, Shard, Rest}
-use Rattle.mc_history.specs.Lawful.{IsHistory}
-use Rattle.mc_history.specs.Roles.{AreApart, own_part}
+use Rattle.mc_history.specs.Lawful.{IsHistory, MayAllFollow}
+use Rattle.mc_history.specs.Roles.{AreApart, own_part, seat_of}
 
 -- What was seen and heard begins the history, and of its own part all was seen.
 pub record Fits (history : List Event) (v : Knowledge) : Type 0 where
@@ -54,13 +54,7 @@ used_up = reader (record { profile = Own; seats = 0; shards = 0; bytes = 0; ring
 abbrev pub hearing : Knowledge → Knowledge → Knowledge
 hearing v w = record { sizes = v.sizes; role = v.role; seen = v.seen; heard = w.seen }
 
--- the first of the seats that a token may act for, and of the shards
-abbrev pub seats_from : Role → ℕ
-seats_from Reader = 0
-seats_from (Seat number) = 0
-seats_from (Shard index) = 0
-seats_from (Rest seats shards) = seats
-
+-- the first of the shards that a token may act for
 abbrev pub shards_from : Role → ℕ
 shards_from Reader = 0
 shards_from (Seat number) = 0
@@ -69,24 +63,29 @@ shards_from (Rest seats shards) = shards
 
 -- a token for the first of these seats, and the token for the rest
 abbrev pub first_seat : Knowledge → Knowledge
-first_seat v = record { sizes = v.sizes; role = Seat (seats_from v.role); seen = v.seen; heard = [] }
+first_seat v = record { sizes = v.sizes; role = Seat (seat_of v.role); seen = v.seen; heard = [] }
 
 abbrev pub later_seats : Knowledge → Knowledge
-later_seats v = record { sizes = v.sizes; role = Rest (seats_from v.role + 1) (shards_from v.role); seen = v.seen; heard = [] }
+later_seats v = record { sizes = v.sizes; role = Rest (seat_of v.role + 1) (shards_from v.role); seen = v.seen; heard = [] }
 
 -- a token for the first of these shards, and the token for the rest
 abbrev pub first_shard : Knowledge → Knowledge
 first_shard v = record { sizes = v.sizes; role = Shard (shards_from v.role); seen = v.seen; heard = [] }
 
 abbrev pub later_shards : Knowledge → Knowledge
-later_shards v = record { sizes = v.sizes; role = Rest (seats_from v.role) (shards_from v.role + 1); seen = v.seen; heard = [] }
+later_shards v = record { sizes = v.sizes; role = Rest (seat_of v.role) (shards_from v.role + 1); seen = v.seen; heard = [] }
 
--- The event was added to all that was there, of which the token's own part was known.
-pub record Extends (event : Event) (v w : Knowledge) : Type 0 where
+-- Whatever others did meanwhile, these events may follow.
+abbrev pub MayJoin : Sizes → Role → List Event → List Event → Type 0
+MayJoin sizes role seen events =
+    (history : List Event) → IsHistory sizes history → Lengthens seen history → own_part role history ≡ own_part role seen → MayAllFollow sizes history events
+
+-- The events were added to all that was there, of which the token's own part was known.
+pub record Extends (events : List Event) (v w : Knowledge) : Type 0 where
   pub before : List Event
   pub more : Lengthens v.seen before
   pub own : own_part v.role before ≡ own_part v.role v.seen
-  pub new : w ≡ seeing v (before ++ event ∷ [])
+  pub new : w ≡ seeing v (before ++ events)
   pub lawful : IsHistory v.sizes w.seen
 
 -- All that has happened was seen.

@@ -23,6 +23,10 @@ taken_of k (Took seat connection command moment given_up) =
     if connection == k then record { entry = command; moment = moment; given_up = given_up } ∷ [] else []
 taken_of k (Ran shard asker piece answer) = []
 
+-- that a connection took this, on this seat
+abbrev pub took : ℕ → ℕ → Taken → Event
+took seat connection one = Took seat connection one.entry one.moment one.given_up
+
 -- what a shard ran, as the log has it
 abbrev pub entries_of : Event → List Entry
 entries_of (Opened seat) = []

@@ -19,20 +19,21 @@ pub struct Actors {
 impl Model for Actors {
     ghost use Rattle.std.specs.Prelude.{◌≡◌, []};
     ghost use Rattle.mc_history.specs.declared.knowledge.Role.TheVariants.{Rest as rest};
-    ghost use Rattle.mc_history.specs.Rule.{seats_from, shards_from};
+    ghost use Rattle.mc_history.specs.Roles.{seat_of};
+    ghost use Rattle.mc_history.specs.Rule.{shards_from};
     ghost use Rattle.mc_history.specs.Tokens.{Waiting};
 
     ghost Value = { Waiting };
 
     ghost view = { λ a. record {
       name = record { table = a.seat.table_id; sizes = a.seat.me.0.sizes };
-      seats = seats_from a.seat.me.0.role;
+      seats = seat_of a.seat.me.0.role;
       shards = shards_from a.seat.me.0.role;
     } };
 
     ghost invariant = { λ a.
         (a.seat.me.1 ≡ [])
-        × (a.seat.me.0.role ≡ rest (seats_from a.seat.me.0.role) (shards_from a.seat.me.0.role))
+        × (a.seat.me.0.role ≡ rest (seat_of a.seat.me.0.role) (shards_from a.seat.me.0.role))
         × (a.seat.me.0.seen ≡ []) };
 }
 

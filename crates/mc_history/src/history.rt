@@ -20,7 +20,7 @@ pub struct History {
 
 impl Model for History {
     ghost use Rattle.std.specs.Prelude.{◌<◌};
-    ghost use Rattle.mc_history.specs.Tokens.{Name};
+    ghost use Rattle.mc_ring.specs.Route.{Name};
 
     ghost Value = { Name };
 

@@ -7,15 +7,16 @@ ghost use Rattle.mc_sizes.specs.declared.sizes.Sizes.{Sizes};
 ghost use Rattle.mc_item.specs.declared.answer.Answer.{Answer};
 ghost use Rattle.mc_split.specs.declared.plan.Piece.{Piece};
 ghost use Rattle.mc_conn.specs.Due.{due};
+ghost use Rattle.mc_conn.specs.History.{Taken};
 ghost use Rattle.mc_model.specs.Grows.{Lengthens};
-ghost use Rattle.mc_model.specs.Log.{on_shard};
+ghost use Rattle.mc_model.specs.Log.{of_asker, on_shard};
 ghost use Rattle.mc_model.specs.World.{IsLink, Link};
 ghost use Rattle.mc_history.specs.declared.event.Event.{Event};
 ghost use Rattle.mc_history.specs.declared.event.Event.TheVariants.{Opened, Ran, Took};
 ghost use Rattle.mc_history.specs.declared.knowledge.Role.TheVariants.{Seat, Shard};
-ghost use Rattle.mc_history.specs.Worlds.{IsLastOn, IsOpened, link_in, ran_in, seats_in, taken_in, work_on, world_in};
+ghost use Rattle.mc_history.specs.Worlds.{IsLastOn, IsOpened, link_in, ran_in, ran_on, seats_in, taken_in, work_on, world_in};
 ghost use Rattle.mc_history.specs.Lawful.{Holds, IsHistory};
-ghost use Rattle.mc_history.specs.Tokens.{Acting, Adds, Sees};
+ghost use Rattle.mc_history.specs.Tokens.{Acting, Adds, Sees, TakesAll};
 
 /// After each lawful history, as after each schedule of the model: what each shard ran is one run of the protocol's step; it ran
 /// each connection's pieces once, in sending order, and nothing else.
@@ -50,12 +51,29 @@ pub fn a_command_added_is_the_next_taken()
         ++ record { entry = command; moment = moment; given_up = given_up } ∷ [] }
 {}
 
+/// Where a seat adds commands together, its connection has taken just these more, in order.
+pub fn commands_added_are_the_next_taken()
+    ensures { (sizes : Sizes) (c k : ℕ) (taken : List Taken) (old new : Acting) →
+        IsHistory sizes new.events → slice_get (seats_in old.events) k ≡ Some c →
+        old.role ≡ Seat c → TakesAll k taken old new →
+        taken_in k new.events ≡ taken_in k old.events ++ taken }
+{}
+
 /// A shard that adds an entry has run just this one more, whatever others did meanwhile.
 pub fn an_entry_added_is_the_next_run()
     ensures { (s asker : ℕ) (piece : Piece) (answer : Answer) (old new : Acting) →
         old.role ≡ Shard s → Adds (Ran s asker piece answer) old new →
         on_shard s (ran_in new.events) ≡ on_shard s (ran_in old.events)
         ++ record { shard = s; asker = asker; piece = piece; answer = answer } ∷ [] }
+{}
+
+/// The next piece of a lane is the next that is due for its connection.
+pub fn a_lanes_next_piece_is_its_connections_next()
+    ensures { (sizes : Sizes) (c s k : ℕ) (piece : Piece) (history : List Event) →
+        IsHistory sizes history → slice_get (seats_in history) k ≡ Some c →
+        slice_get (work_on sizes.shards c s history) (length (ran_on c s history)) ≡
+        Some (k, piece) → slice_get (due sizes.shards s (taken_in k history))
+        (length (on_shard s (of_asker k (ran_in history)))) ≡ Some piece }
 {}
 
 /// Whoever hears of others has done nothing meanwhile: a seat's connection took no command, and a shard ran nothing.

@@ -9,6 +9,7 @@ mod evidence;
 mod history;
 mod knowledge;
 mod laws;
+mod member;
 mod rule;
 
 pub use actor::Actor;
@@ -19,6 +20,8 @@ pub use history::History;
 pub use knowledge::Role;
 pub use laws::{
     a_command_added_is_the_next_taken, a_connection_opened_is_the_last_on_its_seat,
-    an_entry_added_is_the_next_run, hearing_adds_nothing_of_ones_own, lawful_histories_hold,
+    a_lanes_next_piece_is_its_connections_next, an_entry_added_is_the_next_run,
+    commands_added_are_the_next_taken, hearing_adds_nothing_of_ones_own, lawful_histories_hold,
     what_was_shown_stays, worlds_have_the_connections_opened,
 };
+pub use member::Member;

@@ -16,27 +16,28 @@ impl TableRule<u64, Knowledge, Sizes> for Rule {
     ghost first = { λ sizes. opening sizes };
 }
 
-/// The event that a step adds.
+/// The events that a step adds.
 pub(crate) trait Occurrence {
+    ghost use Rattle.std.specs.Prelude.{List};
     ghost use Rattle.mc_history.specs.declared.event.Event.{Event};
 
-    ghost event: { Event };
+    ghost events: { List Event };
 }
 
 impl Occurrence for Brand {
-    ghost use Rattle.mc_history.specs.declared.event.Event.TheVariants.{Opened};
+    ghost use Rattle.std.specs.Prelude.{[]};
 
-    ghost event = { Opened 0 };
+    ghost events = { [] };
 }
 
-/// An actor's event is added to all that has happened.
-pub(crate) struct AddsEvent<E: Occurrence>(PhantomData<E>);
+/// An actor's events are added to all that has happened.
+pub(crate) struct AddsEvents<E: Occurrence>(PhantomData<E>);
 
-impl<E: Occurrence> Play<u64, Knowledge> for AddsEvent<E> {
+impl<E: Occurrence> Play<u64, Knowledge> for AddsEvents<E> {
     ghost use Rattle.std.specs.Prelude.{◌≡◌};
     ghost use Rattle.mc_history.specs.Rule.{Extends};
 
-    ghost then = { λ s me found new. (new.1 ≡ me.1) × Extends E.event me.0 new.0 };
+    ghost then = { λ s me found new. (new.1 ≡ me.1) × Extends E.events me.0 new.0 };
 }
 
 /// A token looks at all that has happened.
