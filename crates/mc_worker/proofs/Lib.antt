@@ -2,3 +2,4 @@ pub mod Desks
 pub mod Steps
 pub mod Turning
 pub mod Marking
+pub mod Scribing

@@ -3,3 +3,4 @@ pub mod DeskLaws
 pub mod Turns
 pub mod Marks
 pub mod Serves
+pub mod Scribe

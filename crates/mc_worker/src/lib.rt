@@ -3,7 +3,9 @@
 #![tactic(auto)]
 
 mod gate;
+mod scribe;
 mod worker;
 
 pub use gate::{Gate, OpenGate};
+pub use scribe::Scribe;
 pub use worker::{Turn, Worker};

@@ -13,15 +13,18 @@ ghost use Rattle.mc_worker.specs.Desk.{Goes, HasEnded, HasRun, RunsNoMore};
 ghost use Rattle.mc_worker.specs.Turns.{FindsNothing, Gives, LogGrows, Turned};
 ghost use Rattle.mc_worker.specs.Marks.{Marks, MarksNoOther};
 ghost use Rattle.mc_worker.specs.Serves.{ServesSeat};
+ghost use Rattle.mc_worker.specs.Scribe.{AreOnRoutes};
 
 use crate::gate::Gate;
+use crate::scribe::Scribe;
 use mc_reply::Ticket;
-use mc_ring::{Parcel, Reply, SeatEnds, ShardEnds, beside};
+use mc_ring::{Parcel, Reply, SeatEnds, ShardEnds, Token, beside};
 use mc_sizes::Sizes;
 use mc_store::Shard;
 use std::alloc::{AllocError, Global};
 use std::marker::Model;
 use std::random::RandomSource;
+use std::snapshot::Snapshot;
 
 /// Turns that are made for one seat before the worker looks at the next. A piece takes two: it is run, and its reply is given.
 const LANE_TURNS: usize = 64;
@@ -52,16 +55,17 @@ struct Hand {
     reply: Reply,
 }
 
-/// The worker of one shard.
-pub struct Worker {
+/// The worker of one shard. A scribe records what it runs, and its replies go with the scribe's tokens.
+pub struct Worker<T: Token = (), S: Scribe<T> = ()> {
     shard: Shard,
-    ends: ShardEnds,
+    ends: ShardEnds<T>,
     hand: Option<Hand>,
     /// Of each lane, whether its End is still to come.
     live: Vec<bool>,
+    scribe: S,
 }
 
-impl Drop for Worker {
+impl<T: Token + Drop, S: Scribe<T> + Drop> Drop for Worker<T, S> {
     /// By hand, so that to let one go is one call for whoever holds it (docs/DECISIONS.md).
     fn drop(self) {
         let Worker {
@@ -69,15 +73,17 @@ impl Drop for Worker {
             ends: _ends,
             hand: _hand,
             live: _live,
+            scribe: _scribe,
         } = self;
     }
 }
 
-impl Model for Worker {
+impl<T: Token, S: Scribe<T>> Model for Worker<T, S> {
     ghost use Rattle.std.specs.Option.{option_map};
     ghost use Rattle.mc_ring.specs.Reply.{shown};
     ghost use Rattle.mc_store.specs.Shard.{held_of};
     ghost use Rattle.mc_worker.specs.Desk.{Desk, IsWellMarked};
+    ghost use Rattle.mc_worker.specs.Scribe.{IsRecorded};
 
     ghost Value = { Desk };
 
@@ -93,11 +99,18 @@ impl Model for Worker {
       ends = worker.ends;
       hand = option_map (λ hand. (hand.seat, shown hand.reply)) worker.hand;
       live = worker.live.items;
-    }) };
+    })
+        × (S.keeps worker.scribe →
+        IsRecorded (S.route worker.scribe) (S.begin worker.scribe) (S.log worker.scribe) (record {
+          shard = held_of worker.shard;
+          ends = worker.ends;
+          hand = option_map (λ hand. (hand.seat, shown hand.reply)) worker.hand;
+          live = worker.live.items;
+        })) };
 }
 
-impl Worker {
-    /// The worker of a shard, over ends on which nothing has passed.
+impl Worker<(), ()> {
+    /// The worker of a shard, over ends on which nothing has passed. Nothing is recorded.
     pub fn new(alloc: Global, shard: Shard, ends: ShardEnds) -> Result<Worker, AllocError>
         requires { AllByRecursion IsUnused ends.lanes }
         ensures ends { IfOk result (λ worker. worker.ends ≡ ends) }
@@ -109,13 +122,7 @@ impl Worker {
         ensures begins { IfOk result
             (λ worker. (begin : State) → IsShard shard begin → HasRun begin worker []) }
     {
-        let live = vec![in alloc; true; ends.seats()]?;
-        Ok(Worker {
-            shard,
-            ends,
-            hand: None,
-            live,
-        })
+        Worker::recorded(alloc, shard, ends, ())
     }
 
     /// The same, of an empty shard of a server of these sizes.
@@ -136,9 +143,66 @@ impl Worker {
         // It has run nothing.
         ensures begins { IfOk result (λ worker. HasRun (empty_shard sizes ends.number) worker []) }
     {
+        Worker::start_recorded(rt, alloc, ends, sizes, ())
+    }
+}
+
+impl<T: Token + Drop, S: Scribe<T> + Drop> Worker<T, S> {
+    /// The worker of a shard, over ends on which nothing has passed, with a scribe that has recorded nothing.
+    pub fn recorded(
+        alloc: Global,
+        shard: Shard,
+        ends: ShardEnds<T>,
+        scribe: S,
+    ) -> Result<Worker<T, S>, AllocError>
+        requires unused { AllByRecursion IsUnused ends.lanes }
+        requires routes { S.keeps scribe → AreOnRoutes (S.route scribe) ends }
+        requires begin { S.keeps scribe → IsShard shard (S.begin scribe) }
+        requires log { S.keeps scribe → S.log scribe ≡ [] }
+        ensures ends { IfOk result (λ worker. worker.ends ≡ ends) }
+        ensures free { IfOk result (λ worker. worker.hand ≡ None) }
+        ensures live { IfOk result (λ worker. AllByRecursion (λ live. live ≡ true) worker.live) }
+        ensures marked { IfOk result (λ worker. length worker.live ≡ length worker.ends.lanes) }
+
+        // It has run nothing.
+        ensures begins { IfOk result
+            (λ worker. (begin : State) → IsShard shard begin → HasRun begin worker []) }
+    {
+        let live = vec![in alloc; true; ends.seats()]?;
+        Ok(Worker {
+            shard,
+            ends,
+            hand: None,
+            live,
+            scribe,
+        })
+    }
+
+    /// The same, of an empty shard of a server of these sizes.
+    pub fn start_recorded<R: RandomSource>(
+        rt: &R,
+        alloc: Global,
+        ends: ShardEnds<T>,
+        sizes: Sizes,
+        scribe: S,
+    ) -> Result<Worker<T, S>, AllocError>
+        requires place { ends.number < sizes.shards }
+        requires sizes { SuitShards sizes }
+        requires unused { AllByRecursion IsUnused ends.lanes }
+        requires routes { S.keeps scribe → AreOnRoutes (S.route scribe) ends }
+        requires begin { S.keeps scribe → S.begin scribe ≡ empty_shard sizes ends.number }
+        requires log { S.keeps scribe → S.log scribe ≡ [] }
+        ensures ends { IfOk result (λ worker. worker.ends ≡ ends) }
+        ensures free { IfOk result (λ worker. worker.hand ≡ None) }
+        ensures live { IfOk result (λ worker. AllByRecursion (λ live. live ≡ true) worker.live) }
+        ensures marked { IfOk result (λ worker. length worker.live ≡ length worker.ends.lanes) }
+
+        // It has run nothing.
+        ensures begins { IfOk result (λ worker. HasRun (empty_shard sizes ends.number) worker []) }
+    {
         let number = ends.number();
         match Shard::empty(rt, alloc, number, sizes.shards, sizes.bytes, sizes.value) {
-            Ok(shard) => Worker::new(alloc, shard, ends),
+            Ok(shard) => Worker::recorded(alloc, shard, ends, scribe),
             Err(_) => Err(AllocError),
         }
     }
@@ -179,7 +243,7 @@ impl Worker {
 
     /// How many parcels and how many replies wait on its lane of a seat, whose ends must be of the same call of `lanes`. No
     /// memory is taken.
-    pub fn beside(&mut self, seat: &mut SeatEnds) -> (usize, usize)
+    pub fn beside(&mut self, seat: &mut SeatEnds<T>) -> (usize, usize)
         requires { IsLane seat.old self.old.ends }
         ensures looked { LooksAtBoth seat.old seat.new self.old.ends self.new.ends result.0
             result.1 }
@@ -243,7 +307,8 @@ impl Worker {
         let Some(Hand { seat, reply }) = self.hand.take() else {
             return self.take_from(alloc, seat, gate);
         };
-        match self.ends.give(seat, reply) {
+        let token = self.scribe.token();
+        match self.ends.give_with(seat, reply, token) {
             Ok(()) => Turn::Gave,
             Err(reply) => {
                 self.hand = Some(Hand { seat, reply });
@@ -261,7 +326,7 @@ impl Worker {
         if !self.live[seat] {
             return Turn::Nothing;
         }
-        let Some(parcel) = self.ends.take(seat) else {
+        let Some((parcel, token)) = self.ends.take_with(seat) else {
             return Turn::Nothing;
         };
         let Parcel::Piece(piece) = parcel else {
@@ -269,10 +334,12 @@ impl Worker {
             return Turn::Ended;
         };
         let (ticket, part, moment) = (piece.ticket, piece.part, piece.moment);
+        let sent = Snapshot::of(&piece);
         let op = piece.into_op();
         gate.before(self.ends.number(), ticket);
         let kind = op.kind();
         let answer = self.shard.run(alloc, op, moment);
+        self.scribe.runs(seat, token, sent, &answer);
         let reply = Reply::new(ticket, part, kind, answer);
         self.hand = Some(Hand { seat, reply });
         Turn::Ran {
