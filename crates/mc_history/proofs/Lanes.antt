@@ -6,7 +6,7 @@ use Rattle.std.proofs.lemmas.Bool.Decides.{eqb_tells}
 use Rattle.std.proofs.lemmas.List.{length-map, map-append}
 use Rattle.std.proofs.lemmas.List.Concat.{flat_map-append}
 use Rattle.std.proofs.lemmas.Option.{same_Some}
-use Rattle.mc_ring.proofs.Lists.{all_weaken, get_below}
+use Rattle.mc_ring.proofs.Lists.{all_append, all_at, all_weaken, get_below}
 use Rattle.mc_sizes.specs.declared.sizes.Sizes.{Sizes}
 use Rattle.mc_split.specs.declared.plan.Piece.{Piece}
 use Rattle.mc_conn.specs.History.{Taken}
@@ -258,3 +258,24 @@ lanes_push sizes past (Ran shard asker piece answer) c s owned may was =
     subst (λ ss. Begins (map asked (mine ss)) (work_on sizes.shards c s history)) (sym seats)
     (subst (λ ws. Begins (map asked (mine (seats_in past))) ws) (sym grows.1)
     (begins_longer (map asked (mine (seats_in past))) (work_on sizes.shards c s past) grows.0 run))
+
+-- pieces of one connection
+seated_pieces : (seats : List ℕ) (c k : ℕ) → slice_get seats k ≡ Some c → (pieces : List Piece) → AllByRecursion (λ (one : ℕ × Piece). slice_get seats one.0 ≡ Some c) (map (λ piece. (k, piece)) pieces)
+seated_pieces seats c k on [] = tt
+seated_pieces seats c k on (piece ∷ pieces) = (on, seated_pieces seats c k on pieces)
+
+-- what is due for connections on a seat
+seated_work : (shards c s : ℕ) (history : List Event) (numbers : List ℕ) → AllByRecursion (HasSeat c 0 (seats_in history)) numbers → AllByRecursion (λ (one : ℕ × Piece). slice_get (seats_in history) one.0 ≡ Some c) (flat_map (work_of shards s history) numbers)
+seated_work shards c s history [] all = tt
+seated_work shards c s history (k ∷ numbers) all =
+    let at = all.0 in
+    let zeroed = at.1 in
+    let on : slice_get (seats_in history) k ≡ Some c = subst (λ i. slice_get (seats_in history) i ≡ Some c) (omega (arith, zeroed)) at.2 in
+    all_append (λ (one : ℕ × Piece). slice_get (seats_in history) one.0 ≡ Some c) (work_of shards s history k) (flat_map (work_of shards s history) numbers)
+        (seated_pieces (seats_in history) c k on (due shards s (taken_in k history)))
+        (seated_work shards c s history numbers all.1)
+
+-- A piece that is due on a lane is of a connection on its seat.
+pub work_seat : (shards c s n k : ℕ) (piece : Piece) (history : List Event) → slice_get {X = ℕ × Piece} (work_on shards c s history) n ≡ Some (k, piece) → slice_get (seats_in history) k ≡ Some c
+work_seat shards c s n k piece history here =
+    all_at (λ (one : ℕ × Piece). slice_get (seats_in history) one.0 ≡ Some c) (work_on shards c s history) n (k, piece) (seated_work shards c s history (numbers_on c 0 (seats_in history)) (numbers_seats c 0 (seats_in history))) here

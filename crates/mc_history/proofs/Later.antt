@@ -42,17 +42,23 @@ last_stays c k seen history more same was =
       ];
     }
 
+-- What was run on a lane is the same later, where the shard ran no more.
+pub ran_stays : (sizes : Sizes) (c s : ℕ) (seen history : List Event) → IsHistory sizes history → Lengthens seen history → on_shard s (ran_in history) ≡ on_shard s (ran_in seen) → ran_on c s history ≡ ran_on c s seen
+ran_stays sizes c s seen history lawful more same =
+    let seats = seats_in seen in
+    let longer = lengthens_picked seats_of seen history more in
+    let owned = (holds sizes seen (follow_front sizes [] seen more.0 (subst (λ h. IsHistory sizes h) more.1 lawful))).owned in
+    ap (filter (λ (entry : Entry). is_on c (seats_in history) entry.asker)) same
+    ∙ (ap (λ ss. filter (λ (entry : Entry). is_on c ss entry.asker) (on_shard s (ran_in seen))) longer.1
+    ∙ of_seat-more c seats longer.0 (on_shard s (ran_in seen)) (on_shard-asked sizes (length seats) s (ran_in seen) owned))
+
 -- The next piece of a lane is so later, where the shard ran no more.
 next_stays : (sizes : Sizes) (s k : ℕ) (piece : Piece) (seen history : List Event) → IsHistory sizes history → Lengthens seen history → on_shard s (ran_in history) ≡ on_shard s (ran_in seen) → IsNextOnLane sizes seen s k piece → IsNextOnLane sizes history s k piece
 next_stays sizes s k piece seen history lawful more same next =
     let seats = seats_in seen in
     let longer = lengthens_picked seats_of seen history more in
     let grows = work_grows sizes next.seat s seen history lawful more in
-    let owned = (holds sizes seen (follow_front sizes [] seen more.0 (subst (λ h. IsHistory sizes h) more.1 lawful))).owned in
-    let ran : ran_on next.seat s history ≡ ran_on next.seat s seen =
-    ap (filter (λ (entry : Entry). is_on next.seat (seats_in history) entry.asker)) same
-    ∙ (ap (λ ss. filter (λ (entry : Entry). is_on next.seat ss entry.asker) (on_shard s (ran_in seen))) longer.1
-    ∙ of_seat-more next.seat seats longer.0 (on_shard s (ran_in seen)) (on_shard-asked sizes (length seats) s (ran_in seen) owned)) in
+    let ran = ran_stays sizes next.seat s seen history lawful more same in
     record {
       seat = next.seat;
       on_seat = ap (λ ss. slice_get ss k) longer.1 ∙ get_front seats longer.0 k next.seat next.on_seat;
