@@ -79,6 +79,7 @@ module _ {I T V : Type 0} (view : I → V) (name : T → Name) (xs ys zs : List 
   all_is : zs ≡ xs ++ x ∷ []
   all_is = more ∙ ap (λ l. l ++ x ∷ []) looked
 
+  -- The item is the last behind the first one.
   pub one_behind : (item : I) → x.item ≡ item → behind view zs ≡ behind view xs ++ view item ∷ []
   one_behind item is = ap (behind view) all_is ∙ (behind_more view xs (x ∷ []) begun ∙ ap (λ i. behind view xs ++ view i ∷ []) is)
 
