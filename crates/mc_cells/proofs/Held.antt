@@ -9,6 +9,7 @@ use Rattle.mc_cells.specs.declared.holding.Place.{Place}
 use Rattle.mc_cells.specs.declared.holding.Values.{Values}
 use Rattle.mc_cells.specs.Chains.{text_at}
 use Rattle.mc_cells.specs.Kept.{Handle, Keeps, KeepsOn, texts}
+use Rattle.mc_cells.proofs.Kept.{Keeps-to_front}
 use Rattle.mc_cells.specs.Held.{Holds, HoldsOn, count_long, is_short, longs, short, values_of}
 
 -- The handles of short values
@@ -278,4 +279,24 @@ HoldsOn-long old new before after place holds not cells updates count =
         counted = omega (arith, count-parts before after place, long_one-long place not, holds.counted, count);
       };
       same = values-agree old new (before ++ after) (rw cells refl) (λ key meets. updates.others key (apart key meets));
+    }
+
+-- The order in which values are listed says nothing: one of them goes first.
+pub Holds-to_front : (values : Values) (before after : List Place) (place : Place)
+    → Holds values (before ++ place ∷ after) → Holds values (place ∷ (before ++ after))
+Holds-to_front values before after place holds =
+    record {
+      cells = elim (cases_Bool (is_short place)) [
+        | inl is ↦
+            let held = rw (short-parts before after place is) at holds.cells in
+            let front = Keeps-to_front values.cells (short before) (short after) place.first place.len held in
+            rw (short_first place (before ++ after) is, short-append before after) front
+        | inr not ↦
+            let held = rw short-append at holds.cells in
+            rw (short_later place (before ++ after) not, short-append before after) (rw (short_later place after not) at held)
+      ];
+      once = λ key. omega (arith, longs-parts key before after place, longs-cons key place (before ++ after), holds.once key);
+      there = λ key meets.
+          holds.there key (omega (arith, longs-parts key before after place, longs-cons key place (before ++ after), meets));
+      counted = omega (arith, count-parts before after place, count-cons place (before ++ after), holds.counted);
     }

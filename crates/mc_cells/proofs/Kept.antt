@@ -363,3 +363,24 @@ Keeps-nothing cells none count =
       counted = rw (none, count) refl;
       fewer = rw none (omega arith);
     }
+
+-- The order in which texts are listed says nothing: one of them goes first.
+pub Keeps-to_front : (cells : Cells) (before after : List Handle) (first len : ℕ)
+    → Keeps cells (before ++ (first, len) ∷ after) → Keeps cells ((first, len) ∷ (before ++ after))
+Keeps-to_front cells before after first len keeps =
+    let same : (place : ℕ) → owners cells ((first, len) ∷ (before ++ after)) place
+        ≡ owners cells (before ++ (first, len) ∷ after) place = λ place. omega (
+      arith,
+      used-cons cells.all.items (first, len) (before ++ after) place,
+      owners-parts cells before after first len place,
+    ) in record {
+      once = λ place. rw (same place) (keeps.once place);
+      within = λ place owned. keeps.within place (rw (same place) at owned);
+      counted = omega (
+        arith,
+        keeps.counted,
+        taken-parts before after first len,
+        taken-cons (first, len) (before ++ after),
+      );
+      fewer = keeps.fewer;
+    }
