@@ -1,16 +1,17 @@
 -- Values that are kept, where one comes or goes.
-use Rattle.std.proofs.Common.{◌≡◌, ◌≢◌, ◌∙◌, ◌+◌, ◌<◌, ℕ, true, false, cond, eqb, List, [], ◌∷◌, ◌++◌, Option, Some, None, IsSome, Result, Ok, Err, inl, inr, refl, sym, ap, arith}
+use Rattle.std.proofs.Common.{◌≡◌, ◌≢◌, ◌∙◌, ◌+◌, ◌<◌, ◌≤◌, ℕ, true, false, cond, eqb, List, [], ◌∷◌, ◌++◌, All, length, Option, Some, None, IsSome, Result, Ok, Err, inl, inr, refl, sym, ap, arith}
 use Rattle.std.specs.Option.{OnSome}
 use Rattle.std.specs.Result.{OnErr}
-use Rattle.std.proofs.lemmas.Bool.{cases_Bool, cases_eq, eq-eqb, false≢true, ne_eqb}
+use Rattle.std.proofs.lemmas.Bool.{cases_Bool, cases_eq, eq-eqb, false≢true, le-leb, leb-false, ne_eqb}
+use Rattle.std.proofs.lemmas.List.Elements.{All-cons, All-head, All-nil, All-tail}
 use Rattle.std.proofs.lemmas.List.Sums.{sum_by-cons, sum_by-append}
 use Rattle.slab.specs.Slab.{Updates, get, slab_len}
 use Rattle.mc_cells.specs.declared.holding.Place.{Place}
 use Rattle.mc_cells.specs.declared.holding.Values.{Values}
 use Rattle.mc_cells.specs.Chains.{text_at}
 use Rattle.mc_cells.specs.Kept.{Handle, Keeps, KeepsOn, texts}
-use Rattle.mc_cells.proofs.Kept.{Keeps-to_front}
-use Rattle.mc_cells.specs.Held.{Holds, HoldsOn, count_long, is_short, longs, short, values_of}
+use Rattle.mc_cells.proofs.Kept.{Keeps-to_front, Lies-kept}
+use Rattle.mc_cells.specs.Held.{Holds, HoldsOn, Sized, Stands, count_long, is_short, longs, short, value_at, values_of}
 
 -- The handles of short values
 
@@ -116,6 +117,29 @@ values-agree old new (place ∷ kept) same long = elim (cases_Bool (is_short pla
       rw (not, here, later) refl
 ]
 
+-- Values that stay are as long as they were.
+sized_same : (old new : Values) (kept : List Place) → values_of new kept ≡ values_of old kept
+    → All (Sized old) kept → All (Sized new) kept
+sized_same old new [] same sized = All-nil (Sized new)
+sized_same old new (place ∷ kept) same sized =
+    let here : value_at new place ≡ value_at old place = cc in
+    let rest : values_of new kept ≡ values_of old kept = cc in
+    let first : Sized new place = λ fits. ap (λ (v : List ℕ). length v) here ∙ All-head (Sized old) place kept sized fits in
+    All-cons (Sized new) place kept first (sized_same old new kept rest (All-tail (Sized old) place kept sized))
+
+-- What holds of all holds of all but one.
+without_one : {X : Type 0} (P : X → Type 0) (before after : List X) (x : X) → All P (before ++ x ∷ after)
+    → All P (before ++ after)
+without_one P [] after x all = All-tail P x after all
+without_one P (y ∷ before) after x all =
+    All-cons P y (before ++ after) (All-head P y (before ++ x ∷ after) all)
+    (without_one P before after x (All-tail P y (before ++ x ∷ after) all))
+
+-- the one that stands among them
+the_one : {X : Type 0} (P : X → Type 0) (before after : List X) (x : X) → All P (before ++ x ∷ after) → P x
+the_one P [] after x all = All-head P x after all
+the_one P (y ∷ before) after x all = the_one P before after x (All-tail P y (before ++ x ∷ after) all)
+
 -- Cells change, and what is kept in them doesn't.
 pub HoldsOn-cells : (old new : Values) (kept : List Place) → Holds old kept
     → KeepsOn old.cells new.cells (short kept) → new.long ≡ old.long → HoldsOn old new kept
@@ -125,6 +149,7 @@ HoldsOn-cells old new kept holds on long = record {
     once = holds.once;
     there = λ key meets. rw long (holds.there key meets);
     counted = rw long holds.counted;
+    sized = sized_same old new kept (values-agree old new kept on.texts (λ key meets. rw long refl)) holds.sized;
   };
   same = values-agree old new kept on.texts (λ key meets. rw long refl);
 }
@@ -135,7 +160,15 @@ module _ (old new : Values) (kept : List Place) (place : Place) (text : List ℕ
     (is : is_short place ≡ true) (cells : Keeps new.cells ((place.first, place.len) ∷ short kept))
     (same : texts new.cells.all.items ((place.first, place.len) ∷ short kept) ≡ text ∷ texts old.cells.all.items
     (short kept))
-    (long : new.long ≡ old.long) where
+    (long : new.long ≡ old.long) (size : length text ≡ place.len) where
+  text_kept : text_at new.cells.all.items place.first place.len ≡ text
+  text_kept = cc
+
+  others_kept : values_of new kept ≡ values_of old kept
+  others_kept =
+      let rest : texts new.cells.all.items (short kept) ≡ texts old.cells.all.items (short kept) = cc in
+      values-agree old new kept rest (λ key meets. ap (λ s. get s key) long)
+
   -- It is held beside the others.
   pub Holds-short : Holds new (place ∷ kept)
   Holds-short = record {
@@ -144,15 +177,14 @@ module _ (old new : Values) (kept : List Place) (place : Place) (text : List ℕ
     there = λ key meets.
         rw long (holds.there key (omega (arith, longs-cons key place kept, long_at-short key place is, meets)));
     counted = rw long (omega (arith, count-cons place kept, long_one-short place is, holds.counted));
+    sized =
+        let first : Sized new place = λ fits. rw is (ap (λ (v : List ℕ). length v) text_kept ∙ size) in
+        All-cons (Sized new) place kept first (sized_same old new kept others_kept holds.sized);
   }
 
   -- It is the text, and the others are what they were.
   pub values-short : values_of new (place ∷ kept) ≡ text ∷ values_of old kept
-  values-short =
-      let first : text_at new.cells.all.items place.first place.len ≡ text = cc in
-      let rest : texts new.cells.all.items (short kept) ≡ texts old.cells.all.items (short kept) = cc in
-      let later = values-agree old new kept rest (λ key meets. ap (λ s. get s key) long) in
-      rw (is, first, later) refl
+  values-short = rw (is, text_kept, others_kept) refl
 
 -- A long value comes
 
@@ -173,6 +205,9 @@ module _ (old new : Values) (kept : List Place) (place : Place) (value : List �
   apart : (key : ℕ) → 0 < longs key kept → key ≢ place.first
   apart key meets same = absurd (let here : 0 < longs place.first kept = rw same at meets in omega (arith, none, here))
 
+  others_stay : values_of new kept ≡ values_of old kept
+  others_stay = values-agree old new kept (rw cells refl) (λ key meets. updates.others key (apart key meets))
+
   -- It is held beside the others.
   pub Holds-long : Holds new (place ∷ kept)
   Holds-long = record {
@@ -189,13 +224,14 @@ module _ (old new : Values) (kept : List Place) (place : Place) (value : List �
           (holds.there key (omega (arith, longs-cons key place kept, long_at-other key place other, meets)))
     ];
     counted = omega (arith, count-cons place kept, long_one-long place not, holds.counted, count);
+    sized =
+        let first : Sized new place = λ fits. absurd (let more = leb-false place.len 4095 not in omega arith) in
+        All-cons (Sized new) place kept first (sized_same old new kept others_stay holds.sized);
   }
 
   -- It is the value, and the others are what they were.
   pub values-long : values_of new (place ∷ kept) ≡ value ∷ values_of old kept
-  values-long =
-      let rest = values-agree old new kept (rw cells refl) (λ key meets. updates.others key (apart key meets)) in
-      rw (not, updates.changed, rest) refl
+  values-long = rw (not, updates.changed, others_stay) refl
 
 -- What could not come in leaves all as it was.
 pub HoldsOn-refused : (old new : Values) (kept : List Place) → Holds old kept → new.cells ≡ old.cells
@@ -206,6 +242,7 @@ HoldsOn-refused old new kept holds cells long = record {
     once = holds.once;
     there = λ key meets. rw long (holds.there key meets);
     counted = rw long holds.counted;
+    sized = sized_same old new kept (values-agree old new kept (rw cells refl) (λ key meets. rw long refl)) holds.sized;
   };
   same = values-agree old new kept (rw cells refl) (λ key meets. rw long refl);
 }
@@ -229,6 +266,9 @@ HoldsOn-short old new before after place holds is long on =
         once = λ key. omega (arith, longs-parts key before after place, holds.once key);
         there = λ key meets. rw long (holds.there key (omega (arith, longs-parts key before after place, meets)));
         counted = rw long (omega (arith, count-parts before after place, long_one-short place is, holds.counted));
+        sized = sized_same old new (before ++ after)
+            (values-agree old new (before ++ after) cells.texts (λ key meets. rw long refl))
+            (without_one (Sized old) before after place holds.sized);
       };
       same = values-agree old new (before ++ after) cells.texts (λ key meets. rw long refl);
     }
@@ -277,6 +317,9 @@ HoldsOn-long old new before after place holds not cells updates count =
         there = λ key meets. rw (updates.others key (apart key meets))
             (holds.there key (omega (arith, longs-parts key before after place, meets)));
         counted = omega (arith, count-parts before after place, long_one-long place not, holds.counted, count);
+        sized = sized_same old new (before ++ after)
+            (values-agree old new (before ++ after) (rw cells refl) (λ key meets. updates.others key (apart key meets)))
+            (without_one (Sized old) before after place holds.sized);
       };
       same = values-agree old new (before ++ after) (rw cells refl) (λ key meets. updates.others key (apart key meets));
     }
@@ -299,4 +342,19 @@ Holds-to_front values before after place holds =
       there = λ key meets.
           holds.there key (omega (arith, longs-parts key before after place, longs-cons key place (before ++ after), meets));
       counted = omega (arith, count-parts before after place, count-cons place (before ++ after), holds.counted);
+      sized = All-cons (Sized values) place (before ++ after) (the_one (Sized values) before after place holds.sized)
+          (without_one (Sized values) before after place holds.sized);
     }
+
+-- A short value that is held is as long as its place notes.
+pub length-held : (values : Values) (before after : List Place) (place : Place)
+    → Holds values (before ++ place ∷ after) → place.len ≤ 4095 → length (value_at values place) ≡ place.len
+length-held values before after place holds fits = the_one (Sized values) before after place holds.sized fits
+
+-- The cells of a short value that is held are there.
+pub Stands-held : (values : Values) (before after : List Place) (place : Place)
+    → Holds values (before ++ place ∷ after) → Stands values place
+Stands-held values before after place holds fits =
+    let is = le-leb place.len 4095 fits in
+    let held = rw (short-parts before after place is) at holds.cells in
+    Lies-kept values.cells (short before) (short after) place.first place.len held

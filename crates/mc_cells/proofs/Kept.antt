@@ -369,7 +369,7 @@ pub Keeps-to_front : (cells : Cells) (before after : List Handle) (first len : �
     → Keeps cells (before ++ (first, len) ∷ after) → Keeps cells ((first, len) ∷ (before ++ after))
 Keeps-to_front cells before after first len keeps =
     let same : (place : ℕ) → owners cells ((first, len) ∷ (before ++ after)) place
-        ≡ owners cells (before ++ (first, len) ∷ after) place = λ place. omega (
+    ≡ owners cells (before ++ (first, len) ∷ after) place = λ place. omega (
       arith,
       used-cons cells.all.items (first, len) (before ++ after) place,
       owners-parts cells before after first len place,

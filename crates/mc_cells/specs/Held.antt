@@ -1,5 +1,5 @@
 -- Values that are kept: short ones in cells, long ones by themselves.
-use Rattle.std.specs.Prelude.{ℕ, ◌≡◌, ◌<◌, ◌≤◌, ◌==◌, nat_le, Bool, List, [], ◌∷◌, Option, Some, None, IsSome, if◌then◌else◌, map}
+use Rattle.std.specs.Prelude.{ℕ, ◌≡◌, ◌<◌, ◌≤◌, ◌==◌, nat_le, Bool, List, [], ◌∷◌, Option, Some, None, IsSome, if◌then◌else◌, length, map, All}
 use Rattle.std.specs.List.{sum_by}
 use Rattle.slab.specs.Slab.{get, slab_len}
 use Rattle.mc_cells.specs.declared.TheConstants.{TEXT_LIMIT}
@@ -45,12 +45,17 @@ values_of values kept = map (value_at values) kept
 abbrev pub Stands : Values → Place → Type 0
 Stands values place = place.len ≤ TEXT_LIMIT → Lies values.cells.all.items place.first place.len
 
+-- A short value is as long as its place notes.
+abbrev pub Sized : Values → Place → Type 0
+Sized values place = place.len ≤ TEXT_LIMIT → length (value_at values place) ≡ place.len
+
 -- These values are kept, and no other.
 pub record Holds (values : Values) (kept : List Place) : Type 0 where
   pub cells : Keeps values.cells (short kept)
   pub once : (key : ℕ) → longs key kept ≤ 1
   pub there : (key : ℕ) → 0 < longs key kept → IsSome (get values.long key)
   pub counted : count_long kept ≡ slab_len values.long
+  pub sized : All (Sized values) kept
 
 -- Each value that was kept is still kept, and the same.
 pub record HoldsOn (old new : Values) (kept : List Place) : Type 0 where

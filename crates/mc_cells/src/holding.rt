@@ -95,6 +95,22 @@ impl Values {
         })
     }
 
+    /// How many bytes the value at a place has.
+    #[inline(always)]
+    pub fn len(&self, place: Place) -> usize
+        ensures { (before after : List ThePlace) → Holds self.now (before ++ place ∷ after) →
+            result ≡ length (value_at self.now place) }
+    {
+        let len = place.len as usize;
+        if len <= TEXT_LIMIT {
+            return len;
+        }
+        match self.long.get(place.first as usize) {
+            Some(value) => value.len(),
+            None => 0,
+        }
+    }
+
     /// Takes a value out.
     #[inline(always)]
     pub fn release(&mut self, place: Place)

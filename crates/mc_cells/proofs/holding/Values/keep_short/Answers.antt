@@ -22,6 +22,6 @@ returns-clause-kept c = λ kept holds.
     let place : Place = record { first = c.in_ok-first.first; len = length text } in
     let is = le-leb (length text) 4095 c.requires.short in
     let in_cells = c.in_ok-first.ensures.kept (short kept) holds.cells in (
-      Holds-short self new kept place text holds is in_cells.0 in_cells.1 refl,
-      values-short self new kept place text holds is in_cells.0 in_cells.1 refl,
+      Holds-short self new kept place text holds is in_cells.0 in_cells.1 refl refl,
+      values-short self new kept place text holds is in_cells.0 in_cells.1 refl refl,
     )
