@@ -1,6 +1,7 @@
 -- Definitions that only the contracts of private functions name: no public contract rests on them.
 pub mod Access
 pub mod Found
+pub mod Kept
 pub mod Listed
 pub mod Parts
 pub mod Polynomial

@@ -1,0 +1,63 @@
+-- Items whose values lie in cells, where one goes.
+use Rattle.std.proofs.Common.{◌≡◌, ◌∙◌, ℕ, Bool, List, [], ◌∷◌, ◌++◌, Option, Some, refl, subst, sym, ap}
+use Rattle.std.specs.Option.{option_map}
+use Rattle.lru.specs.LruCache.{LruCache, lru_cache}
+use Rattle.std.specs.Map.{lookup, remove_entry}
+use Rattle.std.proofs.lemmas.List.{map-append}
+use Rattle.mc_item.specs.declared.item.Item.{Item}
+use Rattle.mc_cells.specs.declared.holding.Place.{Place}
+use Rattle.mc_cells.specs.declared.holding.Values.{Values}
+use Rattle.mc_cells.specs.Held.{Holds, value_at, values_of}
+use Rattle.mc_store.specs.declared.kept.Entry.{Entry}
+use Rattle.mc_store.specs.internal.Kept.{item_of, items_of, places}
+use Rattle.mc_store.proofs.Shown.{Among, Among-found, lookup-shown, remove-shown}
+
+-- Items are the same where their values are.
+pub items_same : (old new : Values) (entries : List (List ℕ × Entry))
+    → values_of new (places entries) ≡ values_of old (places entries) → items_of new entries ≡ items_of old entries
+items_same old new [] same = refl
+items_same old new (entry ∷ entries) same =
+    let here : value_at new entry.1.place ≡ value_at old entry.1.place = cc in
+    let rest : values_of new (places entries) ≡ values_of old (places entries) = cc in
+    rw (here, items_same old new entries rest) refl
+
+-- The places of two lists of entries.
+pub places-append : (front back : List (List ℕ × Entry)) → places (front ++ back) ≡ places front ++ places back
+places-append front back = map-append (λ (entry : List ℕ × Entry). entry.1.place) front back
+
+-- An entry that is found has its place among those of the others.
+pub record Standing (values : Values) (entries : List (List ℕ × Entry)) (test : List ℕ → Bool) (entry : Entry) : Type 0 where
+  pub before : List Place
+  pub after : List Place
+  pub held : Holds values (before ++ entry.place ∷ after)
+  pub rest : places (remove_entry test entries) ≡ before ++ after
+
+pub standing : (values : Values) (entries : List (List ℕ × Entry)) (test : List ℕ → Bool) (entry : Entry)
+    → lookup test entries ≡ Some entry → Holds values (places entries) → Standing values entries test entry
+standing values entries test entry found holds =
+    let among : Among test entries entry = Among-found test entries entry found in
+    let all : places entries ≡ places among.before ++ entry.place ∷ places among.after =
+        ap places among.whole ∙ places-append among.before ((among.key, entry) ∷ among.after) in
+    record {
+      before = places among.before;
+      after = places among.after;
+      held = subst (λ (kept : List Place). Holds values kept) all holds;
+      rest = ap places among.rest ∙ places-append among.before among.after;
+    }
+
+-- What the items of a map are once one went out of it.
+pub view_removed : (old new : Values) (entries : List (List ℕ × Entry)) (cap : ℕ) (cache : LruCache (List ℕ) Entry)
+    (test : List ℕ → Bool) (now : LruCache (List ℕ) Item) → cache ≡ lru_cache (remove_entry test entries) cap
+    → lru_cache (items_of old entries) cap ≡ now
+    → values_of new (places (remove_entry test entries)) ≡ values_of old (places (remove_entry test entries))
+    → lru_cache (items_of new cache.entries) cache.cap ≡ lru_cache (remove_entry test now.entries) now.cap
+view_removed old new entries cap cache test now is shows same =
+    rw (is, ← shows) (ap (λ (items : List (List ℕ × Item)). lru_cache items cap)
+    (items_same old new (remove_entry test entries) same ∙ sym (remove-shown (item_of old) test entries)))
+
+-- What is found of the items is what is found of the entries.
+pub found_of : (values : Values) (entries : List (List ℕ × Entry)) (cap : ℕ) (test : List ℕ → Bool)
+    (now : LruCache (List ℕ) Item) (found : Option Entry) → lru_cache (items_of values entries) cap ≡ now
+    → lookup test entries ≡ found → lookup test now.entries ≡ option_map (item_of values) found
+found_of values entries cap test now found shows is =
+    rw (← shows) (lookup-shown (item_of values) test entries ∙ ap (λ (o : Option Entry). option_map (item_of values) o) is)
