@@ -82,6 +82,8 @@ pub record Among {K V : Type 0} (test : K → Bool) (entries : List (K × V)) (v
   pub after : List (K × V)
   pub whole : entries ≡ before ++ (key, value) ∷ after
   pub rest : remove_entry test entries ≡ before ++ after
+  pub found : lookup_entry test entries ≡ Some (key, value)
+  pub passes : test key ≡ true
 
 pub Among-found : {K V : Type 0} (test : K → Bool) (entries : List (K × V)) (value : V)
     → lookup test entries ≡ Some value → Among test entries value
@@ -95,6 +97,8 @@ Among-found {K} {V} test (first ∷ entries) value found = elim (cases_Bool (tes
         after = entries;
         whole = ap (λ (v : V). (first.0, v) ∷ entries) same;
         rest = rw is refl;
+        found = rw is (ap (λ (v : V). Some (first.0, v)) same);
+        passes = is;
       }
   | inr not ↦
       let later = Among-found test entries value (rw not at found) in
@@ -104,6 +108,8 @@ Among-found {K} {V} test (first ∷ entries) value found = elim (cases_Bool (tes
         after = later.after;
         whole = ap (λ (rest : List (K × V)). first ∷ rest) later.whole;
         rest = rw not (ap (λ (rest : List (K × V)). first ∷ rest) later.rest);
+        found = rw not later.found;
+        passes = later.passes;
       }
 ]
 
@@ -115,3 +121,12 @@ remove-absent {K} {V} test (first ∷ entries) none = elim (cases_Bool (test fir
   | inl is ↦ absurd (let here = rw is at none in cc)
   | inr not ↦ rw not (ap (λ (rest : List (K × V)). first ∷ rest) (remove-absent test entries (rw not at none)))
 ]
+
+-- What is found, promoted and given another value stands before the others.
+pub used_is : {K V : Type 0} (test : K → Bool) (entries : List (K × V)) (value other : V)
+    → (among : Among test entries value)
+    → set_value test (promoted test entries) other ≡ (among.key, other) ∷ (among.before ++ among.after)
+used_is {K} {V} test entries value other among =
+    let first : promoted test entries ≡ (among.key, value) ∷ (among.before ++ among.after) =
+    rw (among.found, among.rest) refl in
+    rw (first, among.passes) refl
