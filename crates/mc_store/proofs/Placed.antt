@@ -1,8 +1,9 @@
 -- Items whose values lie in cells, where one goes.
-use Rattle.std.proofs.Common.{◌≡◌, ◌∙◌, ℕ, Bool, List, [], ◌∷◌, ◌++◌, Option, Some, None, refl, subst, sym, ap}
+use Rattle.std.proofs.Common.{◌≡◌, ◌∙◌, ℕ, Bool, List, [], ◌∷◌, ◌++◌, Option, Some, None, inl, inr, refl, subst, sym, ap}
 use Rattle.std.specs.Option.{option_map}
 use Rattle.lru.specs.LruCache.{LruCache, lru_cache, promoted}
 use Rattle.std.specs.Map.{lookup, remove_entry, set_value}
+use Rattle.std.proofs.lemmas.Bool.{cases_Bool}
 use Rattle.std.proofs.lemmas.List.{map-append}
 use Rattle.mc_item.specs.declared.item.Item.{Item}
 use Rattle.mc_cells.specs.declared.holding.Place.{Place}
@@ -114,3 +115,32 @@ none_back values entries cap test now shows none = by_lookup (lookup test entrie
   by_lookup None is = is
   by_lookup (Some entry) is =
       absurd (let there = found_of values entries cap test now (Some entry) shows is in cc)
+
+-- An entry that keeps its place changes no place.
+places_set : (entries : List (List ℕ × Entry)) (test : List ℕ → Bool) (entry other : Entry)
+    → lookup test entries ≡ Some entry → other.place ≡ entry.place
+    → places (set_value test entries other) ≡ places entries
+places_set [] test entry other found same = refl
+places_set (first ∷ entries) test entry other found same = elim (cases_Bool (test first.0)) [
+  | inl is ↦
+      let here : first.1 ≡ entry = (let there = rw is at found in cc) in
+      rw is (ap (λ (place : Place). place ∷ places entries) (same ∙ ap (λ (e : Entry). e.place) (sym here)))
+  | inr not ↦
+      rw not (ap (λ (rest : List Place). first.1.place ∷ rest) (places_set entries test entry other (rw not at found) same))
+]
+
+-- An entry that is changed where it stands keeps its place.
+pub Holds-set : (values : Values) (entries : List (List ℕ × Entry)) (test : List ℕ → Bool) (entry other : Entry)
+    → lookup test entries ≡ Some entry → other.place ≡ entry.place → Holds values (places entries)
+    → Holds values (places (set_value test entries other))
+Holds-set values entries test entry other found same holds = rw (places_set entries test entry other found same) holds
+
+-- What the items of a map are once one was changed where it stands.
+pub view_set : (values : Values) (entries : List (List ℕ × Entry)) (cap : ℕ) (cache : LruCache (List ℕ) Entry)
+    (test : List ℕ → Bool) (now : LruCache (List ℕ) Item) (other : Entry)
+    → cache ≡ lru_cache (set_value test entries other) cap → lru_cache (items_of values entries) cap ≡ now
+    → lru_cache (items_of values cache.entries) cache.cap
+    ≡ lru_cache (set_value test now.entries (item_of values other)) now.cap
+view_set values entries cap cache test now other is shows =
+    rw (is, ← shows) (ap (λ (items : List (List ℕ × Item)). lru_cache items cap)
+    (sym (set-shown (item_of values) test entries other)))

@@ -1,5 +1,5 @@
 //! Items in the order of their last use, whose values lie in cells.
-ghost use Rattle.std.specs.Prelude.{◌≡◌, [], length, None, Some};
+ghost use Rattle.std.specs.Prelude.{◌≡◌, [], true, false, length, None, Some};
 ghost use Rattle.std.specs.Map.{lookup, remove_entry, set_value};
 ghost use Rattle.lru.specs.LruCache.{lru_cache, promoted};
 ghost use Rattle.mc_wire.specs.SameKey.{same_key};
@@ -8,6 +8,7 @@ ghost use Rattle.mc_store.specs.declared.kept.Entry.{Entry as TheEntry};
 
 use crate::access::Use;
 use crate::hashing::PolynomialState;
+use crate::items::Staling;
 use lru::LruCache;
 use mc_cells::{Place, Values};
 use mc_item::PackedExpiry;
@@ -62,6 +63,28 @@ fn use_entry(cache: &mut Entries, key: &Key, new: Use)
 {
     if let Some(entry) = cache.get_mut(key) {
         note_use(entry, new);
+    }
+}
+
+/// Marks the entry under the key stale where it stands.
+fn mark_entry(cache: &mut Entries, key: &Key, new: Staling)
+    ensures marked { (entry : TheEntry) → lookup (same_key key.now) cache.old.entries ≡ Some entry →
+        cache.new ≡
+        lru_cache
+        (set_value (same_key key.now) cache.old.entries
+        (record entry {
+          unique = new.unique;
+          expiry = new.expiry;
+          stale = true;
+          sent = false;
+        })) cache.old.cap }
+    ensures none { lookup (same_key key.now) cache.old.entries ≡ None → cache.new ≡ cache.old }
+{
+    if let Some(entry) = cache.peek_mut(key) {
+        entry.unique = new.unique;
+        entry.expiry = new.expiry;
+        entry.stale = true;
+        entry.sent = false;
     }
 }
 
@@ -124,6 +147,23 @@ impl Kept {
         ensures none { lookup (same_key key.now) self.old.entries ≡ None → self.new ≡ self.old }
     {
         use_entry(&mut self.cache, key, new);
+    }
+
+    /// Marks the item under the key stale where it stands.
+    pub fn mark_stale(&mut self, key: &Key, new: Staling)
+        ensures marked { (item : TheItem) → lookup (same_key key.now) self.old.entries ≡ Some item →
+            self.new ≡
+            lru_cache
+            (set_value (same_key key.now) self.old.entries
+            (record item {
+              unique = new.unique;
+              expiry = new.expiry;
+              stale = true;
+              sent = false;
+            })) self.old.cap }
+        ensures none { lookup (same_key key.now) self.old.entries ≡ None → self.new ≡ self.old }
+    {
+        mark_entry(&mut self.cache, key, new);
     }
 
     /// Takes all items out.

@@ -1,5 +1,4 @@
-use Rattle.std.proofs.Common.{◌≡◌, ◌∙◌, ℕ, List, Option, Some, None, length, refl, sym, ap}
-use Rattle.std.specs.Map.{lookup}
+use Rattle.std.proofs.Common.{◌≡◌, ◌∙◌, ℕ, Some, None, length, refl, sym, ap}
 use Rattle.mc_wire.specs.SameKey.{same_key}
 use Rattle.mc_item.specs.declared.item.Item.{Item}
 use Rattle.mc_store.specs.internal.Kept.{item_of}

@@ -5,7 +5,7 @@ use Rattle.mc_wire.specs.SameKey.{same_key}
 use Rattle.mc_item.specs.declared.item.Item.{Item}
 use Rattle.mc_cells.specs.Held.{Holds}
 use Rattle.mc_store.specs.declared.kept.Entry.{Entry}
-use Rattle.mc_store.specs.internal.Kept.{item_of, items_of, places}
+use Rattle.mc_store.specs.internal.Kept.{items_of, places}
 use Rattle.mc_store.proofs.Placed.{Holds-used, found_back, none_back, view_used}
 use Rattle.mc_store.proofs.kept.Kept.use_item.Goals as goal
 
