@@ -34,6 +34,7 @@ pub record Standing (values : Values) (entries : List (List ℕ × Entry)) (test
   pub held : Holds values (before ++ entry.place ∷ after)
   pub rest : places (remove_entry test entries) ≡ before ++ after
 
+-- It has, where it is found.
 pub standing : (values : Values) (entries : List (List ℕ × Entry)) (test : List ℕ → Bool) (entry : Entry)
     → lookup test entries ≡ Some entry → Holds values (places entries) → Standing values entries test entry
 standing values entries test entry found holds =
@@ -96,6 +97,7 @@ pub record Found (values : Values) (entries : List (List ℕ × Entry)) (test : 
   pub found : lookup test entries ≡ Some entry
   pub is : item_of values entry ≡ item
 
+-- There is such an entry.
 pub found_back : (values : Values) (entries : List (List ℕ × Entry)) (cap : ℕ) (test : List ℕ → Bool)
     (now : LruCache (List ℕ) Item) (item : Item) → lru_cache (items_of values entries) cap ≡ now
     → lookup test now.entries ≡ Some item → Found values entries test item

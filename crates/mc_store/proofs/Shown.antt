@@ -84,6 +84,7 @@ pub record Among {K V : Type 0} (test : K → Bool) (entries : List (K × V)) (v
   pub found : lookup_entry test entries ≡ Some (key, value)
   pub passes : test key ≡ true
 
+-- It does, where it is found.
 pub Among-found : {K V : Type 0} (test : K → Bool) (entries : List (K × V)) (value : V)
     → lookup test entries ≡ Some value → Among test entries value
 Among-found test [] value found = absurd cc
