@@ -110,6 +110,37 @@ def open_files_that_run_out_refuse_by_memcacheds_rules():
     return f"{took:.2f} s of processor time in 3 s"
 
 
+def replied(line):
+    """What a connection gets that has asked once: the reply, or nothing where it is closed."""
+    try:
+        return line.read(len(ANSWERED))
+    except ConnectionResetError:
+        return b""
+
+
+def connections_that_find_no_memory_are_closed():
+    """Each is served or closed, threads sleep, others are served; and so are all again once there is memory."""
+    with Server("--seats", 64) as server, Line(server.port) as first:
+        first.ask(ASKED, ANSWERED)
+        most = server.taken() + 512 * 1024
+        resource.prlimit(server.process.pid, resource.RLIMIT_AS, (most, resource.RLIM_INFINITY))
+        lines = [Line(server.port, timeout=10) for _ in range(32)]
+        for line in lines:
+            line.send(ASKED)
+        found = [replied(line) for line in lines]
+        took = idle_seconds(server)
+        first.ask(ASKED, ANSWERED)
+        resource.prlimit(server.process.pid, resource.RLIMIT_AS, (resource.RLIM_INFINITY, resource.RLIM_INFINITY))
+        for line in lines:
+            line.close()
+        again = [Line(server.port) for _ in range(60)]
+        for line in again:
+            line.ask(ASKED, ANSWERED)
+            line.close()
+    equal((set(found), took <= 0.5), ({ANSWERED, b""}, True))
+    return f"{found.count(b'')} of {len(found)} closed, {took:.2f} s of processor time in 3 s"
+
+
 def a_lost_listener_ends_the_program():
     """No more connections can come: those that are served are served to their end, and then the program says so."""
     with Server("--seats", 4) as server:
@@ -145,6 +176,6 @@ def one_that_quits_and_stays_leaves_its_seat():
 
 CHECKS = [
     an_idle_server_takes_no_processor_time, connections_wait_for_open_files, open_files_that_run_out_refuse_by_memcacheds_rules,
-    a_lost_listener_ends_the_program,
+    connections_that_find_no_memory_are_closed, a_lost_listener_ends_the_program,
     replies_are_not_gathered_by_the_system, one_that_quits_and_stays_leaves_its_seat,
 ]

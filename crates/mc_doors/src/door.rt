@@ -27,6 +27,12 @@ pub trait Door {
     fn accept(&mut self) -> Arrival<Self::Line>
         ensures { Arrives (λ line. Self.Line.sight line) result (told self.old) (told self.new) };
 
+    /// Ends the output of the line that is out, where no memory is left to serve it: its client need not wait. Nothing is read of it
+    /// nor written to it. Whether the seat is stepped again after a while, so that it may wait.
+    fn give_up(&mut self, line: &mut Self::Line) -> bool
+        ensures told { told self.new ≡ told self.old }
+        ensures line { Self.Line.sight line.new ≡ Self.Line.sight line.old };
+
     /// Takes back the line that is out, once it was served: how many commands it took, and whether it has failed.
     fn give_back(&mut self, line: Self::Line, commands: u64, broke: bool)
         ensures { told self.new ≡ took_back (Self.Line.sight line) commands broke (told self.old) };

@@ -90,6 +90,10 @@ impl<L: Line + Drop> Door for OneDoor<L> {
         Arrival::Came(line)
     }
 
+    fn give_up(&mut self, _line: &mut L) -> bool {
+        false
+    }
+
     fn give_back(&mut self, line: L, commands: u64, broke: bool) {
         if self.back.is_some() {
             return;

@@ -33,6 +33,8 @@ pub struct StreamDoor<R, A: Arrivals> {
     lingering: Option<Lingering<A::Stream>>,
     /// The connection that came in and did not go back yet, as it was then.
     out: Option<Snapshot<TcpLine<A::Stream>>>,
+    /// Its output was ended, since no memory was left to serve it.
+    gave_up: bool,
     /// Those that went back.
     pub gone: Log<ClosedConnection<A::Stream>, ()>,
     /// It has said that no more connections come.
@@ -53,6 +55,7 @@ impl<R: Drop, A: Arrivals + Drop> Drop for StreamDoor<R, A> {
             is_wary: _is_wary,
             lingering: _lingering,
             out: _out,
+            gave_up: _gave_up,
             gone: _gone,
             is_over: _is_over,
             ended: _ended,
@@ -75,6 +78,7 @@ impl<R: time::Clock, A: Arrivals> StreamDoor<R, A> {
             is_wary,
             lingering: None,
             out: None,
+            gave_up: false,
             gone: Log::new(),
             is_over: false,
             ended: 0,
@@ -130,6 +134,7 @@ impl<R: time::Clock, A: Arrivals> Door for StreamDoor<R, A> {
                 } = new;
                 let line = TcpLine::begin(stream, meter, is_polled, self.is_wary);
                 self.out = Some(Snapshot::of(&line));
+                self.gave_up = false;
                 Arrival::Came(line)
             }
             Arrival::NotYet => Arrival::NotYet,
@@ -139,6 +144,22 @@ impl<R: time::Clock, A: Arrivals> Door for StreamDoor<R, A> {
                 Arrival::Over
             }
         }
+    }
+
+    fn give_up(&mut self, line: &mut TcpLine<A::Stream>) -> bool
+        ensures told { told_door (A.coming self.new.arrivals) self.new.out self.new.gone.items
+            self.new.is_over ≡
+            told_door (A.coming self.old.arrivals) self.old.out self.old.gone.items
+            self.old.is_over }
+        ensures line { sight_of line.new ≡ sight_of line.old }
+    {
+        // Once: each end of a socket's output is an event for the poll.
+        if !self.gave_up {
+            self.gave_up = true;
+            line.end_output();
+        }
+        self.arrivals.call_again(false);
+        true
     }
 
     fn give_back(&mut self, line: TcpLine<A::Stream>, commands: u64, broke: bool)

@@ -115,6 +115,17 @@ impl<S: Stream> Tap<S> {
     }
 }
 
+impl<S: Stream> Tap<S> {
+    /// Ends what is written to the stream. Where that fails, its client sees no end.
+    pub(crate) fn end_output(&mut self)
+        ensures begin { self.new.begin ≡ self.old.begin }
+        ensures given { self.new.given ≡ self.old.given }
+        ensures taken { self.new.taken ≡ self.old.taken }
+    {
+        let _ = self.stream.end_output();
+    }
+}
+
 impl<S: Stream + Drop> Tap<S> {
     /// The stream as it is.
     pub(crate) fn into_stream(self) -> S

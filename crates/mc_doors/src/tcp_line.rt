@@ -106,6 +106,13 @@ impl<S: Stream> TcpLine<S> {
         &self.meter
     }
 
+    /// Ends what is written to its stream, though it may be served later. Nothing is read or written.
+    pub(crate) fn end_output(&mut self)
+        ensures { sight_of self.new ≡ sight_of self.old }
+    {
+        self.tap.end_output();
+    }
+
     /// It has failed, for that reason.
     fn fail(&mut self, manner: Manner)
         ensures sight { sight_of self.new ≡ broke (sight_of self.old) }

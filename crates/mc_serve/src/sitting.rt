@@ -29,6 +29,17 @@ pub enum Stepped {
     Over,
 }
 
+impl Stepped {
+    /// Whether the next step has to follow at once.
+    fn of(at_once: bool) -> Stepped {
+        if at_once {
+            Stepped::Did
+        } else {
+            Stepped::Waits
+        }
+    }
+}
+
 /// What a seat does.
 #[derive(Drop)]
 pub enum Phase<L> {
@@ -132,7 +143,8 @@ impl<D: Door + Drop> Sitting<D> {
         }
     }
 
-    /// Begins to serve the line that is out. Where memory for it is refused the line waits, and the next step asks again.
+    /// Begins to serve the line that is out. Where memory for it is refused its client sees an end, the line stays out, and a later
+    /// step asks again.
     fn begin<K: Clock>(&mut self, line: D::Line, clock: &K) -> Stepped
         ensures { (shards : ℕ) (rules : Rules) (sat : SeatAt) →
             SitsBeginning shards rules (K.may_answer clock.now) sat (D.told self.old.door)
@@ -146,8 +158,10 @@ impl<D: Door + Drop> Sitting<D> {
                 Stepped::Did
             }
             Err(_refused) => {
+                let mut line = line;
+                let may_wait = self.door.give_up(&mut line);
                 self.phase = Phase::Came(line);
-                Stepped::Did
+                Stepped::of(!may_wait)
             }
         }
     }
