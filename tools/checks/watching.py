@@ -481,6 +481,8 @@ def the_process_is_measured():
     with Watched() as server, Line(server.port) as line:
         for _ in range(5000):
             line.ask(NO_OP, NO_OP_REPLY)
+        # The system is asked once a second.
+        time.sleep(1.1)
         values, used = server.values(), server.cpu_seconds()
         told = float(re.search(r"^process_cpu_seconds_total (\d+\.\d\d)$", server.metrics(), re.M)[1])
         equal((abs(values["process_resident_memory_bytes"] - server.resident()) < MIB, 0 < used <= told <= used + 1), (True, True))
@@ -498,7 +500,7 @@ def open_files_are_counted():
         try:
             for line in lines:
                 line.ask(NO_OP, NO_OP_REPLY)
-            equal(counted(), first + 300)
+            eventually(counted, first + 300)
         finally:
             for line in lines:
                 line.close()
@@ -510,7 +512,7 @@ def the_most_open_files_are_the_limit():
     with Watched(before=["prlimit", "--nofile=1234:4321"]) as server:
         equal(server.values()["process_max_fds"], 1234)
         subprocess.run(["prlimit", "--pid", str(server.process.pid), "--nofile=4000:"], check=True)
-        equal(server.values()["process_max_fds"], 4000)
+        eventually(lambda: server.values()["process_max_fds"], 4000)
 
 
 def those_who_wait_are_counted():
@@ -676,6 +678,86 @@ def bad_http_harms_nobody():
         return f"a command took {found[0] * 1000:.0f} ms at most"
 
 
+def pipelines(port, stop):
+    """Asks for the page 600 times at once, and again once the connection ends."""
+    while not stop.is_set():
+        try:
+            with socket.create_connection(("127.0.0.1", port), timeout=2) as line:
+                line.sendall(b"GET / HTTP/1.1\r\nHost: x\r\n\r\n" * 600)
+                while not stop.is_set() and line.recv(1 << 18):
+                    pass
+        except OSError:
+            pass
+
+
+def seconds_to_probe(server):
+    began = time.monotonic()
+    equal(server.get("/healthz")[0], 200)
+    return time.monotonic() - began
+
+
+def who_pipelines_keeps_no_probe_out():
+    """A visitor has one answer a turn, however many requests it has sent: a probe waits for one of each."""
+    with Watched() as server:
+        stop = threading.Event()
+        asking = [threading.Thread(target=pipelines, args=(server.metrics_port, stop)) for _ in range(16)]
+        try:
+            for it in asking:
+                it.start()
+            time.sleep(0.5)
+            slowest = max(seconds_to_probe(server) for _ in range(8))
+        finally:
+            stop.set()
+            for it in asking:
+                it.join()
+        equal(slowest < 5, True)
+        return f"a probe took {slowest:.2f} s at most"
+
+
+def bytes_read(server):
+    text = pathlib.Path(f"/proc/{server.process.pid}/io").read_text()
+    return int(re.search(r"^rchar: (\d+)", text, re.M)[1])
+
+
+def the_systems_tables_are_read_once_a_second():
+    """They may be long: 500 answers one after another read them as often as seconds pass."""
+    with Watched() as server, socket.create_connection(("127.0.0.1", server.metrics_port), timeout=30) as line:
+        asked = b"GET /metrics HTTP/1.1\r\nHost: x\r\n\r\n"
+        tables = [pathlib.Path(f"/proc/{server.process.pid}/{name}") for name in ("net/tcp", "net/tcp6", "stat")]
+        long = 2 * sum(len(it.read_text()) for it in tables)
+        before, began = bytes_read(server), time.monotonic()
+        for _ in range(500):
+            line.sendall(asked)
+            found = line.recv(1 << 18)
+            while b"\r\n\r\n" not in found or len(found.partition(b"\r\n\r\n")[2]) < int(re.search(rb"content-length: (\d+)", found, re.I)[1]):
+                found += line.recv(1 << 18)
+        passed = time.monotonic() - began
+        equal(bytes_read(server) - before <= 500 * len(asked) + (passed + 2) * long, True)
+
+
+def metrics_are_served_where_no_file_is_left():
+    """One visitor finds a file, though clients hold all that may be open and more of them wait; and one that says nothing is
+    dismissed for the next."""
+    with Watched("--seats", 64) as server:
+        lines = [Line(server.port)]
+        try:
+            lines[0].ask(NO_OP, NO_OP_REPLY)
+            most = len(os.listdir(f"/proc/{server.process.pid}/fd")) + 1
+            resource.prlimit(server.process.pid, resource.RLIMIT_NOFILE, (most, most))
+            lines += [Line(server.port) for _ in range(8)]
+            lines[1].ask(NO_OP, NO_OP_REPLY)
+            for _ in range(4):
+                equal(server.get("/healthz")[0], 200)
+            values = server.values()
+            equal((values["process_open_fds"], values["mcd_accepts_failed_total"] > 0), (most, True))
+            with socket.create_connection(("127.0.0.1", server.metrics_port)):
+                time.sleep(0.5)
+                equal(server.get("/healthz")[0], 200)
+        finally:
+            for line in lines:
+                line.close()
+
+
 CHECKS = [
     an_idle_client_is_closed, one_that_never_sent_is_closed, one_that_sends_stays, none_is_closed_unasked, one_amid_a_block_is_closed,
     one_that_takes_nothing_is_closed, dead_connections_free_their_seats, each_connection_is_told, each_connection_has_one_seat, one_that_breaks_is_told,
@@ -686,7 +768,8 @@ CHECKS = [
     the_page_names_its_server, the_page_stands_alone, the_page_shows_the_process,
     the_process_is_measured, open_files_are_counted, the_most_open_files_are_the_limit, those_who_wait_are_counted, each_command_is_counted_by_what_came_of_it, items_and_evictions_are_told,
     the_version_is_the_programs, promtool_reads_the_text, the_other_pages, it_is_told_to_this_machine_alone, a_taken_address_is_told,
-    bad_http_harms_nobody,
+    bad_http_harms_nobody, who_pipelines_keeps_no_probe_out, the_systems_tables_are_read_once_a_second,
+    metrics_are_served_where_no_file_is_left,
 ]
 
 

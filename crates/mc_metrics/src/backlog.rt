@@ -19,13 +19,15 @@ const STATE: usize = 3;
 
 const QUEUES: usize = 4;
 
-/// The system's tables of TCP sockets. They stay open, and are read from their start whenever they are asked.
+/// The system's tables of TCP sockets, and their texts as they were read last. They stay open, and are read from their start.
 pub(crate) struct Tables {
     alloc: Global,
     /// That of IPv4, if it can be opened.
     four: Option<File>,
     /// That of IPv6, if it can be opened.
     six: Option<File>,
+    four_text: String,
+    six_text: String,
 }
 
 impl Drop for Tables {
@@ -35,27 +37,36 @@ impl Drop for Tables {
             alloc: _alloc,
             four: _four,
             six: _six,
+            four_text: _four_text,
+            six_text: _six_text,
         } = self;
     }
 }
 
 impl Tables {
-    /// Opens the tables. One that is missing, as on another system than Linux, shows no socket.
+    /// Opens the tables, of which nothing is read yet. One that is missing, as on another system than Linux, shows no socket.
     pub(crate) fn open<R: Files<File = File>>(rt: &R, alloc: Global) -> Tables {
         Tables {
             alloc,
             four: File::open(rt, "/proc/self/net/tcp").ok(),
             six: File::open(rt, "/proc/self/net/tcp6").ok(),
+            four_text: String::new(alloc),
+            six_text: String::new(alloc),
         }
     }
 
-    /// How many connections wait now at the sockets that listen at the port. A table that can't be read shows none.
+    /// Reads both. A table that can't be read shows no socket.
+    pub(crate) fn refresh(&mut self) {
+        self.four_text = table_text(self.alloc, &self.four);
+        self.six_text = table_text(self.alloc, &self.six);
+    }
+
+    /// How many connections waited at the sockets that listen at the port when the tables were read last.
     pub(crate) fn waiting(&self, port: u16) -> u64
         ensures { AreWaiting port result }
     {
-        let four = table_text(self.alloc, &self.four);
-        let six = table_text(self.alloc, &self.six);
-        waiting_at(&four, port).saturating_add(waiting_at(&six, port))
+        let four = waiting_at(&self.four_text, port);
+        four.saturating_add(waiting_at(&self.six_text, port))
     }
 }
 

@@ -10,7 +10,7 @@ use crate::by_shard::push_shards;
 use crate::history::History;
 use crate::host::host_name;
 use crate::page::{SAMPLE_SECONDS, page_of};
-use crate::process::ProcessFiles;
+use crate::process::{Process, ProcessFiles};
 use crate::reading::{Facts, Reading};
 use crate::text::metrics_of;
 use bytes::Bytes;
@@ -81,6 +81,10 @@ pub struct Pages<C = Counter> {
     uptime: u64,
     /// Where it is read what its process uses.
     process: ProcessFiles,
+    /// What it used when the system was asked last.
+    used: Process,
+    /// The uptime when the system was asked last, if it was since the start.
+    refreshed: Option<u64>,
     /// The name of its machine.
     host: String,
     history: History,
@@ -96,6 +100,8 @@ impl<C: Drop> Drop for Pages<C> {
             tables: _tables,
             uptime: _uptime,
             process: _process,
+            used: _used,
+            refreshed: _refreshed,
             host: _host,
             history: _history,
         } = self;
@@ -116,13 +122,16 @@ impl<C: Count> Pages<C> {
         ensures samples { IfOk result (λ pages. pages.history ≡ []) }
     {
         let history = History::new(alloc)?;
+        let process = ProcessFiles::open(rt, alloc);
         Ok(Pages {
             alloc,
             facts,
             counts: counts.share(alloc)?,
             tables: Tables::open(rt, alloc),
             uptime: 0,
-            process: ProcessFiles::open(rt, alloc),
+            used: process.now(),
+            process,
+            refreshed: None,
             host: host_name(rt, alloc),
             history,
         })
@@ -145,6 +154,21 @@ impl<C: Count> Pages<C> {
         }
     }
 
+    /// Asks the system again who waits and what the process uses, once in a second of the uptime: its tables may be long.
+    pub(crate) fn refresh(&mut self)
+        ensures facts { self.new.facts ≡ self.old.facts }
+        ensures counts { self.new.counts ≡ self.old.counts }
+        ensures uptime { self.new.uptime ≡ self.old.uptime }
+        ensures samples { self.new.history ≡ self.old.history }
+    {
+        if self.refreshed == Some(self.uptime) {
+            return;
+        }
+        self.refreshed = Some(self.uptime);
+        self.tables.refresh();
+        self.used = self.process.now();
+    }
+
     /// Keeps what is counted now, for the curves of the page.
     pub(crate) fn sample(&mut self)
         ensures sampled { Samples C.has_told self.old.counts self.old.history self.new.history }
@@ -155,7 +179,7 @@ impl<C: Count> Pages<C> {
         self.history.add(self.counts.totals());
     }
 
-    /// What is known now.
+    /// What is known now, of the system as it was asked last.
     fn reading(&self) -> Reading
         ensures facts { result.facts ≡ self.now.facts }
         ensures totals { AreTotals C.has_told self.now.counts result.totals }
@@ -167,7 +191,7 @@ impl<C: Count> Pages<C> {
             totals: self.counts.totals(),
             waiting: self.tables.waiting(self.facts.port),
             uptime: self.uptime,
-            process: self.process.now(),
+            process: self.used,
         }
     }
 
