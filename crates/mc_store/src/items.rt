@@ -13,6 +13,7 @@ ghost use Rattle.mc_store.specs.internal.Listed.{FitsBudget, freed_by, listed_co
 use crate::ITEM_OVERHEAD;
 use crate::access::{Access, Use};
 use crate::hashing::PolynomialState;
+use crate::leaving::Leaving;
 use lru::LruCache;
 use mc_item::{Item, NoMemory, PackedExpiry, Reserve};
 use mc_sizes::{GREATEST_BUDGET, LEAST_BUDGET};
@@ -23,7 +24,7 @@ use std::marker::Model;
 use std::num::NonZeroUsize;
 
 /// Items by key, the most recently used first.
-type Cache = LruCache<Key, Item, PolynomialState>;
+pub(crate) type Cache = LruCache<Key, Item, PolynomialState>;
 
 /// No item costs less: its key has a byte.
 const LEAST_COST: usize = ITEM_OVERHEAD + 1;
@@ -41,6 +42,8 @@ pub struct Items {
     /// For a copy of a value that is read, where it can't be shared. None is left once it was used, and where no memory was
     /// found for it.
     reserve: Option<Reserve>,
+    /// What a flush took out, and still takes memory.
+    leaving: Leaving,
 }
 
 impl Model for Items {
@@ -94,7 +97,7 @@ fn freed_by(old: &Option<Item>, key_length: usize) -> usize
 }
 
 /// Takes out the least recently used items, as long as the rest cost more than the budget; gives what the rest cost.
-fn evict(cache: &mut Cache, cost: usize, budget: usize) -> usize
+pub(crate) fn evict(cache: &mut Cache, cost: usize, budget: usize) -> usize
     requires { cost ≡ listed_cost cache.old.entries }
     ensures left { cache.new ≡ lru_cache (within budget cache.old.entries) cache.old.cap }
     ensures counted { result ≡ listed_cost (within budget cache.old.entries) }
@@ -215,7 +218,9 @@ impl Items {
             (λ items. items ≡ record { entries = []; budget = budget; evicted = 0 }) }
     {
         let capacity = NonZeroUsize::new(budget / LEAST_COST + 1).unwrap();
-        let mut cache = LruCache::unbounded_with_hasher(alloc, PolynomialState::new(hasher))?;
+        let hashing = PolynomialState::new(hasher);
+        let leaving = Leaving::new(alloc, hashing)?;
+        let mut cache = LruCache::unbounded_with_hasher(alloc, hashing)?;
         cache.resize(capacity);
         Ok(Items {
             cache,
@@ -223,6 +228,7 @@ impl Items {
             budget,
             evicted: 0,
             reserve: Reserve::new(alloc).ok(),
+            leaving,
         })
     }
 
@@ -360,17 +366,17 @@ impl Items {
         Some(item)
     }
 
-    /// Takes all items out.
+    /// Takes all items out. Their memory is given back by the stores that follow.
     pub fn clear(&mut self)
         ensures { self.new ≡ record self.old { entries = [] } }
     {
-        self.cache.clear();
+        self.leaving.take(&mut self.cache, self.cost);
         self.cost = 0;
     }
 
     /// Puts the item under the key as the most recently used one. Then the least recently used ones go, as long as the
     /// items cost more than the budget. Where memory is refused nothing changes; over an item that is there it never
-    /// is. Each that went is counted.
+    /// is. Each that went is counted. Some of what a flush took out is dropped, and as much as leaves no room for the item.
     pub fn put(&mut self, key: Key, item: Item) -> Result<(), NoMemory>
         requires fits { FitsBudget self.old.budget key item.value }
         ensures put { OnOk result (self.new ≡ put_in key item self.old) }
@@ -380,6 +386,8 @@ impl Items {
     {
         let key_length = key.bytes().len();
         let added = cost_of(key_length, item.value.len());
+        let room = self.budget.saturating_sub(self.cost).saturating_sub(added);
+        self.leaving.drop_some(room);
         let Ok(old) = self.cache.put(key, item) else {
             return Err(NoMemory);
         };

@@ -24,7 +24,7 @@ nothing_counted cache size budget none room least most =
     rw none (record { counted = refl; fits = omega arith; keys = All-nil _; room = room; least = least; most = most })
 
 pub returns-in_err-cache : goal.returns-in_err-cache
-returns-in_err-cache c = IfOk-from_err c.from_residual.result _ c.from_residual.ensures.0
+returns-in_err-cache c = IfOk-from_err c.from_residual-in_err-cache.result _ c.from_residual-in_err-cache.ensures.0
 
 pub invariant_of-result : goal.invariant_of-result
 invariant_of-result c =
