@@ -201,6 +201,17 @@ def test_the_unit_is_tight():
         assert (ran.returncode, "Overall exposure level" in ran.stdout) == (0, True)
 
 
+@fails_with(
+    ("packaging/mcd.service", r"After=network-online\.target\n", ""), ("packaging/mcd.service", r"RestartSec=2\n", ""),
+    ("packaging/mcd.service", r"TERM,INT,HUP", "TERM"))
+def test_the_unit_waits_for_the_network_and_starts_again():
+    """After a failure, a while later, but not after a fault of the command line; and a signal ends it in order."""
+    lines = (TOP / "packaging/mcd.service").read_text().splitlines()
+    wanted = ["Wants=network-online.target", "After=network-online.target", "Restart=on-failure", "RestartSec=2", "RestartPreventExitStatus=2",
+              "ExecStart=/usr/bin/env --block-signal=TERM,INT,HUP /usr/bin/mcd $MCD_OPTIONS"]
+    assert [line for line in wanted if line not in lines] == []
+
+
 @fails_with(("packaging/mcd.bash", r" --drain --help", " --help"), ("packaging/mcd.bash", r" --drop-in", " --dropin"))
 def test_the_completion_tells_the_options():
     asked = 'source packaging/mcd.bash; _mcd mcd "" mcd; printf "%s\\n" "${COMPREPLY[@]}"'
@@ -231,6 +242,14 @@ def test_the_version_names_the_toolchain():
     assert re.search(rf"`rattle-kit-\w+ {logic}`", (TOP / "README.md").read_text()) is not None
     if shutil.which("rt"):
         assert told(["rt", "version"]).strip().endswith(logic)
+
+
+@fails_with(("README.md", r"start\.py -- --drop-in", "start.py --"), ("README.md", r"\*\*Use `--drop-in`\*\*", "Use it"))
+def test_the_first_command_follows_memcacheds_rules():
+    """What one reads first serves applications that were written for memcached, and it is said when to leave the option out."""
+    text = (TOP / "README.md").read_text()
+    first = re.search(r"^```sh\n(.*?)$", text, re.M)[1]
+    assert (" --drop-in " in first, re.search(r"^\*\*Use `--drop-in`\*\* .*Without it ", text, re.M) is not None) == (True, True)
 
 
 @fails_with(("docs/OPERATING.md", r"--stdio --memory 64m\n", "--stdio --memory 64q\n"), ("docs/OPERATING.md", r"mcd --help\n", "mcd --helps\n"))

@@ -90,7 +90,7 @@ def equal(found, wanted):
 
 
 # The line of a server that listens, at further places too.
-LISTENING = re.compile(r"mcd \S+: (?:own rules|memcached's rules), \d+ threads, \d+ MiB, listening on 127\.0\.0\.1:(\d+)((?:, \S+)*)\n")
+LISTENING = re.compile(r"mcd \S+: (?:native rules|memcached's rules), \d+ threads, \d+ MiB, listening on 127\.0\.0\.1:(\d+)((?:, \S+)*)\n")
 
 
 class Server:

@@ -127,3 +127,21 @@ class Source:
             if not more:
                 return found
             found |= more
+
+
+# Where a clause begins: `requires`, `ensures`, or what a trait or type promises under `ghost`.
+CLAUSE = re.compile(r"(?:ensures\*?|requires\*?)\b|ghost (?!use\b)\w+(?: =|:) ")
+
+
+def clause_spans(lines):
+    """The clauses of a source: the number of the first line of each, from 0, and of the line behind its last."""
+    number = 0
+    while number < len(lines):
+        first, number = number, number + 1
+        if not CLAUSE.match(lines[first].strip()):
+            continue
+        left = lines[first].count("{") - lines[first].count("}")
+        while left > 0 and number < len(lines):
+            left += lines[number].count("{") - lines[number].count("}")
+            number += 1
+        yield first, number

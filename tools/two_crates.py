@@ -38,7 +38,7 @@ UNUSED = re.compile(
       \w+/proofs/(\w*Rows\w*|Corners) | mc_model/proofs/Crossing
     | mc_store/(src/shard/running | proofs/shard/Shard/run_all)
     | mc_serve/(src/over | specs/Over | proofs/(over|One))
-    | mc_doors/(src/one_door | specs/One | proofs/(one_door|Sent))
+    | mc_doors/(src/single_source | specs/One | proofs/(single_source|Sent))
     )\b""",
     re.X,
 )
@@ -49,7 +49,7 @@ NAMED = re.compile(r"^(?:pub )?(?:mod|use) (\w+)(?:::.*)?;?\n", re.M)
 # What is derived for tests and for other users of a crate, and the types of which the program compares or shows values.
 FOR_TESTS = {"Debug", "PartialEq", "Eq", "Error"}
 COMPARED = {"Kind", "Readiness", "Stepped", "StoreMode"}
-SHOWN = {"OptionFault"}
+SHOWN = {"OptionError"}
 
 # A type with its derives: these, the attributes below, the line that names it, and the rest of it.
 DERIVED = re.compile(r"^#\[derive\(([\w, ]+)\)\]\n((?:#\[.*\]\n)*)((?:pub(?:\(\w+\))? )?(?:struct|enum) (\w+).*(?:;|\{\}|\{\n(?:.*\n)*?\})$)", re.M)

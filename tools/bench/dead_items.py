@@ -1,7 +1,7 @@
 #!/usr/bin/env python3
 """Measures what dead items cost those that live, and writes a line for each server.
 
-    tools/bench/dead_items.py [--memory 64m] [--live 100000] [--dead 300000] [--new 250000] [--size 50] [PROGRAM]
+    python3 -m tools.bench.dead_items [--memory 64m] [--live 100000] [--dead 300000] [--new 250000] [--size 50] [PROGRAM]
 
 Stores live items, and beside them items that die after three seconds. Once these are dead it stores new ones, none of which is
 asked for, and counts the live items that are left. A server that drops dead items first keeps all; one that drops the least recently
@@ -15,17 +15,13 @@ import socket
 import subprocess
 import time
 
+from tools.served import free_port
+
 TOP = pathlib.Path(__file__).resolve().parent.parent.parent
 BATCH = 1_000
 LIFE = 3
 CRAWLER = 10
 FIRST_WAIT = 0.05
-
-
-def free_port():
-    with socket.socket() as it:
-        it.bind(("127.0.0.1", 0))
-        return it.getsockname()[1]
 
 
 class Client:

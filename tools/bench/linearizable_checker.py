@@ -14,7 +14,7 @@ import collections
 ANY, IS, OTHER, ABSENT, PRESENT = range(5)
 
 # The most pairs that are followed at one time; where there are more the history isn't decided.
-MOST_PAIRS = 100_000
+MAX_PAIRS = 100_000
 
 Call = collections.namedtuple("Call", "begin end client kind given reply")
 
@@ -104,8 +104,8 @@ class Search:
                     if pair not in seen:
                         seen.add(pair)
                         open_pairs.append(pair)
-            if len(seen) > MOST_PAIRS:
-                raise Refused(f"not decided: more than {MOST_PAIRS} pairs")
+            if len(seen) > MAX_PAIRS:
+                raise Refused(f"not decided: more than {MAX_PAIRS} pairs")
         del self.under_way[bit]
         self.pairs = found
 

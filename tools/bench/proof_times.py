@@ -22,7 +22,7 @@ sys.path.insert(0, str(pathlib.Path(__file__).resolve().parents[2]))
 from tools.sources import TOP  # noqa: E402
 
 ENDING, PROOF, READING = ".oantt", "Proof", "reading"
-LEAST_PARTS = 100
+MIN_PARTS = 100
 
 # What a check writes beside each file.
 BESIDE = f"*.decls{ENDING}"
@@ -49,7 +49,7 @@ def main():
     parser.add_argument("--rows", type=int, default=20)
     asked = parser.parse_args()
     files = kept_files(asked.place)
-    if len(files) < LEAST_PARTS:
+    if len(files) < MIN_PARTS:
         sys.exit(f"{asked.place}: no check has kept anything there")
     seconds, size, proofs = collections.Counter(), collections.Counter(), []
     for name, took, length in parts(files):

@@ -1,7 +1,7 @@
 #!/usr/bin/env python3
 """Measures mcd and memcached side by side over TCP on loopback, and writes a table and a plot.
 
-    tools/bench/side_by_side.py [--rounds 5] [--seconds 3] [--seats 1024] [--only WORD] [--folder docs/benchmarks] [PROGRAM]
+    python3 -m tools.bench.side_by_side [--rounds 5] [--seconds 3] [--seats 1024] [--only WORD] [--folder docs/benchmarks] [PROGRAM]
 
 Each round starts both servers anew, fills them with all keys, and runs every workload on the one and then on the
 other; the next round begins with the other. tools/bench/load.c sends the requests and checks every reply. Printed are
@@ -20,6 +20,8 @@ import statistics
 import subprocess
 import tempfile
 import time
+
+from tools.served import free_port
 
 TOP = pathlib.Path(__file__).resolve().parent.parent.parent
 TICK = os.sysconf("SC_CLK_TCK")
@@ -40,12 +42,6 @@ WORKLOADS = [
     ("16 connections, get of 100 keys", "--connections 16 --threads 2 --multiget 100 --sets 0"),
     ("16 connections, 64 KiB values", "--connections 16 --threads 2 --keys 1000 --value-size 65536"),
 ]
-
-
-def free_port():
-    with socket.socket() as it:
-        it.bind(("127.0.0.1", 0))
-        return it.getsockname()[1]
 
 
 class Server:

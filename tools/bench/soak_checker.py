@@ -10,7 +10,7 @@ BATCH = 40
 KEYS = 60
 
 # No more than this is sent before replies are read: both ways of a connection hold it, so that nobody waits for the other.
-MOST_SENT = 50_000
+MAX_SENT = 50_000
 
 
 class Checker:
@@ -41,7 +41,7 @@ class Checker:
 
     def round(self):
         sent, readers = b"", []
-        while len(readers) < BATCH and len(sent) < MOST_SENT:
+        while len(readers) < BATCH and len(sent) < MAX_SENT:
             command, reader = self.next()
             sent += command
             readers.append(reader)

@@ -27,16 +27,16 @@ from tools.served import Line, Server
 ROUNDS, COMMANDS = 5, 3000
 
 # How many times as long the 99th percentile may be beside the load.
-MOST_TIMES = 10
+MAX_TIMES = 10
 
 # How often the rounds are run until the bound holds.
 ATTEMPTS = 3
 
 # The fewest replies a second with which the load is one.
-LEAST_RATE = 20_000
+MIN_RATE = 20_000
 
 # The same beside clients that hardly read.
-MOST_TIMES_UNREAD = 3
+MAX_TIMES_UNREAD = 3
 
 # The most microseconds of the 99th percentile beside commands that no shard is asked for.
 LATEST = 100_000
@@ -154,21 +154,21 @@ def port():
 def test_beside_a_load(port):
     for _ in range(ATTEMPTS):
         quiet, loaded, rate = measured(port, sends_without_end)
-        if rate >= LEAST_RATE and loaded <= MOST_TIMES * quiet:
+        if rate >= MIN_RATE and loaded <= MAX_TIMES * quiet:
             break
-    assert rate >= LEAST_RATE
-    assert loaded <= MOST_TIMES * quiet
+    assert rate >= MIN_RATE
+    assert loaded <= MAX_TIMES * quiet
 
 
 def test_beside_one_that_asks_no_shard(port):
     _quiet, loaded, rate = measured(port, functools.partial(sends_without_end, asked=b"mn\r\n", reply=b"MN\r\n"))
-    assert rate >= LEAST_RATE
+    assert rate >= MIN_RATE
     assert loaded <= LATEST
 
 
 def test_beside_slow_readers(port):
     for _ in range(ATTEMPTS):
         quiet, loaded, _rate = measured(port, hardly_reads)
-        if loaded <= MOST_TIMES_UNREAD * quiet:
+        if loaded <= MAX_TIMES_UNREAD * quiet:
             break
-    assert loaded <= MOST_TIMES_UNREAD * quiet
+    assert loaded <= MAX_TIMES_UNREAD * quiet

@@ -368,7 +368,10 @@ CALLS = {
     "ignores that it is to be verbose": without(["--verbose", "-v"]), "ignores that it is to plan": without(["--plan"]),
     "ignores the rules of memcached": without(["--drop-in"]), "ignores a line limit": without(["--line-limit"]),
     "ignores a budget": without(["--bytes", "--memory"]),
-    "ignores the number of shards": without(["--shards"]), "ignores the moment": without(["--at"]), "ignores the window": without(["--window"]),
+    "ignores the number of shards": without(["--shards"]), "ignores the moment": without(["--at"]),
+    "never lets clients end it": without(["--enable-shutdown", "-A"]),
+    "has memcached's rules": lambda words: [*words, "--drop-in"], "lets each client end it": lambda words: [*words, "-A"],
+    "ignores the window": without(["--window"]),
     "ignores the idle timeout": without(["--idle-timeout"]),
     "ignores the mode of a socket": without(["--unix-mask", "-a"]),
     "ignores the number of connections": without(["--connections"]), "serves no metrics": without(["--metrics"]), "has a clock that stands still": stands_still,
@@ -405,7 +408,7 @@ def times(factor):
 # Faults of a line that it prints.
 TEXTS = {
     "warns of nothing": lambda text: "" if "warning" in text else text,
-    "names its own rules alone": lambda text: text.replace("memcached's rules", "own rules"),
+    "names the native rules alone": lambda text: text.replace("memcached's rules", "native rules"),
     "counts open files otherwise": lambda text: re.sub(r"needs \d+ open files", "needs 30 open files", text), "plans a third": times(1 / 3),
     "plans ten times as much": times(10),
     "changes what it replays": lambda text: re.sub(r"0a$", "0b", text, flags=re.M),

@@ -5,10 +5,18 @@ import re
 import subprocess
 import sys
 import threading
+import time
 
 from tools.served import started
 
+
+def late(text):
+    time.sleep(6)
+    return text
+
+
 PAGES = {
+    "answers late": late,
     "counts otherwise": lambda text: re.sub(r"(?m)(?<=[ >])([\d,]+)(?=$|[ <])", lambda it: f"{int(it[1].replace(',', '') or 0) + 7:,}", text),
     "has another head on its page": lambda text: text.replace("</title>", "!</title>").replace("prefers-color-scheme", "prefers-contrast"),
     "serves half a page": lambda text: text[: len(text) // 2],

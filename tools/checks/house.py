@@ -19,11 +19,10 @@ import sys
 
 sys.path.insert(0, str(pathlib.Path(__file__).resolve().parents[2]))
 
-from tools.sources import COMMENT, CRATES, TOP, files, imports, text_of, without_comments  # noqa: E402
+from tools.sources import COMMENT, CRATES, TOP, clause_spans, files, imports, text_of, without_comments  # noqa: E402
 
 COLUMNS = 100
 CHARACTERS = 600
-CLAUSE = re.compile(r"(?:ensures\*?|requires\*?)\b|ghost (?!use\b)\w+(?: =|:) ")
 TACTIC = re.compile(r"\bproofs(?:::\w+)*::([\w-]+)")
 LEMMA = re.compile(r" *pub (?:(?:unfoldable|abbrev) )?([^\s:(){}]+) :|(?:unfoldable|abbrev) pub ([^\s:(){}]+) :")
 HEAD = re.compile(r"^(?:unfoldable |abbrev )?(?:pub )?(?:unfoldable |abbrev )?([^\s:(){}]+) :", re.M)
@@ -42,16 +41,8 @@ def clauses():
     """The lines of each clause: the file, the number of its first line, and the lines."""
     for file in files("src"):
         lines = text_of(file).splitlines()
-        number = 0
-        while number < len(lines):
-            first, number = number, number + 1
-            if not CLAUSE.match(lines[first].strip()):
-                continue
-            left = lines[first].count("{") - lines[first].count("}")
-            while left > 0 and number < len(lines):
-                left += lines[number].count("{") - lines[number].count("}")
-                number += 1
-            yield file, first + 1, lines[first:number]
+        for first, end in clause_spans(lines):
+            yield file, first + 1, lines[first:end]
 
 
 def cited():

@@ -13,8 +13,8 @@ from tools.served import MIB, STORED, Line, Server, hit_of, set_of
 fails_with = pytest.mark.fails_with
 
 # As many clients as there may be seats, or as many as files may be open here: each is one of ours, and one of the server's.
-MOST_FILES = resource.getrlimit(resource.RLIMIT_NOFILE)[1]
-CROWD = 4096 if MOST_FILES == resource.RLIM_INFINITY else min(4096, MOST_FILES - 256)
+MAX_FILES = resource.getrlimit(resource.RLIMIT_NOFILE)[1]
+CROWD = 4096 if MAX_FILES == resource.RLIM_INFINITY else min(4096, MAX_FILES - 256)
 ROUNDS = 6
 
 # So long a reply may take, in seconds.
@@ -87,7 +87,7 @@ async def crowd(port):
 
 @fails_with("has few seats")
 def test_four_thousand_clients_at_once_are_answered():
-    resource.setrlimit(resource.RLIMIT_NOFILE, (MOST_FILES, MOST_FILES))
+    resource.setrlimit(resource.RLIMIT_NOFILE, (MAX_FILES, MAX_FILES))
     with Server("--seats", CROWD) as server:
         with Line(server.port) as line:
             line.ask(set_of(b"large", b"l" * 16_384), STORED)

@@ -117,6 +117,24 @@ def test_a_client_quits_amid_what_it_sends(server):
             assert line.rest() == b"MN\r\n"
 
 
+@fails_with("drops connections")
+def test_what_came_before_a_reset_is_stored(server, count=40):
+    """Each client sends a set without a reply and resets its connection, which doesn't take back what it has sent."""
+    for number in range(count):
+        line = Line(server.port)
+        line.send(b"set k%d 0 0 1 noreply\r\nv\r\n" % number)
+        line.reset()
+    wanted = b"".join(b"VALUE k%d 0 1\r\nv\r\n" % number for number in range(count)) + b"END\r\n"
+    asked = b"get " + b" ".join(b"k%d" % number for number in range(count)) + b"\r\n"
+    deadline, found = time.monotonic() + 10, b""
+    while found != wanted and time.monotonic() < deadline:
+        with Line(server.port) as line:
+            line.send(asked)
+            line.end()
+            found = line.rest()
+    assert found == wanted
+
+
 def counts_up(port, until, faults):
     """The checker beside the kills: its own key is stored, counted up and read, and must be what it was told."""
     try:

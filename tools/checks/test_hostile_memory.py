@@ -120,6 +120,21 @@ def test_a_line_of_keys_leaves_no_room_behind():
         within(server.resident() - before, 24 * MIB)
 
 
+@fails_with("takes 1 MiB a connection")
+def test_one_connection_after_another_takes_what_one_does():
+    """Of each four one sends a line without end, one a block that is cut short, one a value, and one requests a line of keys."""
+    keys = b"get " + b" ".join(b"%04x" % it for it in range(13_000)) + b"\r\n"
+    with served() as server:
+        before = server.resident()
+        for number in range(200):
+            value = set_of(b"v%d" % (number % 7), b"v" * 500_000)
+            for asked, wanted in (b"x" * 65_000, b""), (b"set cut 0 0 1000000\r\n" + b"v" * 900_000, b""), (value, STORED), (keys, b"END\r\n"):
+                with Line(server.port) as line:
+                    line.ask(asked, wanted)
+        bound = (term("line") + term("commands")) * MIB + term("value") * VALUE_LIMIT + SHARDS * BUDGET
+        within(server.most_resident() - before, bound)
+
+
 @fails_with("takes 4 MiB a connection")
 def test_values_but_for_a_byte_are_bounded():
     with served() as server:

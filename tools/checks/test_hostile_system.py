@@ -117,6 +117,38 @@ def test_open_files_that_run_out_refuse_by_memcacheds_rules():
     assert again and took <= 0.05
 
 
+def replied(line):
+    """Returns the reply to the one command of a connection, or nothing if it was closed."""
+    try:
+        return line.read(len(ANSWERED))
+    except ConnectionResetError:
+        return b""
+
+
+@fails_with("is another process", "spins")
+def test_connections_that_find_no_memory_are_closed():
+    """Each is served or closed, threads sleep, and others are served. Once there is memory, all are."""
+    with Server("--seats", 64) as server, Line(server.port) as first:
+        first.ask(ASKED, ANSWERED)
+        most = server.taken() + 512 * 1024
+        resource.prlimit(server.process.pid, resource.RLIMIT_AS, (most, resource.RLIM_INFINITY))
+        lines = [Line(server.port, timeout=10) for _ in range(32)]
+        for line in lines:
+            line.send(ASKED)
+        found = [replied(line) for line in lines]
+        took = idle_seconds(server)
+        first.ask(ASKED, ANSWERED)
+        resource.prlimit(server.process.pid, resource.RLIMIT_AS, (resource.RLIM_INFINITY, resource.RLIM_INFINITY))
+        for line in lines:
+            line.close()
+        again = [Line(server.port) for _ in range(60)]
+        for line in again:
+            line.ask(ASKED, ANSWERED)
+            line.close()
+    print(f"{found.count(b'')} of {len(found)} closed, {took:.2f} s of processor time in 3 s")
+    assert set(found) == {ANSWERED, b""} and took <= 0.5
+
+
 @fails_with("ends with 0")
 def test_a_lost_listener_ends_the_program():
     """No more connections can come: those that are served are served to their end, and then the program says so."""

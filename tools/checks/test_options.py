@@ -446,24 +446,24 @@ def test_a_wall_clock_that_is_set_moves_no_expiry():
             ask(b"get long\r\n", hit_of(b"long", b"x"))
 
 
-WITH_STDIO = "--stdio, which takes --at, --shards, --bytes, --memory, --memory-limit, --value-limit, --line-limit, --window and --drop-in"
-NUMBER = "takes a number from {0} to {1}, not '{2}'"
-SIZE = "takes a number of bytes from {0} to {1}, or a size such as 64k, 64m or 4g, not '{2}'"
-TWO_BUDGETS = "--bytes, --memory and --memory-limit don't go together: --bytes is for each shard, the others for all of them"
-ITEMS = "there is no option --items: --bytes says what the items of a shard may cost together"
+WITH_STDIO = "--stdio, which takes only --at, --shards, --bytes, --memory, --memory-limit, --value-limit, --line-limit, --window and --drop-in"
+NUMBER = "expects a number from {0} to {1}, not '{2}'"
+SIZE = "expects a size from {0} to {1} bytes, such as 64k, 64m or 4g, not '{2}'"
+TWO_BUDGETS = "use only one of --bytes (for each shard), --memory and --memory-limit (for all shards)"
+ITEMS = "there is no option --items: limit the items of each shard by --bytes"
 
 # Calls, and what is told of them behind `mcd: `.
 FAULTS = [
     ("--items 5", ITEMS), ("--items 5 --replay x --shards 2", ITEMS),
-    *((f"--replay x --{name} 2", f"--{name} doesn't go with --replay, which takes no other option")
+    *((f"--replay x --{name} 2", f"--{name} can't be used with --replay, which takes no other option")
       for name in ("at", "listen", "shards", "seats", "bytes", "memory", "value-limit", "line-limit", "window", "connections", "idle-timeout",
                    "metrics", "port", "memory-limit", "udp-port", "user", "pidfile")),
-    *((f"--replay x --{name}", f"--{name} doesn't go with --replay, which takes no other option")
-      for name in ("stdio", "verbose", "drop-in", "plan", "daemon")),
-    *((f"--stdio --{name} 2", f"--{name} doesn't go with {WITH_STDIO}")
+    *((f"--replay x --{name}", f"--{name} can't be used with --replay, which takes no other option")
+      for name in ("stdio", "verbose", "drop-in", "plan", "daemon", "enable-shutdown")),
+    *((f"--stdio --{name} 2", f"--{name} can't be used with {WITH_STDIO}")
       for name in ("listen", "seats", "connections", "idle-timeout", "metrics", "port", "udp-port", "user", "pidfile")),
-    *((f"--stdio --{name}", f"--{name} doesn't go with {WITH_STDIO}") for name in ("verbose", "plan", "daemon")),
-    ("--at 5", "--at goes with --stdio alone"), ("--at 5 --seats 65537", "--at goes with --stdio alone"),
+    *((f"--stdio --{name}", f"--{name} can't be used with {WITH_STDIO}") for name in ("verbose", "plan", "daemon", "enable-shutdown")),
+    ("--at 5", "--at needs --stdio"), ("--at 5 --seats 65537", "--at needs --stdio"),
     ("--bytes 64k --memory 1m", TWO_BUDGETS),
     ("--seats 65537", "--seats " + NUMBER.format(1, 65536, "65537")), ("--seats 2k", "--seats " + NUMBER.format(1, 65536, "2k")),
     ("--shards 0", "--shards " + NUMBER.format(1, 64, "0")), ("--window 4097", "--window " + NUMBER.format(1, 4096, "4097")),
@@ -551,7 +551,7 @@ def test_few_open_files_are_told():
     """Where fewer may be open than all seats need, the program says so and goes on."""
     with running(limited("-n 20", "--seats", "30"), stderr=subprocess.PIPE) as process:
         port = int(process.stderr.readline().rpartition(b":")[2])
-        assert process.stderr.readline() == b"mcd: --seats 30 needs 45 open files, and 20 are allowed (ulimit -n)\n"
+        assert process.stderr.readline() == b"mcd: warning: --seats 30 needs 45 open files, but only 20 are allowed (ulimit -n)\n"
         with Line(port) as line:
             line.ask(b"mn\r\n", b"MN\r\n")
 
@@ -565,6 +565,6 @@ def ended_under(limit, *words):
 @fails_with("ends with 0")
 def test_what_the_system_refuses_is_told():
     """Without the open files that the threads need, and without memory."""
-    assert ended_under("-n 8", "--shards", "16") == (1, ["mcd: cannot start a thread", "mcd: --shards 16 needs a thread for each, and three open files"])
+    assert ended_under("-n 8", "--shards", "16") == (1, ["mcd: cannot start a thread", "mcd: --shards 16 needs 16 threads, and three open files each"])
     status, told = ended_under("-v 100000", "--shards", "16", "--seats", "4096")
     assert (status, told[-1]) == (1, "mcd: out of memory")

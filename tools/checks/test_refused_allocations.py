@@ -30,7 +30,7 @@ TESTS = [
     ("mc_serving_tests", "sim::a_refused_allocation_gives_up_one_command", 40),
     ("mc_serving_tests", "sim::a_worker_takes_no_memory", 8),
     ("mc_serving_tests", "settle::a_refused_allocation_stops_it", 40),
-    ("mc_serving_tests", "line::a_refused_allocation", 40),
+    ("mc_serving_tests", "line::a_refused_allocation", 37),
     ("mc_serving_tests", "start::a_refused_start", 20),
 ]
 
@@ -38,7 +38,7 @@ TESTS = [
 WITHOUT_MEMORY = [
     ("mc_protocol_tests", "wire::faults_of_words_take_no_memory", 0),
     ("mc_protocol_tests", "wire::short_keys_take_no_memory", 0),
-    ("mc_serving_tests", "without_memory::words_numbers_and_items", 4),
+    ("mc_serving_tests", "without_memory::words_numbers_and_items", 3),
     ("mc_serving_tests", "without_memory::lines_without_a_key_and_skipped_blocks", 1),
     ("mc_serving_tests", "without_memory::operations_on_a_present_key", 10),
     ("mc_serving_tests", "without_memory::rings_that_have_room", 4),

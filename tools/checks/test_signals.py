@@ -14,8 +14,8 @@ from tools.served import LISTENING, MIB, NO_OP, NO_OP_REPLY, STORED, Line, Serve
 
 fails_with = pytest.mark.fails_with
 BLOCKING = ["env", "--block-signal=TERM,INT,HUP"]
-IN_ORDER = "mcd: ended by a signal, all replies written"
-CUT_OFF = "mcd: ended by a signal, connections cut off (--drain)"
+IN_ORDER = "mcd: stopped by a signal, all replies written"
+CUT_OFF = "mcd: stopped by a signal, connections cut off (--drain)"
 
 # It looks for a signal four times a second, and waits half a second for the end of a peer's bytes; a busy machine takes longer.
 SOON = 4
@@ -57,10 +57,10 @@ def test_each_signal_ends_it_in_order():
 
 
 @contextlib.contextmanager
-def unread_replies(drain):
-    """A server that drains for so long, a connection that has read none of the replies to what it sent, and those replies."""
+def unread_replies(started, drain):
+    """A server, started so, that drains for so long, a connection that has read none of the replies to what it sent, and those replies."""
     value = b"v" * (8 * MIB)
-    with blocked("--value-limit", "8m", "--memory", "64m", "--drain", drain) as server, Line(server.port, room=4096) as line:
+    with started("--value-limit", "8m", "--memory", "64m", "--drain", drain) as server, Line(server.port, room=4096) as line:
         line.ask(set_of(b"a", value), STORED)
         line.send(8 * b"get a\r\n")
         time.sleep(0.5)
@@ -70,7 +70,7 @@ def unread_replies(drain):
 @fails_with("unblocks its signals", "cuts connections off at once")
 def test_what_was_taken_is_answered():
     """Replies that find no room on the way wait until their client takes them."""
-    with unread_replies(20) as (server, line, wanted):
+    with unread_replies(blocked, 20) as (server, line, wanted):
         began = told_to_end(server)
         time.sleep(1)
         assert server.is_running()
@@ -82,7 +82,7 @@ def test_what_was_taken_is_answered():
 
 @fails_with("cuts connections off at once", "drains for an hour")
 def test_one_that_takes_nothing_is_cut_off():
-    with unread_replies(3) as (server, _, _):
+    with unread_replies(blocked, 3) as (server, _, _):
         took = ends(server, CUT_OFF, told_to_end(server), within=3 + SOON)
         assert 3 <= took
         print(f"after {took:.1f} s")

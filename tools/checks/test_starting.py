@@ -76,7 +76,7 @@ def test_each_letter():
     """Each letter does what its long option does."""
     port = free_port()
     with listening("-p", str(port), "-l", "127.0.0.1", "-m", "96", "-t", "3", "-c", "5", "-I", "2k", "-U", "0", "-v") as (where, said):
-        assert (where, said[0]) == (f"127.0.0.1:{port}", f"mcd {version()}: own rules, 3 threads, 96 MiB, listening on 127.0.0.1:{port}")
+        assert (where, said[0]) == (f"127.0.0.1:{port}", f"mcd {version()}: native rules, 3 threads, 96 MiB, listening on 127.0.0.1:{port}")
         with Line(port) as line:
             line.ask(set_of(b"a", b"x" * 2048) + set_of(b"a", b"x" * 2049), STORED + TOO_LARGE)
     for words in (["-c", "1"], ["-c1"], ["--seats", "1"]):
@@ -93,8 +93,8 @@ def version():
     return ended("--version")[1].split()[1]
 
 
-NUMBER = "takes a number from {0} to {1}, not '{2}'"
-TWO_BUDGETS = "--bytes, --memory and --memory-limit don't go together: --bytes is for each shard, the others for all of them"
+NUMBER = "expects a number from {0} to {1}, not '{2}'"
+TWO_BUDGETS = "use only one of --bytes (for each shard), --memory and --memory-limit (for all shards)"
 
 # Calls, and what is said of them behind `mcd: `.
 FAULTS = [
@@ -104,10 +104,11 @@ FAULTS = [
     ("-m 65537 -t 1", "--memory-limit " + NUMBER.format(1, 65536, "65537")),
     ("-c 0", "--seats " + NUMBER.format(1, 65536, "0")), ("-t 65", "--shards " + NUMBER.format(1, 64, "65")),
     ("-m 64 --memory 64m", TWO_BUDGETS), ("-m 64 --bytes 64k", TWO_BUDGETS), ("-m 64 --memory 64m --bytes 64k", TWO_BUDGETS),
-    *((f"-s mcd.socket -a {word}", f"--unix-mask takes an octal number from 0 to 777, not '{word}'") for word in ("778", "1000", "8", "rwx", "0x1ff", "u=rwx")),
-    ("--stdio -s mcd.socket", "--unix-socket doesn't go with --stdio, which takes --at, --shards, --bytes, --memory, --memory-limit, --value-limit, "
+    *((f"-s mcd.socket -a {word}", f"--unix-mask expects an octal mode from 0 to 777, not '{word}'") for word in ("778", "1000", "8", "rwx", "0x1ff", "u=rwx")),
+    ("--stdio -s mcd.socket", "--unix-socket can't be used with --stdio, which takes only --at, --shards, --bytes, --memory, --memory-limit, --value-limit, "
                               "--line-limit, --window and --drop-in"),
-    ("--replay a -a 700", "--unix-mask doesn't go with --replay, which takes no other option"),
+    ("--replay a -A", "--enable-shutdown can't be used with --replay, which takes no other option"),
+    ("--replay a -a 700", "--unix-mask can't be used with --replay, which takes no other option"),
 ]
 
 
@@ -302,12 +303,12 @@ def test_a_fault_comes_before_it_listens():
     assert (status, out, said.splitlines()[0], "--listen no-such-host.invalid:11211: " in said) == (1, "", "mcd: cannot listen", True)
 
 
-@fails_with("names its own rules alone")
+@fails_with("names the native rules alone")
 def test_the_line_at_the_start():
     with Server("--drop-in", "--memory", "8m", "--shards", "4") as server:
         assert server.before == []
     with listening("--listen", "127.0.0.1:0", "--memory", "2k") as (where, said):
-        assert said[0] == f"mcd {version()}: own rules, 2 threads, 0 MiB, listening on {where}"
+        assert said[0] == f"mcd {version()}: native rules, 2 threads, 0 MiB, listening on {where}"
     with listening("--listen", "127.0.0.1:0", "--drop-in", "--memory", "3m", "--shards", "3") as (where, said):
         assert said[:1] == [f"mcd {version()}: memcached's rules, 3 threads, 3 MiB, listening on {where}"]
 
@@ -333,17 +334,17 @@ def test_as_many_shards_as_the_memory_needs():
         ("-m 131073", 3, 43691), ("--memory 129g --shards 4", 4, 33024), ("--shards 5", 5, 16), ("--bytes 1m", 2, 1),
     ):
         status, out, _ = ended("--plan", *words.split())
-        assert (status, f", {shards} threads, " in out, f"each shard holds {share} MiB of items" in out) == (0, True, True), words
+        assert (status, f", {shards} threads, " in out, f"each shard holds up to {share} MiB of items" in out) == (0, True, True), words
     for call, most in (("--memory 129g --shards 2", 137438953472), ("--memory 4097g", 4398046511104)):
         status, _, said = ended(*call.split())
-        assert (status, f"to {most}, " in said) == (2, True), call
+        assert (status, f"to {most} bytes, " in said) == (2, True), call
 
 
 @fails_with("warns of nothing")
 def test_a_value_that_no_shard_has_room_for():
     """It is warned of, and the warning is right: so much is stored, and no byte more."""
     with listening("--listen", "127.0.0.1:0", "--memory", "4k") as (where, said):
-        assert said[1:] == ["mcd: warning: --value-limit is 1048576, but a shard has no room for a value above 1983 bytes: give it more --memory"]
+        assert said[1:] == ["mcd: warning: --value-limit is 1048576, but no shard can hold a value above 1983 bytes: raise --memory"]
         with Line(int(where.rpartition(":")[2])) as line:
             line.ask(set_of(b"a", b"x" * 1983) + set_of(b"a", b"x" * 1984), STORED + TOO_LARGE)
     for words in (["--memory", "4k", "--value-limit", "1983"], ["--bytes", "2m"], []):
@@ -355,8 +356,8 @@ def planned(words):
     """What the plan says: MiB at the start, with connections, and for each length of an item without and with an expiry."""
     status, out, _ = ended("--plan", *words)
     assert status == 0
-    start, connected = (int(re.search(rf"^  (\d+) MiB {when}$", out, re.M)[1]) for when in ("at the start", "with a connection on each seat"))
-    full = re.findall(r"^  (\d+) MiB full of items of (\d+) bytes, key and value; (\d+) MiB if each has an expiry$", out, re.M)
+    start, connected = (int(re.search(rf"^  (\d+) MiB {when}$", out, re.M)[1]) for when in ("at startup", "with a connection on each seat"))
+    full = re.findall(r"^  (\d+) MiB when full of items of (\d+) bytes \(key and value\); (\d+) MiB if each has an expiry$", out, re.M)
     return start, connected, {int(length): (int(never), int(expiring)) for never, length, expiring in full}
 
 
@@ -411,7 +412,7 @@ def test_the_plan_prints_alone():
     """It starts nothing, also where the address is taken, and refuses what a server refuses."""
     with Server() as server:
         status, out, said = ended("--plan", "--listen", str(server.port), "--memory", "4g", "--seats", "2000")
-        assert (status, out.splitlines()[0], said) == (0, f"mcd {version()}: own rules, 2 threads, 4096 MiB, 2000 seats", "")
+        assert (status, out.splitlines()[0], said) == (0, f"mcd {version()}: native rules, 2 threads, 4096 MiB, 2000 seats", "")
     assert ended("--plan", "--seats", "0")[0] == 2
     with open("/dev/full", "wb") as full:
         ran = run("--plan", stdout=full)

@@ -26,8 +26,8 @@ from tools.served import LISTENING, MIB, NO_OP, NO_OP_REPLY, STORED, Line, Serve
 fails_with = pytest.mark.fails_with
 
 # As many dead connections as there may be seats, or as many as files may be open here: each is one of ours, and one of the server's.
-MOST_FILES = resource.getrlimit(resource.RLIMIT_NOFILE)[1]
-DEAD = 4096 if MOST_FILES == resource.RLIM_INFINITY else min(4096, MOST_FILES - 256)
+MAX_FILES = resource.getrlimit(resource.RLIMIT_NOFILE)[1]
+DEAD = 4096 if MAX_FILES == resource.RLIM_INFINITY else min(4096, MAX_FILES - 256)
 
 # With a limit of one second a connection is closed after one to three, and a busy machine may take longer.
 LATEST = 10
@@ -94,7 +94,7 @@ def test_one_that_takes_nothing_is_closed():
 
 @fails_with("ignores the idle timeout")
 def test_dead_connections_free_their_seats():
-    resource.setrlimit(resource.RLIMIT_NOFILE, (MOST_FILES, MOST_FILES))
+    resource.setrlimit(resource.RLIMIT_NOFILE, (MAX_FILES, MAX_FILES))
     # They are all there before the first one is given up.
     with Server("--idle-timeout", 5, "--seats", DEAD) as server:
         dead = [Line(server.port) for _ in range(DEAD)]
@@ -132,7 +132,7 @@ def test_each_connection_is_told():
             line.send(b"quit\r\n")
             assert line.rest() == b""
         assert told_of(server, 2) == [f"mcd: 127.0.0.1:{port} on seat 0: opened",
-                                      f"mcd: 127.0.0.1:{port} on seat 0: its client quit; 4 commands, 36 bytes read, 34 bytes written"]
+                                      f"mcd: 127.0.0.1:{port} on seat 0: client quit; 4 commands, 36 bytes read, 34 bytes written"]
 
 
 @fails_with("ignores that it is to be verbose")
@@ -143,7 +143,7 @@ def test_a_client_of_a_unix_socket_is_told():
             line.sendall(b"mn\r\nquit\r\n")
             assert line.recv(100) == NO_OP_REPLY
             assert told_of(server, 2) == ["mcd: unix on seat 0: opened",
-                                          "mcd: unix on seat 0: its client quit; 2 commands, 10 bytes read, 4 bytes written"]
+                                          "mcd: unix on seat 0: client quit; 2 commands, 10 bytes read, 4 bytes written"]
 
 
 @fails_with("ignores that it is to be verbose")
@@ -162,7 +162,7 @@ def test_each_connection_has_one_seat():
                 assert (len(found), found == answered) == (len(answered), True)
             told = [re.sub(r"on seat \d+", "on a seat", it) for it in told_of(server, 2)]
             assert told == [f"mcd: 127.0.0.1:{port} on a seat: opened",
-                            f"mcd: 127.0.0.1:{port} on a seat: its client closed it; 2 commands, {len(asked)} bytes read, {len(answered)} bytes written"]
+                            f"mcd: 127.0.0.1:{port} on a seat: closed by client; 2 commands, {len(asked)} bytes read, {len(answered)} bytes written"]
 
 
 @fails_with("ignores that it is to be verbose")
@@ -172,7 +172,7 @@ def test_one_that_breaks_is_told():
         port = line.socket.getsockname()[1]
         line.ask(NO_OP, NO_OP_REPLY)
         line.reset()
-        assert told_of(server, 2)[1] == f"mcd: 127.0.0.1:{port} on seat 0: a read failed; 1 command, 4 bytes read, 4 bytes written"
+        assert told_of(server, 2)[1] == f"mcd: 127.0.0.1:{port} on seat 0: read failed; 1 command, 4 bytes read, 4 bytes written"
 
 
 @fails_with("ignores the idle timeout")
@@ -180,7 +180,7 @@ def test_one_that_is_idle_is_told():
     with Server("--verbose", "--idle-timeout", 1, "--seats", 1) as server, Line(server.port) as line:
         port = line.socket.getsockname()[1]
         line.ask(NO_OP, NO_OP_REPLY)
-        assert told_of(server, 2)[1] == f"mcd: 127.0.0.1:{port} on seat 0: it was idle for too long; 1 command, 4 bytes read, 4 bytes written"
+        assert told_of(server, 2)[1] == f"mcd: 127.0.0.1:{port} on seat 0: idle timeout; 1 command, 4 bytes read, 4 bytes written"
 
 
 def end_of(options, sent):
@@ -201,16 +201,16 @@ def end_of(options, sent):
 
 # What a client sends, with which options, why its connection ends, and what counts that.
 ENDS = [
-    ([], b"mn\r\n", "its client closed it", set()),
-    ([], b"", "its client closed it", set()),
-    ([], b"mn\r\nquit\r\n", "its client quit", set()),
-    (["--drop-in"], b"quit\r\nmn\r\n", "its client quit", set()),
-    ([], b"get " + b"k" * 70_000 + b"\r\nmn\r\n", "a line was too long", {"line_too_long"}),
-    (["--drop-in"], b"mn\r\nget " + b"k" * 1_100_000, "a line was too long", {"line_too_long"}),
-    (["--line-limit", "2k"], b"mn\r\nget " + b"k" * 3_000 + b"\r\n", "a line was too long", {"line_too_long"}),
-    (["--drop-in"], b"\x80\x0a" + 22 * b"\0", "it speaks memcached's binary protocol", {"binary"}),
-    (["--drop-in"], b"GET / HTTP/1.1\r\nHost: x\r\n\r\n", "it speaks HTTP", {"http"}),
-    (["--drop-in"], b"\x16\x03\x01\x02\x00\x01\x00\x01\xfc\x03\x03", "it speaks TLS", {"tls"}),
+    ([], b"mn\r\n", "closed by client", set()),
+    ([], b"", "closed by client", set()),
+    ([], b"mn\r\nquit\r\n", "client quit", set()),
+    (["--drop-in"], b"quit\r\nmn\r\n", "client quit", set()),
+    ([], b"get " + b"k" * 70_000 + b"\r\nmn\r\n", "line too long", {"line_too_long"}),
+    (["--drop-in"], b"mn\r\nget " + b"k" * 1_100_000, "line too long", {"line_too_long"}),
+    (["--line-limit", "2k"], b"mn\r\nget " + b"k" * 3_000 + b"\r\n", "line too long", {"line_too_long"}),
+    (["--drop-in"], b"\x80\x0a" + 22 * b"\0", "speaks the binary protocol", {"binary"}),
+    (["--drop-in"], b"GET / HTTP/1.1\r\nHost: x\r\n\r\n", "speaks HTTP", {"http"}),
+    (["--drop-in"], b"\x16\x03\x01\x02\x00\x01\x00\x01\xfc\x03\x03", "speaks TLS", {"tls"}),
 ]
 
 
@@ -241,7 +241,7 @@ def test_the_journal_gets_priorities():
             line.ask(NO_OP, NO_OP_REPLY)
         told = told_of(server, 2)
         assert [re.sub(r":\d+ on seat \d+", "", line) for line in told] == ["<6>127.0.0.1: opened",
-                                                                            "<6>127.0.0.1: its client closed it; 1 command, 4 bytes read, 4 bytes written"]
+                                                                            "<6>127.0.0.1: closed by client; 1 command, 4 bytes read, 4 bytes written"]
 
 
 @fails_with("ignores that it is to be verbose")
@@ -262,7 +262,7 @@ def test_no_line_is_lost_at_2000_connections_a_second():
             time.sleep(max(0, began + it / 2000 - time.monotonic()))
         rate = rounds / (time.monotonic() - began)
         reading.join(timeout=30)
-        assert (found.count(b": opened\n"), found.count(b"its client closed it"), found.count(b"dropped")) == (rounds, rounds, 0)
+        assert (found.count(b": opened\n"), found.count(b"closed by client"), found.count(b"dropped")) == (rounds, rounds, 0)
         print(f"{rate:.0f} connections a second")
 
 
@@ -295,7 +295,7 @@ def test_what_finds_no_room_is_counted():
                     line.ask(NO_OP, NO_OP_REPLY)
                 rounds += 1
             elif (said := server.line_said().rstrip()) not in SEATS:
-                found = re.fullmatch(r"mcd: (\d+) lines were dropped here", said)
+                found = re.fullmatch(r"mcd: log lines dropped: (\d+)", said)
                 told, dropped = told + (not found), dropped + int(found[1] if found else 0)
         assert dropped > 0
         print(f"{told} told, {dropped} dropped")
@@ -455,11 +455,11 @@ def test_the_hit_ratio_is_a_percentage():
             page = page_of(server)
             shown = {title: told for title, *told in FIGURE.findall(page)}
             return [shown["Requests"][0], *shown["Hit ratio"], re.search(r'"Hit ratio">.*?<path class="curve" d="([^"]*)"', page, re.S)[1]]
-        eventually(found, ["0/s", "none", "", "", "100%", ""])
+        eventually(found, ["0/s", "n/a", "", "", "100%", ""])
         line.ask(b"set a 0 0 1\r\nx\r\n" + 15 * b"get a\r\n" + 5 * b"get b\r\n",
                  STORED + 15 * b"VALUE a 0 1\r\nx\r\nEND\r\n" + 5 * b"END\r\n")
         eventually(found, ["4/s", "75%", "", "75%", "100%", "M600,25h0"])
-        eventually(found, ["0/s", "none", "", "75%", "100%", "M595,25h0"])
+        eventually(found, ["0/s", "n/a", "", "75%", "100%", "M595,25h0"])
 
 
 @fails_with("serves half a page")
@@ -511,8 +511,10 @@ def test_the_process_is_measured():
     with Watched() as server, Line(server.port) as line:
         for _ in range(5000):
             line.ask(NO_OP, NO_OP_REPLY)
-        before = server.resident()
-        values, used = server.values(), server.cpu_seconds()
+        # /proc is read once a second.
+        time.sleep(1.1)
+        before, used = server.resident(), server.cpu_seconds()
+        values = server.values()
         told = float(re.search(r"^process_cpu_seconds_total (\d+\.\d\d)$", server.metrics(), re.M)[1])
         # More may be taken in between.
         assert before - MIB < values["process_resident_memory_bytes"] < server.resident() + MIB
@@ -532,7 +534,7 @@ def test_open_files_are_counted():
         try:
             for line in lines:
                 line.ask(NO_OP, NO_OP_REPLY)
-            assert counted() == first + 300
+            eventually(counted, first + 300)
         finally:
             for line in lines:
                 line.close()
@@ -545,7 +547,7 @@ def test_the_most_open_files_are_the_limit():
     with Watched(before=["prlimit", "--nofile=1234:4321"]) as server:
         assert server.values()["process_max_fds"] == 1234
         subprocess.run(["prlimit", "--pid", str(server.process.pid), "--nofile=4000:"], check=True)
-        assert server.values()["process_max_fds"] == 4000
+        eventually(lambda: server.values()["process_max_fds"], 4000)
 
 
 @fails_with("counts otherwise")
@@ -673,6 +675,23 @@ def test_items_and_evictions_are_told():
         assert sum(int(by_shard[f'mcd_shard_evicted_total{{shard="{shard}"}}']) for shard in (0, 1)) == 19_999 - 2 * fits
 
 
+@fails_with("counts otherwise")
+def test_expired_items_and_values_too_large_are_told():
+    """Three items expire, one of which was fetched, and five that are stored later look at two each. The metrics and `stats` show the same."""
+    with Watched("--drop-in", "--shards", 1, "--value-limit", 2048) as server, Line(server.port) as line:
+        line.ask(b"".join(b"set dead:%d 0 1 1\r\nx\r\n" % it for it in range(3)) + b"get dead:1\r\n", 3 * STORED + b"VALUE dead:1 0 1\r\nx\r\nEND\r\n")
+        time.sleep(2.1)
+        line.ask(b"".join(set_of(b"live:%d" % it, b"x") for it in range(5)), 5 * STORED)
+        for name in (b"set live:0 0 0", b"ms live:1"):
+            line.ask(name + b" 2049\r\n" + 2049 * b"v" + b"\r\n", b"SERVER_ERROR object too large for cache\r\n")
+        names = ["mcd_items_expired_total", "mcd_values_too_large_total", "memcached_items_evicted_total"]
+        eventually(lambda: [server.values()[name] for name in names], [3, 2, 0])
+        shown = stats_of(line)
+        assert [int(shown[name]) for name in (b"reclaimed", b"expired_unfetched", b"store_too_large")] == [3, 2, 2]
+        line.ask(b"stats reset\r\n", b"RESET\r\n")
+        eventually(lambda: [server.values()[name] for name in names], [0, 0, 0])
+
+
 @fails_with("serves half a page")
 def test_the_version_is_the_programs():
     told = ended("--version")[1]
@@ -760,3 +779,99 @@ def test_bad_http_harms_nobody():
                 it.close()
         assert server.is_running() and found[0] < 1
         print(f"a command took {found[0] * 1000:.0f} ms at most")
+
+
+def pipelines(port, stop):
+    """Asks for the page 600 times at once, and again after the connection ends."""
+    while not stop.is_set():
+        try:
+            with socket.create_connection(("127.0.0.1", port), timeout=2) as line:
+                line.sendall(b"GET / HTTP/1.1\r\nHost: x\r\n\r\n" * 600)
+                while not stop.is_set() and line.recv(1 << 18):
+                    pass
+        except OSError:
+            pass
+
+
+def seconds_to_probe(server):
+    began = time.monotonic()
+    assert server.get("/healthz")[0] == 200
+    return time.monotonic() - began
+
+
+@fails_with("answers late")
+def test_who_pipelines_keeps_no_probe_out():
+    """A client has one answer a turn, however many requests it has sent: a probe waits for one of each."""
+    with Watched() as server:
+        stop = threading.Event()
+        asking = [threading.Thread(target=pipelines, args=(server.metrics_port, stop)) for _ in range(16)]
+        try:
+            for it in asking:
+                it.start()
+            time.sleep(0.5)
+            slowest = max(seconds_to_probe(server) for _ in range(8))
+        finally:
+            stop.set()
+            for it in asking:
+                it.join()
+    print(f"a probe took {slowest:.2f} s at most")
+    assert slowest < 5
+
+
+def bytes_read(server):
+    text = pathlib.Path(f"/proc/{server.process.pid}/io").read_text()
+    return int(re.search(r"^rchar: (\d+)", text, re.M)[1])
+
+
+def next_answer(line):
+    """Reads one answer of a connection of HTTP that stays open."""
+    found = line.recv(1 << 18)
+    while b"\r\n\r\n" not in found:
+        found += line.recv(1 << 18)
+    head, _, body = found.partition(b"\r\n\r\n")
+    length = int(re.search(rb"content-length: (\d+)", head, re.I)[1])
+    while len(body) < length:
+        body += line.recv(1 << 18)
+
+
+@fails_with("is another process")
+def test_the_systems_tables_are_read_once_a_second():
+    """They may be long. 500 answers one after another read them as often as seconds pass."""
+    with Watched() as server, socket.create_connection(("127.0.0.1", server.metrics_port), timeout=30) as line:
+        asked = b"GET /metrics HTTP/1.1\r\nHost: x\r\n\r\n"
+        tables = [pathlib.Path(f"/proc/{server.process.pid}/{name}") for name in ("net/tcp", "net/tcp6", "stat")]
+        long = 2 * sum(len(it.read_text()) for it in tables)
+        before, began = bytes_read(server), time.monotonic()
+        for _ in range(500):
+            line.sendall(asked)
+            next_answer(line)
+        passed = time.monotonic() - began
+        assert bytes_read(server) - before <= 500 * len(asked) + (passed + 2) * long
+        before = bytes_read(server)
+        time.sleep(1.1)
+        line.sendall(asked)
+        next_answer(line)
+        assert bytes_read(server) > before
+
+
+@fails_with("is another process")
+def test_metrics_are_served_where_no_file_is_left():
+    """One client at a time finds a file, though the cache's clients hold all and more wait. A silent one is replaced by the next."""
+    with Watched("--seats", 64) as server:
+        lines = [Line(server.port)]
+        try:
+            lines[0].ask(NO_OP, NO_OP_REPLY)
+            most = len(os.listdir(f"/proc/{server.process.pid}/fd")) + 1
+            resource.prlimit(server.process.pid, resource.RLIMIT_NOFILE, (most, most))
+            lines += [Line(server.port) for _ in range(8)]
+            lines[1].ask(NO_OP, NO_OP_REPLY)
+            for _ in range(4):
+                assert server.get("/healthz")[0] == 200
+            values = server.values()
+            assert values["process_open_fds"] == most and values["mcd_accepts_failed_total"] > 0
+            with socket.create_connection(("127.0.0.1", server.metrics_port)):
+                time.sleep(0.5)
+                assert server.get("/healthz")[0] == 200
+        finally:
+            for line in lines:
+                line.close()

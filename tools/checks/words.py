@@ -16,14 +16,15 @@ TOP = pathlib.Path(__file__).resolve().parent.parent.parent
 # The documents that are held to the list.
 PLAIN = [
     "README.md", "CONTRIBUTING.md", "tools/README.md", "docs/PROTOCOL.md", "docs/OPERATING.md", "docs/CLIENTS.md", "docs/REPLAY.md",
-    "docs/PROOFS.md", "docs/ARCHITECTURE.md", "docs/BENCHMARKS.md", "docs/SECURITY.md", "docs/SCALING.md",
+    "docs/PROOFS.md", "docs/ARCHITECTURE.md", "docs/BENCHMARKS.md", "docs/SECURITY.md", "docs/SCALING.md", "docs/DECISIONS.md",
+    "packaging/mcd.1",
 ]
 
 # The crates whose comments are held to the list: those in src, specs and proofs.
 CLEAN = [
-    "mc_command", "mc_connection_tests", "mc_doors", "mc_history", "mc_join", "mc_laws", "mc_metrics", "mc_model", "mc_options",
-    "mc_plain", "mc_protocol_tests", "mc_reader", "mc_replay", "mc_reply", "mc_rows", "mc_sim", "mc_sizes", "mc_trials", "mc_wake",
-    "mc_watch", "mc_wire",
+    "mc_cells", "mc_command", "mc_connection_tests", "mc_doors", "mc_history", "mc_join", "mc_laws", "mc_metrics", "mc_model",
+    "mc_options", "mc_plain", "mc_protocol_tests", "mc_reader", "mc_replay", "mc_reply", "mc_rows", "mc_server",
+    "mc_serving_tests", "mc_sim", "mc_sizes", "mc_trials", "mc_wake", "mc_watch", "mc_wire", "mcd",
 ]
 
 # What not to write, and what to write for it.

@@ -75,12 +75,12 @@ ROWS = [
     ("a bad data chunk", SET, b"set k 0 0 1\r\nxyz", ""),
     ("a bad data chunk of ms", SET, b"ms k 1\r\nxyz", ""),
     # Values that are too large.
-    ("too large a value of set", SET, block(b"set k 0 0 %d", LONG + b"v"), ""),
-    ("too large a value of set, without a reply", SET, block(b"set k 0 0 %d noreply", LONG + b"v"), ""),
-    ("too large a value of set, of no item", b"", block(b"set k 0 0 %d", LONG + b"v"), ""),
+    ("too large a value of set", SET, block(b"set k 0 0 %d", LONG + b"v"), "store_too_large"),
+    ("too large a value of set, without a reply", SET, block(b"set k 0 0 %d noreply", LONG + b"v"), "store_too_large"),
+    ("too large a value of set, of no item", b"", block(b"set k 0 0 %d", LONG + b"v"), "store_too_large"),
     ("too large a value of add", b"", block(b"add k 0 0 %d", LONG + b"v"), ""),
-    ("too large a value of ms", SET, block(b"ms k %d", LONG + b"v"), ""),
-    ("too large a value of ms, of no item", b"", block(b"ms k %d", LONG + b"v"), ""),
+    ("too large a value of ms", SET, block(b"ms k %d", LONG + b"v"), "store_too_large"),
+    ("too large a value of ms, of no item", b"", block(b"ms k %d", LONG + b"v"), "store_too_large"),
     ("append of what becomes too large", FULL, block(b"append k 0 0 %d"), "cmd_set"),
     ("ms MA of what becomes too large", FULL, block(b"ms k %d MA"), "cmd_set"),
     # Deleting and flushing.
@@ -127,6 +127,7 @@ ROWS = [
 BESIDE = {
     "a bad data chunk": ("a bad data chunk", "cmd_set"),
     "a bad data chunk of ms": ("a bad data chunk", "cmd_set"),
+    "too large a value of add": ("too large a value", "store_too_large"),
     "incr to more digits": ("a number that gets longer", "total_items"),
     "ma to more digits": ("a number that gets longer", "total_items"),
     "a refused flush_all": ("a refused `flush_all`", "cmd_flush"),

@@ -43,7 +43,7 @@ OF_SERVER = {
     "pid", "uptime", "time", "max_connections", "curr_connections", "total_connections", "rejected_connections", "bytes_read", "bytes_written",
 }
 # What it counts by itself on one of the servers: what is held, when memcached's own threads remove what is dead.
-NOT_COUNTED = {"limit_maxbytes", "bytes", "curr_items", "evictions", "threads"} | OF_SERVER
+NOT_COUNTED = {"limit_maxbytes", "bytes", "curr_items", "evictions", "reclaimed", "expired_unfetched", "threads"} | OF_SERVER
 
 
 class Peer:
@@ -154,7 +154,7 @@ BROKEN_BY_MEMCACHED = [
     b"set %b 0 0 2147483647", b"set %b 0 0 -1", b"ms %b 2147483647", b"ms %b -1", b"cas %b 0 0 1", b"set %b 0 0 x noreply", b"incr %b x noreply",
     b"touch %b x noreply", b"delete %b 7 noreply", b"incr %b 1 2 noreply", b"touch %b 0 0 0", b"touch %b 0 another", b"delete %b another", b"gat x %b",
     b"verbosity noreply", b"verbosity x", b"verbosity 1 2 3", b"flush_all -1 another", b"version 1", b"mn 1", b"delete " + LONG_KEY + b" noreply",
-    b"get %b " + LONG_KEY]
+    b"get %b " + LONG_KEY, b"shutdown", b"shutdown graceful", b"shutdown %b noreply"]
 
 
 def flags(letters, most, drop_in):
@@ -310,6 +310,7 @@ def differs_later(drop_in, asked):
 # What docs/PROTOCOL.md names of the counters: its name there, what the command looks like, what both reply, and the counters that
 # memcached lets grow by one more.
 STATS_NAMED = [
+    ("too large a value", rb"(add|replace|append|prepend|cas) .*", rb"(SERVER_ERROR object too large .*)?", {"store_too_large"}),
     ("a bad data chunk", rb"(set|add|replace|append|prepend|cas|ms) .*", rb"(CLIENT_ERROR bad data chunk\r\n)?.*", {"cmd_set"}),
     ("a number that gets longer", rb"(incr|decr|ma) .*", rb".*", {"total_items"}),
     ("a refused `flush_all`", rb"flush_all .*", rb"(CLIENT_ERROR .*)?", {"cmd_flush"}),
@@ -343,6 +344,7 @@ REASONS = {
     "the order of marks": "by its own rules W is first",
     "what counts as a use": "each use is noted, in its own second",
     "numbers aren't padded": "a number has its digits alone",
+    "too large a value": "the line is refused before a shard is asked",
     "a bad data chunk": "the line is refused before a shard is asked",
     "a number that gets longer": "it stays the same item",
     "a refused `flush_all`": "the line is refused before a shard is asked",
@@ -367,13 +369,13 @@ def counts_differ(asked, reply, ours, theirs):
 
 
 @contextlib.contextmanager
-def memcached():
-    """memcached at a port; none where it isn't installed."""
+def memcached(*options):
+    """memcached with these options at a port; none where it isn't installed."""
     if not shutil.which("memcached"):
         yield None
         return
     port = free_port()
-    with running(["memcached", "-u", "nobody", "-l", "127.0.0.1", "-p", str(port), "-m", "64", "-t", "1"]):
+    with running(["memcached", "-u", "nobody", "-l", "127.0.0.1", "-p", str(port), "-m", "64", "-t", "1", *options]):
         assert is_up(port)
         yield port
 
@@ -392,7 +394,7 @@ def test_each_difference_has_its_reason():
 
 
 def test_the_page_says_which_are_gone(page):
-    assert sorted(name for name in NAMES if re.search(rf"^.*\*\*{re.escape(name)}\*\*.*Gone with `--drop-in`", page, re.M)) == sorted(GONE)
+    assert sorted(name for name in NAMES if re.search(rf"^\| .*\*\*{re.escape(name)}\*\*.*\| gone[^|]*\|$", page, re.M)) == sorted(GONE)
 
 
 @pytest.fixture(scope="module")
@@ -450,6 +452,40 @@ def test_stats_shows_the_server_as_memcached_does():
         theirs, wanted = server_shown(port, process)
     assert [name for name in theirs if name in names] == names
     assert shown == wanted
+
+
+def all_of(port, sent):
+    """What a server answers until it ends the connection."""
+    with socket.create_connection(("127.0.0.1", port), timeout=20) as asked:
+        asked.sendall(sent)
+        found = b""
+        while got := asked.recv(1 << 16):
+            found += got
+    return found
+
+
+def refuses(port):
+    """Whether a server that ends refuses connections within 20 seconds."""
+    end = time.monotonic() + 20
+    while time.monotonic() < end:
+        try:
+            socket.create_connection(("127.0.0.1", port), timeout=1).close()
+        except OSError:
+            return True
+        time.sleep(0.05)
+    return False
+
+
+@pytest.mark.fails_with("never lets clients end it")
+@pytest.mark.skipif(not shutil.which("memcached"), reason="memcached isn't installed")
+@pytest.mark.parametrize("form", [b"shutdown", b"shutdown graceful", b" shutdown "])
+def test_shutdown_ends_both(form):
+    """Where clients may end them: both refuse other modes, answer what comes before, and nothing behind."""
+    sent = b"shutdown x\r\nshutdown noreply\r\nshutdown graceful x\r\nset a 0 0 1\r\nx\r\nget a\r\n" + form + b"\r\nget a\r\n"
+    with Server("--drop-in", "-A") as ours, memcached("-A") as port:
+        assert all_of(ours.port, sent) == all_of(port, sent)
+        assert ours.process.wait(timeout=20) == 0
+        assert refuses(port)
 
 
 @pytest.mark.fails_with("changes a byte")

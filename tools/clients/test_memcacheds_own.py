@@ -50,7 +50,7 @@ OTHERWISE = {
     "idle-timeout": {1: STATS, 9: STATS},
     "issue_152": {2: TEXT},
     "issue_163": {4: STATS},
-    "issue_183": {2: STATS, 5: STATS},
+    "issue_183": {5: "reclaimed, of an item that flush_all removed"},
     "issue_22": {43: "stats items", 84: "stats items"},
     "issue_3": {2: TEXT},
     "issue_42": {11: "stats slabs"},

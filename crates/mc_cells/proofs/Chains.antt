@@ -1,25 +1,26 @@
--- Chains of cells: where they agree, how they are joined, and what a write leaves of them.
-use Rattle.std.proofs.Common.{◌≡◌, ◌≢◌, ℕ, zero, suc, ◌+◌, ◌-◌, ◌<◌, ◌≤◌, cond, eqb, List, [], ◌++◌, length, min, take, refl, ap, zero-add, arith}
+-- Chains of cells: when they are equal, how they are joined, and what a write leaves unchanged.
+use Rattle.std.proofs.Common.{◌≡◌, ◌≢◌, ℕ, zero, suc, ◌+◌, ◌-◌, ◌<◌, ◌≤◌, cond, eqb, List, [], ◌++◌, length, min, take}
+use Rattle.std.proofs.Common.{refl, ap, zero-add, arith}
 use Rattle.std.proofs.lemmas.Bool.{eq-eqb, ne_eqb}
 use Rattle.std.proofs.lemmas.List.{append-nil}
 use Rattle.mc_cells.specs.declared.chain.Cell.{Cell}
 use Rattle.mc_cells.specs.Sizes.{cells_of}
 use Rattle.mc_cells.specs.Chains.{next_of, bytes_of, behind, uses, text_in, text_at, uses_at, Lies}
 
--- a place is among the cells of a chain that begins there
+-- an index is among the cells of a chain that begins there
 at_itself : (place : ℕ) → ◌≡◌ {A = ℕ} (cond (eqb place place) 1 0) 1
 at_itself place = rw (eq-eqb place place refl)
 
 elsewhere : (first place : ℕ) → first ≢ place → ◌≡◌ {A = ℕ} (cond (eqb first place) 1 0) 0
 elsewhere first place other = rw (ne_eqb first place other)
 
--- The first place is among the cells.
+-- The first index is among the cells.
 pub uses-first : (cells : List Cell) (first count : ℕ) → uses cells first (suc count) first ≡ 1 + uses cells
     (next_of cells first) count first
 unfolding uses
 uses-first cells first count = ap (λ n. n + uses cells (next_of cells first) count first) (at_itself first)
 
--- Another place is so where it is among the cells behind.
+-- Another index is among the cells if it is among those after the first.
 pub uses-other : (cells : List Cell) (first count place : ℕ) → first ≢ place
     → uses cells first (suc count) place ≡ uses cells (next_of cells first) count place
 unfolding uses
@@ -31,7 +32,7 @@ pub uses-more : (cells : List Cell) (first count place : ℕ)
 unfolding uses
 uses-more cells first count place = omega arith
 
--- Two lists of cells with the same chain from a place on.
+-- Two lists of cells with equal chains from an index on.
 abbrev pub Agree : List Cell → List Cell → ℕ → ℕ → Type 0
 Agree old new first count = (place : ℕ) → 0 < uses old first count place → next_of new place ≡ next_of old place
 
@@ -43,7 +44,7 @@ pub agree_later : (old new : List Cell) (first count : ℕ) → Agree old new fi
     → Agree old new (next_of old first) count
 agree_later old new first count agree place used = agree place (let e = uses-more old first count place in omega arith)
 
--- the same places are used
+-- equal indices are used
 pub uses-agree : (old new : List Cell) (first count place : ℕ) → Agree old new first count
     → uses new first count place ≡ uses old first count place
 unfolding uses
@@ -55,7 +56,7 @@ uses-agree old new first (suc count) place agree =
           new first count agree),
     )
 
--- the same place is behind
+-- an equal index is after them
 pub behind-agree : (old new : List Cell) (first count : ℕ) → Agree old new first count
     → behind new first count ≡ behind old first count
 unfolding behind
@@ -67,11 +68,11 @@ behind-agree old new first (suc count) agree =
           first count agree),
     )
 
--- the same bytes too
+-- equal bytes too
 abbrev pub SameBytes : List Cell → List Cell → ℕ → ℕ → Type 0
 SameBytes old new first count = (place : ℕ) → 0 < uses old first count place → bytes_of new place ≡ bytes_of old place
 
--- It is the same text where the bytes are the same too.
+-- The text is equal if the bytes are, too.
 pub text-agree : (old new : List Cell) (first count len : ℕ) → Agree old new first count
     → SameBytes old new first count → text_in new first count len ≡ text_in old first count len
 unfolding text_in
@@ -83,7 +84,7 @@ text-agree old new first (suc count) len agree same =
     place used. same place (let e = uses-more old first count place in omega arith)) in
     rw (agree_here old new first count agree, here, later)
 
--- A chain is its first cells and those behind them.
+-- A chain is its first cells and those after them.
 pub uses-append : (cells : List Cell) (first count more place : ℕ)
     → uses cells first (count + more) place ≡ uses cells first count place + uses cells (behind cells first count)
     more place
@@ -94,7 +95,7 @@ uses-append cells first (suc count) more place =
     let later = uses-append cells (next_of cells first) count more place in
     rw (e, later) (omega arith)
 
--- behind one cell more
+-- after one cell more
 pub behind-more : (cells : List Cell) (first count : ℕ) → behind cells first (suc count) ≡ next_of cells (behind
     cells first count)
 unfolding behind
@@ -110,7 +111,7 @@ uses-last cells first (suc count) =
     let e = uses-more cells first (suc count) (behind cells (next_of cells first) count) in
     omega arith
 
--- Where the link of a chain's last cell alone is another one, the chain is the same up to there.
+-- If only the link of a chain's last cell differs, the chains are equal up to there.
 pub uses-relinked : (old new : List Cell) (first count place : ℕ)
     → ((other : ℕ) → other ≢ behind old first count → next_of new other ≡ next_of old other)
     → uses old first (suc count) (behind old first count) ≤ 1
@@ -130,7 +131,7 @@ uses-relinked old new first (suc count) place others once =
 
 -- How many cells a text takes
 
--- A long text takes a cell more than what is behind its first 60 bytes.
+-- A long text takes one cell more than the text after its first 60 bytes.
 pub cells_more : (len : ℕ) → 60 < len → cells_of len ≡ suc (cells_of (len - 60))
 cells_more len more = omega arith
 
@@ -138,7 +139,7 @@ cells_more len more = omega arith
 pub cells_one : (len : ℕ) → 0 < len → len ≤ 60 → cells_of len ≡ 1
 cells_one len some most = omega arith
 
--- A text of some bytes takes some.
+-- A nonempty text takes at least one.
 pub cells_some : (len : ℕ) → 0 < len → cells_of len ≡ suc (cells_of len - 1)
 cells_some len some = omega arith
 
@@ -157,7 +158,7 @@ text-last cells first len some most =
     let all : min len 60 ≡ len = omega arith in
     rw (cells_one len some most, all) (append-nil (take len (bytes_of cells first)))
 
--- the bytes of the first cell, and those behind it
+-- the bytes of the first cell, and those after it
 pub text-more : (cells : List Cell) (first len : ℕ) → 60 < len
     → text_at cells first len ≡ take 60 (bytes_of cells first) ++ text_at cells (next_of cells first) (len - 60)
 unfolding text_in
@@ -175,7 +176,7 @@ pub Lies-first : (cells : List Cell) (first len : ℕ) → 0 < len → Lies cell
 Lies-first cells first len some lies =
     lies.within first (rw (cells_some len some) (let e = uses-first cells first (cells_of len - 1) in omega arith))
 
--- Behind its first cell the rest of a text lies.
+-- The rest of a text is in the cells after its first one.
 pub Lies-more : (cells : List Cell) (first len : ℕ) → 60 < len → Lies cells first len
     → Lies cells (next_of cells first) (len - 60)
 Lies-more cells first len more lies = record {
@@ -194,7 +195,7 @@ Lies-more cells first len more lies = record {
   ));
 }
 
--- Cells with the same links hold the same chains.
+-- Cells with equal links have equal chains.
 pub Lies-linked : (old new : List Cell) (first len : ℕ) → length new ≡ length old → ((place : ℕ)
     → next_of new place ≡ next_of old place) → Lies old first len → Lies new first len
 Lies-linked old new first len size linked lies = record {
@@ -205,22 +206,22 @@ Lies-linked old new first len size linked lies = record {
 
 -- One step along a chain
 
--- behind no cell is the first place
+-- after no cell is the first index
 pub behind-none : (cells : List Cell) (first : ℕ) → behind cells first 0 ≡ first
 unfolding behind
 behind-none cells first = refl
 
--- behind one cell is the place that it names
+-- after one cell is the index that it names
 pub behind-one : (cells : List Cell) (first : ℕ) → behind cells first 1 ≡ next_of cells first
 unfolding behind
 behind-one cells first = refl
 
--- No place is among no cells.
+-- No index is among no cells.
 pub no_uses : (cells : List Cell) (first place : ℕ) → uses cells first 0 place ≡ 0
 unfolding uses
 no_uses cells first place = refl
 
--- behind the cells after the first is what is behind all
+-- the index after the cells that follow the first is the index after all
 pub behind-step : (cells : List Cell) (first count : ℕ) → 0 < count
     → behind cells (next_of cells first) (count - 1) ≡ behind cells first count
 unfolding behind

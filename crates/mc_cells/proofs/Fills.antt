@@ -1,12 +1,15 @@
 -- A text is written into its chain cell by cell.
-use Rattle.std.proofs.Common.{◌≡◌, ◌≢◌, ℕ, suc, ◌-◌, ◌<◌, ◌≤◌, List, [], ◌∷◌, length, take, drop, refl, sym, ap, ◌∙◌, arith}
+use Rattle.std.proofs.Common.{◌≡◌, ◌≢◌, ℕ, suc, ◌-◌, ◌<◌, ◌≤◌, List, [], ◌∷◌, length, take, drop, refl, sym, ap, ◌∙◌}
+use Rattle.std.proofs.Common.{arith}
 use Rattle.std.proofs.lemmas.List.{take-append-drop, length-drop, length-take}
 use Rattle.mc_cells.specs.declared.chain.Cell.{Cell}
 use Rattle.mc_cells.specs.Sizes.{cells_of}
 use Rattle.mc_cells.specs.Chains.{next_of, bytes_of, behind, uses, text_at, uses_at, Lies, Wrote, Written}
-use Rattle.mc_cells.proofs.Chains.{uses-first, uses-other, uses-agree, behind-agree, behind-none, behind-one, cells_more, cells_one, cells_some, text-none, text-last, text-more, uses_at-more, Lies-more, Lies-linked}
+use Rattle.mc_cells.proofs.Chains.{uses-first, uses-other, uses-agree, behind-agree, behind-none, behind-one}
+use Rattle.mc_cells.proofs.Chains.{cells_more, cells_one, cells_some, text-none, text-last, text-more, uses_at-more}
+use Rattle.mc_cells.proofs.Chains.{Lies-more, Lies-linked}
 
--- What is left of a text is still to be written from a place on.
+-- The rest of a text is still to be written, from an index on.
 pub record Filling (old now : List Cell) (first at : ℕ) (text left : List ℕ) : Type 0 where
   pub short : length left ≤ 4095
   pub lies : Lies now at (length left)
@@ -27,7 +30,7 @@ Written-none cells at = record {
       text-none cells at;
 }
 
--- A place that isn't among a text's cells isn't its first one.
+-- An index that isn't among a text's cells isn't its first one.
 not_first : (cells : List Cell) (first len place : ℕ) → 0 < len → uses_at cells first len place ≡ 0 → place ≢ first
 not_first cells first len place some unused same =
     let at : uses cells first (suc (cells_of len - 1)) place ≡ 0 = rw cells_some at unused in
@@ -35,7 +38,7 @@ not_first cells first len place some unused same =
     let e = uses-first cells first (cells_of len - 1) in
     absurd (omega arith)
 
--- The last piece of a text is written.
+-- The last part of a text is written.
 pub Written-last : (now new : List Cell) (at : ℕ) (left : List ℕ) → 0 < length left → length left ≤ 60
     → Wrote now new at left → Written now new at left
 Written-last now new at left some most wrote = record {
@@ -62,7 +65,7 @@ module _ (now new : List Cell) (at : ℕ) (left : List ℕ) (more : 60 < length 
   same_uses place = uses-agree now new (next_of now at) (cells_of (length left - 60)) place (λ other used.
       wrote.chains other)
 
-  -- The rest lies in the chain behind.
+  -- The rest is in the chain after it.
   pub Lies-rest : Lies new (next_of now at) (length (drop 60 left))
   Lies-rest = rw rest_length (Lies-linked now new (next_of now at) (length left - 60) wrote.size wrote.chains
       (Lies-more now at (length left) more lies))
@@ -105,7 +108,7 @@ module _ (now new : List Cell) (at : ℕ) (left : List ℕ) (more : 60 < length 
         whole = text-more last at (length left) more ∙ rw (front, next_is, back) (take-append-drop 60 left);
       }
 
-  -- Behind the rest is what was behind all of it.
+  -- The index after the rest is the index after all of it.
   pub behind_rest : behind new (next_of now at) (cells_of (length (drop 60 left))) ≡ behind now at (cells_of
       (length left))
   unfolding behind
@@ -129,15 +132,15 @@ module _ (old now : List Cell) (first at : ℕ) (text left : List ℕ)
   pub Filling-none : length left ≡ 0 → Written old now first text
   Filling-none none = filling.rest now (rw (no_bytes left none) (Written-none now at))
 
-  -- and this is the place behind it
+  -- and this is the index after it
   pub ends_none : length left ≡ 0 → at ≡ behind old first (cells_of (length text))
   ends_none none = sym (behind-none now at) ∙ rw none at filling.ends
 
-  -- the place behind the last piece
+  -- the index after the last part
   pub ends_last : 0 < length left → length left ≤ 60 → next_of now at ≡ behind old first (cells_of (length text))
   ends_last some most = sym (behind-one now at) ∙ rw (cells_one (length left) some most) at filling.ends
 
--- With the last piece all of the text is written.
+-- With the last part all of the text is written.
 pub Filling-last : (old now new : List Cell) (first at : ℕ) (text left : List ℕ)
     → Filling old now first at text left → 0 < length left → length left ≤ 60 → Wrote now new at left
     → Written old new first text

@@ -1,5 +1,6 @@
--- Values that are kept, where one comes or goes.
-use Rattle.std.proofs.Common.{◌≡◌, ◌≢◌, ◌∙◌, ◌+◌, ◌<◌, ℕ, true, false, cond, eqb, List, [], ◌∷◌, ◌++◌, Option, Some, None, IsSome, Result, Ok, Err, inl, inr, refl, sym, ap, arith}
+-- Values that are stored, when one is added or removed.
+use Rattle.std.proofs.Common.{◌≡◌, ◌≢◌, ◌∙◌, ◌+◌, ◌<◌, ℕ, true, false, cond, eqb, List, [], ◌∷◌, ◌++◌, Option, Some}
+use Rattle.std.proofs.Common.{None, IsSome, Result, Ok, Err, inl, inr, refl, sym, ap, arith}
 use Rattle.std.specs.Option.{OnSome}
 use Rattle.std.specs.Result.{OnErr}
 use Rattle.std.proofs.lemmas.Bool.{cases_Bool, cases_eq, eq-eqb, false≢true, ne_eqb}
@@ -83,7 +84,7 @@ long_one-short place is = rw is refl
 long_one-long : (place : Place) → is_short place ≡ false → long_one place ≡ 1
 long_one-long place not = rw not refl
 
--- Values stay where the texts in cells do and no long one changes.
+-- Values are unchanged if the texts in cells are, and no long one changes.
 pub values-agree : (old new : Values) (kept : List Place)
     → texts new.cells.all.items (short kept) ≡ texts old.cells.all.items (short kept)
     → ((key : ℕ) → 0 < longs key kept → get new.long key ≡ get old.long key)
@@ -115,7 +116,7 @@ values-agree old new (place ∷ kept) same long = elim (cases_Bool (is_short pla
       rw (not, here, later) refl
 ]
 
--- Cells change, and what is kept in them doesn't.
+-- Cells change, and what is stored in them doesn't.
 pub HoldsOn-cells : (old new : Values) (kept : List Place) → Holds old kept
     → KeepsOn old.cells new.cells (short kept) → new.long ≡ old.long → HoldsOn old new kept
 HoldsOn-cells old new kept holds on long = record {
@@ -128,14 +129,14 @@ HoldsOn-cells old new kept holds on long = record {
   same = values-agree old new kept on.texts (λ key meets. rw long refl);
 }
 
--- A short value comes
+-- A short value is added.
 
 module _ (old new : Values) (kept : List Place) (place : Place) (text : List ℕ) (holds : Holds old kept)
     (is : is_short place ≡ true) (cells : Keeps new.cells ((place.first, place.len) ∷ short kept))
     (same : texts new.cells.all.items ((place.first, place.len) ∷ short kept) ≡ text ∷ texts old.cells.all.items
     (short kept))
     (long : new.long ≡ old.long) where
-  -- It is held beside the others.
+  -- It is stored beside the others.
   pub Holds-short : Holds new (place ∷ kept)
   Holds-short = record {
     cells = rw is cells;
@@ -145,7 +146,7 @@ module _ (old new : Values) (kept : List Place) (place : Place) (text : List ℕ
     counted = rw long (omega (arith, count-cons place kept, long_one-short place is, holds.counted));
   }
 
-  -- It is the text, and the others are what they were.
+  -- It is the text, and the others are unchanged.
   pub values-short : values_of new (place ∷ kept) ≡ text ∷ values_of old kept
   values-short =
       let first : text_at new.cells.all.items place.first place.len ≡ text = cc in
@@ -153,7 +154,7 @@ module _ (old new : Values) (kept : List Place) (place : Place) (text : List ℕ
       let later = values-agree old new kept rest (λ key meets. ap (λ s. get s key) long) in
       rw (is, first, later) refl
 
--- A long value comes
+-- A long value is added.
 
 none_long : (values : Values) (kept : List Place) (key : ℕ) → Holds values kept → get values.long key ≡ None
     → longs key kept ≡ 0
@@ -172,7 +173,7 @@ module _ (old new : Values) (kept : List Place) (place : Place) (value : List �
   apart : (key : ℕ) → 0 < longs key kept → key ≢ place.first
   apart key meets same = absurd (let here : 0 < longs place.first kept = rw same at meets in omega (arith, none, here))
 
-  -- It is held beside the others.
+  -- It is stored beside the others.
   pub Holds-long : Holds new (place ∷ kept)
   Holds-long = record {
     cells = rw (not, cells) holds.cells;
@@ -190,13 +191,13 @@ module _ (old new : Values) (kept : List Place) (place : Place) (value : List �
     counted = omega (arith, count-cons place kept, long_one-long place not, holds.counted, count);
   }
 
-  -- It is the value, and the others are what they were.
+  -- It is the value, and the others are unchanged.
   pub values-long : values_of new (place ∷ kept) ≡ value ∷ values_of old kept
   values-long =
       let rest = values-agree old new kept (rw cells refl) (λ key meets. updates.others key (apart key meets)) in
       rw (not, updates.changed, rest) refl
 
--- What could not come in leaves all as it was.
+-- A value that could not be added leaves all as it was.
 pub HoldsOn-refused : (old new : Values) (kept : List Place) → Holds old kept → new.cells ≡ old.cells
     → new.long.slots ≡ old.long.slots → HoldsOn old new kept
 HoldsOn-refused old new kept holds cells long = record {
@@ -209,7 +210,7 @@ HoldsOn-refused old new kept holds cells long = record {
   same = values-agree old new kept (rw cells refl) (λ key meets. rw long refl);
 }
 
--- A short value goes
+-- A short value is removed.
 
 -- its handle among the others
 pub short-parts : (before after : List Place) (place : Place) → is_short place ≡ true
@@ -217,7 +218,7 @@ pub short-parts : (before after : List Place) (place : Place) → is_short place
 short-parts before after place is =
     short-append before (place ∷ after) ∙ ap (λ (rest : List Handle). short before ++ rest) (short_first place after is)
 
--- The others stay.
+-- The others are unchanged.
 pub HoldsOn-short : (old new : Values) (before after : List Place) (place : Place)
     → Holds old (before ++ place ∷ after) → is_short place ≡ true → new.long ≡ old.long
     → KeepsOn old.cells new.cells (short before ++ short after) → HoldsOn old new (before ++ after)
@@ -232,14 +233,14 @@ HoldsOn-short old new before after place holds is long on =
       same = values-agree old new (before ++ after) cells.texts (λ key meets. rw long refl);
     }
 
--- A long value goes
+-- A long value is removed.
 
--- what holds where there is something, of something that there is
+-- what holds for an element if there is one, of one that exists
 pub OnSome-at : {A : Type 0} (o : Option A) (P : Type 0) → IsSome o → OnSome o P → P
 OnSome-at None P is on = absurd (false≢true is)
 OnSome-at (Some x) P is on = on
 
--- What is held stays so where a call was refused.
+-- What is stored is unchanged by a call that was refused.
 pub OnErr-held : {T E : Type 0} (r : Result T E) (old new : Values) (kept : List Place) → HoldsOn old new kept
     → OnErr r (HoldsOn old new kept)
 OnErr-held (Ok x) old new kept on = tt
@@ -251,7 +252,7 @@ pub long_there : (values : Values) (before after : List Place) (place : Place)
 long_there values before after place holds not =
     holds.there place.first (omega (arith, longs-parts place.first before after place, long_at-same place not))
 
--- The others stay.
+-- The others are unchanged.
 pub HoldsOn-long : (old new : Values) (before after : List Place) (place : Place)
     → Holds old (before ++ place ∷ after) → is_short place ≡ false → new.cells ≡ old.cells
     → Updates old.long new.long place.first None → slab_len new.long + 1 ≡ slab_len old.long

@@ -1,15 +1,17 @@
--- What is kept in cells stays so where texts come and go.
-use Rattle.std.proofs.Common.{◌≡◌, ◌≢◌, ℕ, zero, suc, ◌+◌, ◌-◌, ◌<◌, ◌≤◌, List, [], ◌∷◌, ◌++◌, length, inl, inr, refl, ap, ◌∙◌, arith}
+-- What is stored in cells is unchanged when other texts are added and removed.
+use Rattle.std.proofs.Common.{◌≡◌, ◌≢◌, ℕ, zero, suc, ◌+◌, ◌-◌, ◌<◌, ◌≤◌, List, [], ◌∷◌, ◌++◌, length, inl, inr, refl}
+use Rattle.std.proofs.Common.{ap, ◌∙◌, arith}
 use Rattle.std.proofs.lemmas.List.{get_or_append_left, get_or_push, length_push}
 use Rattle.std.proofs.lemmas.Bool.{cases_eq}
 use Rattle.std.proofs.lemmas.List.Sums.{sum_by-cons, sum_by-append}
-use Rattle.mc_cells.specs.declared.TheConstants.{GREATEST_CELLS}
+use Rattle.mc_cells.specs.declared.TheConstants.{MAX_CELLS}
 use Rattle.mc_cells.specs.declared.chain.Cell.{Cell}
 use Rattle.mc_cells.specs.Sizes.{cells_of}
 use Rattle.mc_cells.specs.Chains.{no_cell, next_of, bytes_of, behind, uses, uses_at, text_at, Lies, Written}
 use Rattle.mc_cells.specs.declared.keeping.Cells.{Cells}
 use Rattle.mc_cells.specs.Kept.{Handle, texts, taken, used, owners, Keeps, KeepsOn}
-use Rattle.mc_cells.proofs.Chains.{no_uses, uses-first, uses-other, uses-agree, uses-append, uses-last, uses-relinked, behind-more, text-agree}
+use Rattle.mc_cells.proofs.Chains.{no_uses, uses-first, uses-other, uses-agree, uses-append, uses-last, uses-relinked}
+use Rattle.mc_cells.proofs.Chains.{behind-more, text-agree}
 
 pub used-cons : (cells : List Cell) (handle : Handle) (kept : List Handle) (place : ℕ)
     → used cells (handle ∷ kept) place ≡ uses_at cells handle.0 handle.1 place + used cells kept place
@@ -25,11 +27,11 @@ taken-cons handle kept = sum_by-cons (λ (h : Handle). cells_of h.1) handle kept
 pub taken-append : (front back : List Handle) → taken (front ++ back) ≡ taken front + taken back
 taken-append front back = sum_by-append (λ (h : Handle). cells_of h.1) front back
 
--- Two lists of cells where the texts that are kept have the same chains.
+-- Two lists of cells in which the stored texts have equal chains.
 abbrev pub AgreeOn : List Cell → List Cell → List Handle → Type 0
 AgreeOn old new kept = (place : ℕ) → 0 < used old kept place → next_of new place ≡ next_of old place
 
--- and the same bytes
+-- and equal bytes
 abbrev pub SameOn : List Cell → List Cell → List Handle → Type 0
 SameOn old new kept = (place : ℕ) → 0 < used old kept place → bytes_of new place ≡ bytes_of old place
 
@@ -67,12 +69,12 @@ texts-agree old new (handle ∷ kept) agree same =
     ))) (λ other meets. same other (omega (arith, used-cons old handle kept other, meets))) in
     rw (first, rest) refl
 
--- What stays once, and then again, stays.
+-- What is unchanged by two steps is unchanged by both together.
 pub KeepsOn-then : (first second third : Cells) (kept : List Handle) → KeepsOn first second kept
     → KeepsOn second third kept → KeepsOn first third kept
 KeepsOn-then first second third kept one two = record { keeps = two.keeps; texts = two.texts ∙ one.texts }
 
--- cells with the same list, the same free ones and as many
+-- cells with an equal list, equal free ones and as many
 pub KeepsOn-alike : (old new : Cells) (kept : List Handle) → new.all.items ≡ old.all.items → new.free ≡ old.free
     → new.free_count ≡ old.free_count → Keeps old kept → KeepsOn old new kept
 KeepsOn-alike old new kept all free count keeps = record {
@@ -99,7 +101,7 @@ free_owned cells kept place keeps used = keeps.within place (omega arith)
 module _ (old new : Cells) (cell : Cell) (kept : List Handle) (keeps : Keeps old kept)
     (all : new.all.items ≡ old.all.items ++ cell ∷ []) (linked : cell.next ≡ old.free)
     (free : new.free ≡ length old.all.items) (count : new.free_count ≡ suc old.free_count)
-    (fewer : length old.all.items < GREATEST_CELLS) where
+    (fewer : length old.all.items < MAX_CELLS) where
   same_next : (place : ℕ) → place < length old.all.items → next_of new.all.items place ≡ next_of old.all.items place
   same_next place there = ap (λ (cells : List Cell). next_of cells place) all ∙ ap (λ (c : Cell). c.next)
       (get_or_append_left old.all.items (cell ∷ []) no_cell place there)
@@ -148,7 +150,7 @@ module _ (old new : Cells) (cell : Cell) (kept : List Handle) (keeps : Keeps old
             keeps.within (length old.all.items) (omega arith) in omega arith)
       ] refl
 
-  -- All texts stay.
+  -- All texts are unchanged.
   pub Keeps-grown : KeepsOn old new kept
   Keeps-grown = record {
     keeps = record {
@@ -177,7 +179,7 @@ free_parts cells count place enough =
     let parts : count + (cells.free_count - count) ≡ cells.free_count = omega arith in
     rw parts at (uses-append cells.all.items cells.free count (cells.free_count - count) place)
 
--- A text can lie in the first of the free cells.
+-- A text fits in the first of the free cells.
 pub Lies-free : (cells : Cells) (kept : List Handle) (len : ℕ) → Keeps cells kept
     → cells_of len ≤ cells.free_count → Lies cells.all.items cells.free len
 Lies-free cells kept len keeps enough = record {
@@ -212,7 +214,7 @@ module _ (old new : Cells) (kept : List Handle) (text : List ℕ) (keeps : Keeps
         free_parts old (cells_of (length text)) place enough,
       )
 
-  -- The text is kept beside the others.
+  -- The text is stored beside the others.
   pub Keeps-kept : Keeps new ((old.free, length text) ∷ kept)
   Keeps-kept = record {
     once = λ place. rw (owners_same place) (keeps.once place);
@@ -221,7 +223,7 @@ module _ (old new : Cells) (kept : List Handle) (text : List ℕ) (keeps : Keeps
     fewer = rw written.size keeps.fewer;
   }
 
-  -- It is the one that was written, and the others are what they were.
+  -- It is the one that was written, and the others are unchanged.
   pub texts-kept : texts new.all.items ((old.free, length text) ∷ kept) ≡ text ∷ texts old.all.items kept
   texts-kept =
       let others = texts-agree old.all.items new.all.items kept (λ place meets. written.chains place) (λ place
@@ -255,7 +257,7 @@ taken-parts before after first len = omega (
   taken-append before after,
 )
 
--- A text that is kept lies in the cells.
+-- A stored text is in the cells.
 pub Lies-kept : (cells : Cells) (before after : List Handle) (first len : ℕ)
     → Keeps cells (before ++ (first, len) ∷ after) → Lies cells.all.items first len
 Lies-kept cells before after first len keeps = record {
@@ -273,7 +275,8 @@ pub record Released (old new : Cells) (first count last : ℕ) : Type 0 where
   pub free_count : new.free_count ≡ old.free_count + count
 
 module _ (old new : Cells) (before after : List Handle) (first len count last : ℕ)
-    (keeps : Keeps old (before ++ (first, len) ∷ after)) (some : cells_of len ≡ suc count) (ends : last ≡ behind old.all.items first count)
+    (keeps : Keeps old (before ++ (first, len) ∷ after)) (some : cells_of len ≡ suc count)
+    (ends : last ≡ behind old.all.items first count)
     (released : Released old new first (suc count) last) where
   text_uses : (place : ℕ) → uses_at old.all.items first len place ≡ uses old.all.items first (suc count) place
   text_uses place = rw some refl
@@ -329,7 +332,7 @@ module _ (old new : Cells) (before after : List Handle) (first len count last : 
     text_uses place,
   )
 
-  -- The other texts stay.
+  -- The other texts are unchanged.
   pub KeepsOn-released : KeepsOn old new (before ++ after)
   KeepsOn-released = record {
     keeps = record {
@@ -350,7 +353,7 @@ module _ (old new : Cells) (before after : List Handle) (first len count last : 
         (not_last place (omega (arith, meets)))) (λ place meets. released.bytes place);
   }
 
--- Nothing is kept where there are no cells.
+-- Nothing is stored if there are no cells.
 pub Keeps-nothing : (cells : Cells) → cells.all.items ≡ [] → cells.free_count ≡ 0 → Keeps cells []
 Keeps-nothing cells none count =
     let unused : (place : ℕ) → owners cells [] place ≡ 0 = λ place. rw count (omega (

@@ -1,12 +1,13 @@
--- A list of what is kept, and one of them.
-use Rattle.std.proofs.Common.{◌≡◌, ◌∙◌, ◌+◌, ◌<◌, ℕ, suc, List, ◌∷◌, ◌++◌, length, take, drop, get_or, map, sym, ap, add-one}
+-- A list of what is stored, and one of its elements.
+use Rattle.std.proofs.Common.{◌≡◌, ◌∙◌, ◌+◌, ◌<◌, ℕ, suc, List, ◌∷◌, ◌++◌, length, take, drop, get_or, map, sym, ap}
+use Rattle.std.proofs.Common.{add-one}
 use Rattle.std.proofs.lemmas.List.{drop_more, length-map, map-append, take-append-drop, take-map, drop-map}
 use Rattle.mc_cells.specs.declared.chain.Cell.{Cell}
 use Rattle.mc_cells.specs.Chains.{text_at}
 use Rattle.mc_cells.specs.Kept.{Handle, texts}
 use Rattle.std.specs.List.{remove}
 
--- A list is what is before one of it, that one, and what is behind.
+-- A list is what is before an element, the element, and what is after it.
 pub parts : {X : Type 0} (xs : List X) (i : ℕ) (x : X) → i < length xs → x ≡ get_or xs i x
     → xs ≡ take i xs ++ x ∷ drop (suc i) xs
 parts {X} xs i x within is =
@@ -26,7 +27,7 @@ map-remove {X} {Y} f xs i =
 pub length-texts : (cells : List Cell) (kept : List Handle) → length (texts cells kept) ≡ length kept
 length-texts cells kept = length-map kept (λ (handle : Handle). text_at cells handle.0 handle.1)
 
--- One text is taken out of them.
+-- One text is removed from them.
 pub texts-remove : (cells : List Cell) (kept : List Handle) (i : ℕ)
     → texts cells (remove kept i) ≡ remove (texts cells kept) i
 texts-remove cells kept i = map-remove (λ (handle : Handle). text_at cells handle.0 handle.1) kept i

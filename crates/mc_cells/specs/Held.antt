@@ -1,5 +1,6 @@
--- Values that are kept: short ones in cells, long ones by themselves.
-use Rattle.std.specs.Prelude.{ℕ, ◌≡◌, ◌<◌, ◌≤◌, ◌==◌, nat_le, Bool, List, [], ◌∷◌, Option, Some, None, IsSome, if◌then◌else◌, map}
+-- The values of a store: short ones in cells, long ones in blocks of their own.
+use Rattle.std.specs.Prelude.{ℕ, ◌≡◌, ◌<◌, ◌≤◌, ◌==◌, nat_le, Bool, List, [], ◌∷◌, Option, Some, None, IsSome}
+use Rattle.std.specs.Prelude.{if◌then◌else◌, map}
 use Rattle.std.specs.List.{sum_by}
 use Rattle.slab.specs.Slab.{get, slab_len}
 use Rattle.mc_cells.specs.declared.TheConstants.{TEXT_LIMIT}
@@ -8,11 +9,11 @@ use Rattle.mc_cells.specs.declared.holding.Values.{Values}
 use Rattle.mc_cells.specs.Chains.{Lies, text_at}
 use Rattle.mc_cells.specs.Kept.{Handle, Keeps}
 
--- whether a value lies in cells
+-- whether a value is in cells
 abbrev pub is_short : Place → Bool
 is_short place = nat_le place.len TEXT_LIMIT
 
--- those that do, as the cells have them
+-- the short values, as texts in cells
 abbrev pub short : List Place → List Handle
 short [] = []
 short (place ∷ places) = if is_short place then (place.first, place.len) ∷ short places else short places
@@ -26,33 +27,33 @@ longs key places = sum_by (λ (place : Place). if is_short place then 0 else (if
 abbrev pub count_long : List Place → ℕ
 count_long places = sum_by (λ (place : Place). if is_short place then 0 else 1) places
 
--- the bytes of a long value, none where there is none
+-- the bytes of a long value, none if it doesn't exist
 abbrev pub bytes_or_none : Option (List ℕ) → List ℕ
 bytes_or_none None = []
 bytes_or_none (Some bytes) = bytes
 
--- the value at a place
+-- the value of a handle
 abbrev pub value_at : Values → Place → List ℕ
 value_at values place =
     if is_short place then text_at values.cells.all.items place.first place.len
     else bytes_or_none (get values.long place.first)
 
--- the values that are kept
+-- the values that are stored
 abbrev pub values_of : Values → List Place → List (List ℕ)
 values_of values kept = map (value_at values) kept
 
--- A short value's cells are there.
+-- A short value's cells exist.
 abbrev pub Stands : Values → Place → Type 0
 Stands values place = place.len ≤ TEXT_LIMIT → Lies values.cells.all.items place.first place.len
 
--- These values are kept, and no other.
+-- These values are stored, and no other.
 pub record Holds (values : Values) (kept : List Place) : Type 0 where
   pub cells : Keeps values.cells (short kept)
   pub once : (key : ℕ) → longs key kept ≤ 1
   pub there : (key : ℕ) → 0 < longs key kept → IsSome (get values.long key)
   pub counted : count_long kept ≡ slab_len values.long
 
--- Each value that was kept is still kept, and the same.
+-- Each value that was stored is still stored, with equal bytes.
 pub record HoldsOn (old new : Values) (kept : List Place) : Type 0 where
   pub holds : Holds new kept
   pub same : values_of new kept ≡ values_of old kept

@@ -2,6 +2,6 @@
 use Rattle.std.specs.Prelude.{ℕ, ◌+◌, ◌-◌, ◌/◌}
 use Rattle.mc_cells.specs.declared.TheConstants.{CELL}
 
--- how many cells a text of so many bytes takes
+-- how many cells a text of this many bytes takes
 abbrev pub cells_of : ℕ → ℕ
 cells_of len = (len + CELL - 1) / CELL

@@ -7,14 +7,14 @@ ghost use Rattle.mc_cells.specs.Chains.{Lies, Written, Wrote, behind, next_of, t
 use crate::{CELL, TEXT_LIMIT};
 use bytes::BytesMut;
 
-/// A part of a text, and the place of the next part.
+/// A part of a text, and the index of the cell with the next part.
 #[derive(Clone, Copy)]
 pub struct Cell {
     pub(crate) next: u32,
     pub(crate) bytes: [u8; CELL],
 }
 
-/// How many cells a text of `len` bytes takes.
+/// Number of cells of a text of `len` bytes.
 pub fn cells_of(len: usize) -> usize
     requires { len ≤ TEXT_LIMIT }
     ensures { result ≡ cells_of len }
@@ -22,7 +22,7 @@ pub fn cells_of(len: usize) -> usize
     (len + CELL - 1) / CELL
 }
 
-/// Writes a piece of a text into the cell at a place, and gives the place of the next one.
+/// Writes a part of a text into the cell at an index, and returns the index of the next cell.
 #[inline(always)]
 pub(crate) fn write(cells: &mut [Cell], at: u32, piece: &[u8]) -> u32
     requires there { at < length cells.old }
@@ -35,7 +35,7 @@ pub(crate) fn write(cells: &mut [Cell], at: u32, piece: &[u8]) -> u32
     cell.next
 }
 
-/// Writes a text into the chain that begins at a place, and gives the place behind it.
+/// Writes a text into the chain that begins at an index, and returns the index after its last cell.
 #[inline(always)]
 pub(crate) fn fill(cells: &mut [Cell], first: u32, text: &[u8]) -> u32
     requires short { length text.now ≤ TEXT_LIMIT }
@@ -56,7 +56,7 @@ pub(crate) fn fill(cells: &mut [Cell], first: u32, text: &[u8]) -> u32
     write(cells, at, left)
 }
 
-/// The place of the last of `count` cells of the chain that begins at a place.
+/// The index of the last of `count` cells of the chain that begins at an index.
 pub(crate) fn last_of(cells: &[Cell], first: u32, count: usize) -> u32
     requires some { 0 < count }
     requires within { (place : ℕ) → 0 < uses cells.now first count place →
@@ -72,8 +72,8 @@ pub(crate) fn last_of(cells: &[Cell], first: u32, count: usize) -> u32
     at
 }
 
-/// Copies the cells of a text to an empty buffer that has room for the text and one cell more. The bytes behind the text are
-/// what else its last cell holds.
+/// Copies the cells of a text to an empty buffer, which has room for the text and one cell more.
+/// The bytes after the text are the rest of its last cell.
 #[inline(always)]
 pub(crate) fn copy(out: &mut BytesMut, cells: &[Cell], first: u32, len: usize)
     requires empty { out.old.items ≡ [] }

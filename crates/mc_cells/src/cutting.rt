@@ -9,20 +9,22 @@ use bytes::{Bytes, BytesMut};
 use std::alloc::{AllocError, Global};
 use std::mem::swap;
 
-/// A page that texts are copied to, one behind the other. Each is shared out as `Bytes` of its own, and the page lives as
-/// long as one of them does. The page before it is used again once none of its texts is left.
+/// A page to which texts are copied, one after another. Each text is shared as `Bytes`, and the
+/// page lives as long as any of them. The previous page is used again once none of its texts is
+/// left.
 #[derive(Drop)]
 pub struct Page {
     alloc: Global,
-    /// What is left of the page.
+    /// The unused rest of the page.
     block: BytesMut,
-    /// The page before it.
+    /// The previous page.
     last: BytesMut,
     ghost empty: { block.items ≡ [] },
     ghost last_empty: { last.items ≡ [] },
 }
 
-/// Makes room for so many bytes: in the other page where no text of it is left, or else in a new one.
+/// Makes room for this many bytes: in the other page if none of its texts is left, or else in a new
+/// one.
 #[cold]
 #[inline(never)]
 fn turn(
@@ -48,7 +50,7 @@ fn turn(
 impl Page {
     ghost use Rattle.mc_cells.specs.Chains.{Lies, text_at};
 
-    /// A page that is still to be taken from the allocator.
+    /// A page that is not allocated yet.
     pub fn new(alloc: Global) -> Page {
         Page {
             alloc,
@@ -57,7 +59,7 @@ impl Page {
         }
     }
 
-    /// The text of `len` bytes whose first cell is at a place.
+    /// The text of `len` bytes whose first cell is at an index.
     #[inline(always)]
     pub fn cut(&mut self, cells: &Cells, first: u32, len: usize) -> Result<Bytes, AllocError>
         requires short { len ≤ TEXT_LIMIT }

@@ -1,24 +1,25 @@
-//! Values: short ones in cells, long ones in blocks of their own that are shared.
+//! A store of values: short ones in cells, long ones in shared blocks of their own.
 ghost use Rattle.std.specs.Prelude.{◌≡◌, ◌+◌, ◌≤◌, ◌<◌, ◌∷◌, ◌++◌, [], List, length, IfOk, IsOk, OnErr};
-ghost use Rattle.mc_cells.specs.declared.TheConstants.{GREATEST_CELLS, TEXT_LIMIT};
+ghost use Rattle.mc_cells.specs.declared.TheConstants.{MAX_CELLS, TEXT_LIMIT};
 
 use crate::cutting::Page;
 use crate::keeping::Cells;
-use crate::{GREATEST_CELLS, LONG, TEXT_LIMIT};
+use crate::{LONG, MAX_CELLS, TEXT_LIMIT};
 use bytes::Bytes;
 use slab::Slab;
 use std::alloc::{AllocError, Global};
 
-/// Where a value is kept.
+/// The handle of a value.
 #[derive(Clone, Copy)]
 pub struct Place {
-    /// The first cell of a short one, the key of a long one.
+    /// The first cell of a short value, the key of a long one.
     pub first: u32,
-    /// How many bytes a short one has; of a long one `LONG`.
+    /// The length of a short value in bytes; `LONG` for a long one.
     pub len: u16,
 }
 
-/// Values: short ones in cells, long ones in blocks of their own that are shared.
+/// A store of values: short ones in cells, long ones in shared blocks of their own
+/// (docs/DECISIONS.md, F27).
 #[derive(Drop)]
 pub struct Values {
     cells: Cells,
@@ -32,7 +33,7 @@ impl Values {
     ghost use Rattle.mc_cells.specs.Held.{Holds, HoldsOn, Stands, count_long, short, value_at, values_of};
     ghost use Rattle.mc_cells.specs.declared.holding.Place.{Place as ThePlace};
 
-    /// No value, with room for so many cells and so many long values. Memory is put aside for them, and taken as they come.
+    /// An empty store, with memory reserved for this many cells and long values.
     pub fn with_room(alloc: Global, cells: usize, long: usize) -> Result<Values, AllocError>
         ensures empty { IfOk result (λ values. Holds values []) }
         ensures cells { IfOk result (λ values. room_of values.cells ≡ cells) }
@@ -45,7 +46,7 @@ impl Values {
         })
     }
 
-    /// Keeps a short value. It needs no memory as long as the cells of all stay within the room.
+    /// Stores a short value. Allocates nothing while all cells fit the reserved room.
     #[inline(always)]
     pub fn keep_short(&mut self, text: &[u8]) -> Result<Place, AllocError>
         requires short { length text.now ≤ TEXT_LIMIT }
@@ -58,7 +59,7 @@ impl Values {
         ensures len { IfOk result (λ place. place.len ≡ length text.now) }
         ensures succeeds { (kept : List ThePlace) → Holds self.old kept →
             taken (short kept) + cells_of (length text.now) ≤ room_of self.old.cells →
-            taken (short kept) + cells_of (length text.now) ≤ GREATEST_CELLS → IsOk result }
+            taken (short kept) + cells_of (length text.now) ≤ MAX_CELLS → IsOk result }
         ensures cells { room_of self.old.cells ≤ room_of self.new.cells }
         ensures long { self.new.long ≡ self.old.long }
     {
@@ -69,7 +70,7 @@ impl Values {
         })
     }
 
-    /// Keeps a long value. It needs no memory as long as there are no more of them than there is room for.
+    /// Stores a long value. Allocates nothing while there is room for one more.
     #[inline(never)]
     pub fn keep_long(&mut self, value: Bytes) -> Result<Place, AllocError>
         ensures kept { (kept : List ThePlace) → Holds self.old kept → IfOk result
@@ -80,12 +81,12 @@ impl Values {
         ensures len { IfOk result (λ place. place.len ≡ LONG) }
         ensures succeeds { (kept : List ThePlace) → Holds self.old kept →
             count_long kept + 1 ≤ self.old.long.capacity →
-            self.old.long.capacity ≤ GREATEST_CELLS → IsOk result }
+            self.old.long.capacity ≤ MAX_CELLS → IsOk result }
         ensures long { self.old.long.capacity ≤ self.new.long.capacity }
         ensures cells { self.new.cells ≡ self.old.cells }
     {
         self.long.reserve(1)?;
-        if self.long.capacity() > GREATEST_CELLS {
+        if self.long.capacity() > MAX_CELLS {
             return Err(AllocError);
         }
         let key = self.long.insert_reserved(value);
@@ -95,7 +96,7 @@ impl Values {
         })
     }
 
-    /// Takes a value out.
+    /// Removes a value.
     #[inline(always)]
     pub fn release(&mut self, place: Place)
         requires kept { (before after : List ThePlace) × Holds self.old (before ++ place ∷ after) }
@@ -112,7 +113,7 @@ impl Values {
         self.cells.release(place.first, len);
     }
 
-    /// The value at a place: a short one cut from a page, a long one shared.
+    /// The value of a handle: a short one cut from a page, a long one shared.
     #[inline(always)]
     pub fn read(&mut self, place: Place) -> Result<Bytes, AllocError>
         requires stands { Stands self.old place }
@@ -132,7 +133,7 @@ impl Values {
         }
     }
 
-    /// Takes all values out.
+    /// Removes all values.
     pub fn clear(&mut self)
         ensures empty { Holds self.new [] }
         ensures cells { room_of self.new.cells ≡ room_of self.old.cells }

@@ -1,19 +1,19 @@
-//! Texts that are kept in cells.
+//! Texts that are stored in cells.
 ghost use Rattle.std.specs.Prelude.{◌≡◌, ◌+◌, ◌≤◌, ◌∷◌, ◌++◌, [], length, List, vec_len, ◌-◌, ◌<◌, IfOk, OnOk, OnErr, IsOk};
-ghost use Rattle.mc_cells.specs.declared.TheConstants.{GREATEST_CELLS, TEXT_LIMIT};
+ghost use Rattle.mc_cells.specs.declared.TheConstants.{MAX_CELLS, TEXT_LIMIT};
 
 use crate::chain::{Cell, cells_of, fill, last_of};
-use crate::{CELL, GREATEST_CELLS, TEXT_LIMIT};
+use crate::{CELL, MAX_CELLS, TEXT_LIMIT};
 use std::alloc::{AllocError, Global};
 
-/// Texts in cells of one size, each in a chain of them. A text that is released gives its cells to the next one, whatever
-/// its length.
+/// Texts in cells of one size, each in a chain of them. The cells of a released text serve the next
+/// one, whatever its length, so no memory is lost when lengths change (docs/DECISIONS.md, F27).
 #[derive(Drop)]
 pub struct Cells {
     pub(crate) all: Vec<Cell>,
-    /// The first cell of the chain of those that are free.
+    /// The first cell of the chain of free ones.
     free: u32,
-    /// How many are free.
+    /// Number of free cells.
     free_count: usize,
 }
 
@@ -21,7 +21,8 @@ impl Cells {
     ghost use Rattle.mc_cells.specs.Sizes.{cells_of};
     ghost use Rattle.mc_cells.specs.Kept.{Handle, Keeps, KeepsOn, room_of, taken, texts};
 
-    /// No text, with room for so many cells. Memory is put aside for them, and taken as they are used.
+    /// No text, with room for this many cells. Their address space is reserved, and memory is used
+    /// as they fill.
     pub fn with_room(alloc: Global, room: usize) -> Result<Cells, AllocError>
         ensures empty { IfOk result (λ cells. Keeps cells []) }
         ensures room { IfOk result (λ cells. room_of cells ≡ room) }
@@ -33,8 +34,8 @@ impl Cells {
         })
     }
 
-    /// Keeps a text, and gives the place of its first cell. It needs no memory as long as the cells of all texts stay within
-    /// the room. Where memory is refused nothing changes.
+    /// Stores a text, and returns the index of its first cell. Allocates nothing while all cells
+    /// fit the reserved room. If memory is refused nothing changes.
     #[inline(always)]
     pub fn keep(&mut self, text: &[u8]) -> Result<u32, AllocError>
         requires short { length text.now ≤ TEXT_LIMIT }
@@ -47,7 +48,7 @@ impl Cells {
             OnErr result (KeepsOn self.old self.new kept) }
         ensures succeeds { (kept : List Handle) → Keeps self.old kept →
             taken kept + cells_of (length text.now) ≤ room_of self.old →
-            taken kept + cells_of (length text.now) ≤ GREATEST_CELLS → IsOk result }
+            taken kept + cells_of (length text.now) ≤ MAX_CELLS → IsOk result }
         ensures room { room_of self.old ≤ room_of self.new }
     {
         let count = cells_of(text.len());
@@ -58,15 +59,15 @@ impl Cells {
         Ok(first)
     }
 
-    /// Sees that so many cells are free.
+    /// Makes sure that this many cells are free.
     #[inline(always)]
     fn make_room(&mut self, count: usize) -> Result<(), AllocError>
-        requires fewer { vec_len self.old.all ≤ GREATEST_CELLS }
+        requires fewer { vec_len self.old.all ≤ MAX_CELLS }
         requires counted { self.old.free_count ≤ vec_len self.old.all }
         ensures kept { (kept : List Handle) → Keeps self.old kept → KeepsOn self.old self.new kept }
         ensures ok { OnOk result (count ≤ self.new.free_count) }
         ensures succeeds { vec_len self.old.all + (count - self.old.free_count) ≤ room_of self.old →
-            vec_len self.old.all + (count - self.old.free_count) ≤ GREATEST_CELLS → IsOk result }
+            vec_len self.old.all + (count - self.old.free_count) ≤ MAX_CELLS → IsOk result }
         ensures room { room_of self.old ≤ room_of self.new }
     {
         if count <= self.free_count {
@@ -75,19 +76,19 @@ impl Cells {
         self.grow(count - self.free_count)
     }
 
-    /// Adds so many free cells.
+    /// Adds this many free cells.
     #[cold]
     #[inline(never)]
     fn grow(&mut self, lack: usize) -> Result<(), AllocError>
-        requires fewer { vec_len self.old.all ≤ GREATEST_CELLS }
+        requires fewer { vec_len self.old.all ≤ MAX_CELLS }
         requires counted { self.old.free_count ≤ vec_len self.old.all }
         ensures kept { (kept : List Handle) → Keeps self.old kept → KeepsOn self.old self.new kept }
         ensures ok { OnOk result (self.new.free_count ≡ self.old.free_count + lack) }
         ensures succeeds { vec_len self.old.all + lack ≤ room_of self.old →
-            vec_len self.old.all + lack ≤ GREATEST_CELLS → IsOk result }
+            vec_len self.old.all + lack ≤ MAX_CELLS → IsOk result }
         ensures room { room_of self.old ≤ room_of self.new }
     {
-        if lack > GREATEST_CELLS - self.all.len() {
+        if lack > MAX_CELLS - self.all.len() {
             return Err(AllocError);
         }
         self.all.reserve(lack)?;
@@ -99,7 +100,7 @@ impl Cells {
 
     /// Adds a free cell.
     fn add_free(&mut self)
-        requires fewer { vec_len self.old.all < GREATEST_CELLS }
+        requires fewer { vec_len self.old.all < MAX_CELLS }
         requires room { vec_len self.old.all < room_of self.old }
         requires counted { self.old.free_count ≤ vec_len self.old.all }
         ensures kept { (kept : List Handle) → Keeps self.old kept → KeepsOn self.old self.new kept }
@@ -116,7 +117,7 @@ impl Cells {
         self.free_count += 1;
     }
 
-    /// Takes a text out: its cells are free.
+    /// Removes a text: its cells are free.
     #[inline(always)]
     pub fn release(&mut self, first: u32, len: usize)
         requires short { len ≤ TEXT_LIMIT }
@@ -137,7 +138,7 @@ impl Cells {
         self.free_count += count;
     }
 
-    /// Takes all texts out.
+    /// Removes all texts.
     pub fn clear(&mut self)
         ensures empty { Keeps self.new [] }
         ensures room { room_of self.new ≡ room_of self.old }

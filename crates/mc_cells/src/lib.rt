@@ -13,17 +13,17 @@ pub use cutting::Page;
 pub use holding::{Place, Values};
 pub use keeping::Cells;
 
-/// How many bytes of a text a cell holds. With the place of the next one it takes 64 bytes.
+/// Bytes of a text in a cell. With the index of the next one a cell takes 64 bytes.
 pub const CELL: usize = 60;
 
-/// The most bytes of a text that lies in cells. A longer one has a block of its own.
+/// Maximum length of a text in cells, in bytes. A longer one has a block of its own.
 pub const TEXT_LIMIT: usize = 4_095;
 
-/// The length that the place of a longer one notes.
+/// The length in the handle of a long value.
 pub const LONG: u16 = 4_096;
 
-/// The most cells: their places fit 32 bits.
-pub const GREATEST_CELLS: usize = 4_294_967_296;
+/// Maximum number of cells: their indices fit 32 bits.
+pub const MAX_CELLS: usize = 4_294_967_296;
 
-/// How many bytes a page has.
+/// Size of a page in bytes.
 pub const PAGE: usize = 32_768;

@@ -1,4 +1,4 @@
-//! Texts that come and go, beside a plain list of them.
+//! Texts that are stored and removed, beside a plain list of them.
 ghost use Rattle.std.specs.Prelude.{◌≡◌, length, IfOk};
 
 mod shelf;
@@ -9,7 +9,7 @@ use std::alloc::{AllocError, Global};
 use std::process::Abort;
 use std::test::Fail;
 
-/// The texts that a shelf has, most of them short.
+/// The number of texts on a shelf, most of them short.
 const LENGTHS: [usize; 16] = [
     0, 1, 2, 7, 14, 59, 60, 61, 100, 119, 120, 121, 300, 1_000, 4_094, 4_095,
 ];
@@ -33,7 +33,7 @@ fn text(alloc: Global, len: usize, number: u64) -> Result<Vec<u8>, AllocError>
     Ok(bytes)
 }
 
-/// The text at an index is the same on the shelf and in the list, unless memory is refused for it.
+/// The text at an index is equal on the shelf and in the list, unless memory is refused for it.
 fn same(rt: &impl Abort, shelf: &mut Shelf, plain: &Vec<Vec<u8>>, index: usize) {
     if index < shelf.len() && index < plain.len() {
         let Ok(found) = shelf.read(index) else {

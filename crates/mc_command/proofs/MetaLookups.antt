@@ -1,5 +1,6 @@
 -- Look-ups in flags and one flag more behind them.
-use Rattle.std.proofs.Common.{◌≡◌, ℕ, ◌==◌, ◌^◌, Bool, true, false, ◌||◌, cond, List, [], ◌∷◌, ◌++◌, Option, Some, None, unwrap_or, refl, ap, ◌∙◌, append-nil, inl, inr}
+use Rattle.std.proofs.Common.{◌≡◌, ℕ, ◌==◌, ◌^◌, Bool, true, false, ◌||◌, cond, List, [], ◌∷◌, ◌++◌, Option, Some, None}
+use Rattle.std.proofs.Common.{unwrap_or, refl, ap, ◌∙◌, append-nil, inl, inr}
 use Rattle.std.specs.Prelude.{find, option_and_then}
 use Rattle.std.specs.List.{filter_map, cons_option}
 use Rattle.std.specs.Option.{option_or}
@@ -18,12 +19,16 @@ use Rattle.mc_command.specs.internal.FlagsAsked.{asked_of, mode_in, direction_in
 use Rattle.mc_command.specs.internal.FlagReading.{with_shown}
 
 -- A flag is among some flags and one more exactly if it is that one or among the others.
-pub has_flag-append : (letter : ℕ) (before : List (List ℕ)) (first : ℕ) (token : List ℕ) → has_flag letter (before ++ (first ∷ token) ∷ []) ≡ (first == letter) || has_flag letter before
+pub has_flag-append : (letter : ℕ) (before : List (List ℕ)) (first : ℕ) (token : List ℕ)
+    → has_flag letter (before ++ (first ∷ token) ∷ []) ≡ (first == letter) || has_flag letter before
 has_flag-append letter before first token =
-    list_any-append (has_letter letter) before ((first ∷ token) ∷ []) ∙ (ap (λ b. has_flag letter before || b) (or-false (first == letter)) ∙ or_comm (has_flag letter before) (first == letter))
+    list_any-append (has_letter letter) before ((first ∷ token) ∷ [])
+    ∙ (ap (λ b. has_flag letter before || b) (or-false (first == letter))
+    ∙ or_comm (has_flag letter before) (first == letter))
 
 -- a missing flag is not found
-found_none : (letter : ℕ) (words : List (List ℕ)) → has_flag letter words ≡ false → find (has_letter letter) words ≡ None
+found_none : (letter : ℕ) (words : List (List ℕ)) → has_flag letter words ≡ false → find (has_letter letter) words
+    ≡ None
 found_none letter [] absent = refl
 found_none letter (word ∷ words) absent =
     let parts = or_parts (has_letter letter word) (has_flag letter words) absent in
@@ -43,15 +48,19 @@ token_of-append letter before first token fresh =
       | inr w ↦ rw (w.0, or_none (find (has_letter letter) before))
     ])
 
-cond_of : {A B : Type 0} (read : A → B) (test : Bool) (one other : A) → read (cond test one other) ≡ cond test (read one) (read other)
+cond_of : {A B : Type 0} (read : A → B) (test : Bool) (one other : A) → read (cond test one other)
+    ≡ cond test (read one) (read other)
 cond_of read true one other = refl
 cond_of read false one other = refl
 
 -- what is read of a flag's token, with one flag more
-read-append : {A : Type 0} (read : Option (List ℕ) → A) (letter : ℕ) (before : List (List ℕ)) (first : ℕ) (token : List ℕ) → has_flag first before ≡ false →
-    read (token_of letter (before ++ (first ∷ token) ∷ [])) ≡ cond (first == letter) (read (Some token)) (read (token_of letter before))
+read-append : {A : Type 0} (read : Option (List ℕ) → A) (letter : ℕ) (before : List (List ℕ)) (first : ℕ)
+    (token : List ℕ) → has_flag first before ≡ false →
+    read (token_of letter (before ++ (first ∷ token) ∷ []))
+    ≡ cond (first == letter) (read (Some token)) (read (token_of letter before))
 read-append read letter before first token fresh =
-    ap read (token_of-append letter before first token fresh) ∙ cond_of read (first == letter) (Some token) (token_of letter before)
+    ap read (token_of-append letter before first token fresh)
+    ∙ cond_of read (first == letter) (Some token) (token_of letter before)
 
 -- the flags given back, and one more where there is one
 abbrev pub more_shown : List ReturnFlag → Option ReturnFlag → List ReturnFlag
@@ -88,20 +97,33 @@ asked_next name asked first token shown = record {
 }
 
 -- With one more flag, of a new letter, a meta line has its earlier flags and that one.
-pub asked_of-append : (rules : Rules) (name : MetaKind) (before : List (List ℕ)) (first : ℕ) (token : List ℕ) → has_flag first before ≡ false →
-    asked_of rules name (before ++ (first ∷ token) ∷ []) ≡ asked_next name (asked_of rules name before) first token (return_flag first)
+pub asked_of-append : (rules : Rules) (name : MetaKind) (before : List (List ℕ)) (first : ℕ) (token : List ℕ)
+    → has_flag first before ≡ false →
+    asked_of rules name (before ++ (first ∷ token) ∷ [])
+    ≡ asked_next name (asked_of rules name before) first token (return_flag first)
 asked_of-append rules name before first token fresh =
     let flag = λ (letter : ℕ). has_flag-append letter before first token in
-    let returned = filter_map-append shown_flag before ((first ∷ token) ∷ []) ∙ more_is (filter_map shown_flag before) (return_flag first) in
+    let returned = filter_map-append shown_flag before ((first ∷ token) ∷ [])
+    ∙ more_is (filter_map shown_flag before) (return_flag first) in
     let opaque = read-append (λ o. unwrap_or o []) 79 before first token fresh in
     let signed = λ (letter : ℕ). read-append (option_and_then integer_of) letter before first token fresh in
-    let unsigned = λ (bound letter : ℕ). read-append (option_and_then (number_of bound)) letter before first token fresh in
+    let unsigned = λ (bound letter : ℕ). read-append (option_and_then (number_of bound)) letter before first token fresh
+    in
     let mode = read-append (mode_in name) 77 before first token fresh in
     let direction = read-append (direction_in name) 77 before first token fresh in
     rw (flag 98, flag 113, returned, opaque, flag 118, flag 73, flag 117, signed 84, signed 78, signed 82)
-    (rw (unsigned (2 ^ 64) 67, unsigned (2 ^ 64) 69, unsigned (2 ^ 64) 68, unsigned (2 ^ 64) 74, unsigned (2 ^ 32) 70, mode, direction))
+    (rw (
+      unsigned (2 ^ 64) 67,
+      unsigned (2 ^ 64) 69,
+      unsigned (2 ^ 64) 68,
+      unsigned (2 ^ 64) 74,
+      unsigned (2 ^ 32) 70,
+      mode,
+      direction,
+    ))
 
 -- A flag more that is given back, where there is one, comes last of these, and all else that is asked stays.
-pub with_shown_is : (asked : FlagsRead) (shown : Option ReturnFlag) → with_shown asked shown ≡ record asked { flags = record asked.flags { returned = more_shown asked.flags.returned shown } }
+pub with_shown_is : (asked : FlagsRead) (shown : Option ReturnFlag) → with_shown asked shown
+    ≡ record asked { flags = record asked.flags { returned = more_shown asked.flags.returned shown } }
 with_shown_is asked None = refl
 with_shown_is asked (Some shown) = refl

@@ -1,7 +1,9 @@
 -- What holds along a permutation, and the flags given back by the words of one.
-use Rattle.std.proofs.Common.{ℕ, zero, suc, ◌<◌, List, [], ◌∷◌, length, get_or, set, swap, Option, Some, None, arith, IsPermutation}
+use Rattle.std.proofs.Common.{ℕ, zero, suc, ◌<◌, List, [], ◌∷◌, length, get_or, set, swap, Option, Some, None, arith}
+use Rattle.std.proofs.Common.{IsPermutation}
 use Rattle.std.specs.List.{filter_map, cons_option}
-use Rattle.std.proofs.lemmas.List.Sorted.{IsPermutation-refl, IsPermutation-keeps, IsPermutation-trans, IsPermutation-cons, IsPermutation-middle}
+use Rattle.std.proofs.lemmas.List.Sorted.{IsPermutation-refl, IsPermutation-keeps, IsPermutation-trans}
+use Rattle.std.proofs.lemmas.List.Sorted.{IsPermutation-cons, IsPermutation-middle}
 
 -- A relation holds along each permutation if it is reflexive and transitive, and is preserved under a common
 -- head and by exchanging two heads.
@@ -13,9 +15,11 @@ module _ {X : Type 0} (R : List X → List X → Type 0) (same : (xs : List X) �
   to_head [] j x d h = absurd (omega arith)
   to_head (y ∷ l) zero x d h = turn x y l
   to_head (y ∷ l) (suc j) x d h =
-      chain _ _ _ (turn x y l) (chain _ _ _ (skip y _ _ (to_head l j x d (omega arith))) (turn y (get_or l j d) (set l j x)))
+      chain _ _ _ (turn x y l)
+      (chain _ _ _ (skip y _ _ (to_head l j x d (omega arith))) (turn y (get_or l j d) (set l j x)))
 
-  exchanged : (l : List X) (i j : ℕ) (d : X) → i < length l → j < length l → R l (set (set l i (get_or l j d)) j (get_or l i d))
+  exchanged : (l : List X) (i j : ℕ) (d : X) → i < length l → j < length l
+      → R l (set (set l i (get_or l j d)) j (get_or l i d))
   exchanged [] i j d p q = absurd (omega arith)
   exchanged (x ∷ l) zero zero d p q = same (x ∷ l)
   exchanged (x ∷ l) zero (suc j) d p q = to_head l j x d (omega arith)
@@ -31,17 +35,20 @@ module _ {X : Type 0} (R : List X → List X → Type 0) (same : (xs : List X) �
   pub along_permutation : (xs ys : List X) → IsPermutation xs ys → R xs ys
   along_permutation xs = IsPermutation-keeps xs (R xs) (same xs) (λ l i j p q h. chain xs l _ h (swapped l i j p q))
 
-under_head : {Y : Type 0} (first : Option Y) (xs ys : List Y) → IsPermutation xs ys → IsPermutation (cons_option first xs) (cons_option first ys)
+under_head : {Y : Type 0} (first : Option Y) (xs ys : List Y) → IsPermutation xs ys
+    → IsPermutation (cons_option first xs) (cons_option first ys)
 under_head None xs ys moved = moved
 under_head (Some first) xs ys moved = IsPermutation-cons first xs ys moved
 
-heads_turned : {Y : Type 0} (first second : Option Y) (xs : List Y) → IsPermutation (cons_option first (cons_option second xs)) (cons_option second (cons_option first xs))
+heads_turned : {Y : Type 0} (first second : Option Y) (xs : List Y)
+    → IsPermutation (cons_option first (cons_option second xs)) (cons_option second (cons_option first xs))
 heads_turned None second xs = IsPermutation-refl _
 heads_turned (Some first) None xs = IsPermutation-refl _
 heads_turned (Some first) (Some second) xs = IsPermutation-middle (first ∷ []) second xs
 
 -- what h gives of the elements in another order is what it gives of them, in another order
-pub IsPermutation-filter_map : {X Y : Type 0} (h : X → Option Y) (xs ys : List X) → IsPermutation xs ys → IsPermutation (filter_map h xs) (filter_map h ys)
+pub IsPermutation-filter_map : {X Y : Type 0} (h : X → Option Y) (xs ys : List X) → IsPermutation xs ys
+    → IsPermutation (filter_map h xs) (filter_map h ys)
 IsPermutation-filter_map h = along_permutation (λ xs ys. IsPermutation (filter_map h xs) (filter_map h ys))
     (λ xs. IsPermutation-refl _)
     (λ x xs ys moved. under_head (h x) _ _ moved)

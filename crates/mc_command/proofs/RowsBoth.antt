@@ -1,6 +1,7 @@
 -- Worked lines under both rules, where they differ: the results of the native rules, and of memcached's. The
 -- latter are what memcached 1.6.18 answered.
-use Rattle.std.proofs.Common.{◌≡◌, ℕ, Bool, true, false, List, [], ◌∷◌, ◌++◌, Option, Some, None, refl, codes, ℤ, pos, negsuc, replicate}
+use Rattle.std.proofs.Common.{◌≡◌, ℕ, Bool, true, false, List, [], ◌∷◌, ◌++◌, Option, Some, None, refl, codes, ℤ, pos}
+use Rattle.std.proofs.Common.{negsuc, replicate}
 use Rattle.std.specs.Prelude.{map}
 use Rattle.std.specs.Int.{int_wrap}
 use Rattle.mc_wire.specs.Words.{words_of}
@@ -12,7 +13,9 @@ use Rattle.mc_command.specs.declared.command.StatsRequest.TheVariants as request
 use Rattle.mc_command.specs.declared.command.StoreMode.{StoreMode}
 use Rattle.mc_command.specs.declared.command.StoreMode.TheVariants as mode
 use Rattle.mc_command.specs.declared.command.Direction.TheVariants.{Increment}
-use Rattle.mc_command.specs.declared.refusal.Refusal.TheVariants.{Unknown, BadFormat, BadKey, DuplicateFlag, Hidden, InvalidFlag, TooLarge, WordCount}
+use Rattle.mc_command.specs.declared.error.CommandError.TheVariants.{Unknown, BadFormat, BadKey, DuplicateFlag, Hidden}
+use Rattle.mc_command.specs.declared.error.CommandError.TheVariants.{InvalidFlag, ShutdownDisabled, ShutdownMode}
+use Rattle.mc_command.specs.declared.error.CommandError.TheVariants.{TooLarge, WordCount}
 use Rattle.mc_command.specs.declared.rules.Profile.{Profile}
 use Rattle.mc_command.specs.declared.rules.Profile.TheVariants.{Own, DropIn}
 use Rattle.mc_command.specs.declared.line.Line.{Line}
@@ -21,6 +24,7 @@ use Rattle.mc_command.specs.Classic.{keys_of}
 use Rattle.mc_command.specs.Field.{is_key, word_count_refusal}
 use Rattle.mc_command.specs.Meta.{meta_line_of}
 use Rattle.mc_command.specs.Name.{name_of}
+use Rattle.mc_command.specs.declared.rules.Rules.{Rules as LineRules}
 use Rattle.mc_command.specs.Rules.{drop_in, own}
 use Rattle.mc_command.specs.Table.{line_of}
 
@@ -37,7 +41,13 @@ abbrev a : List ℕ
 a = codes "a"
 
 abbrev set : ℤ → Bool → Command
-set exptime noreply = command.Store (record { asked = record { key = a; mode = mode.Set; compare = None; unique = None; flags = 0; exptime = exptime; value = [] }; noreply = noreply; lenient = false })
+set exptime noreply =
+    command.Store (record {
+      asked =
+          record { key = a; mode = mode.Set; compare = None; unique = None; flags = 0; exptime = exptime; value = [] };
+      noreply = noreply;
+      lenient = false;
+    })
 
 -- `set` with this exptime and a block of one byte
 abbrev until : ℤ → Line
@@ -53,8 +63,16 @@ exptimes : AreSo (
     ∷ (codes "set a 0 -2147483649 1", until (negsuc 2147483648), until (pos 2147483647))
     ∷ (codes "set a 0 9223372036854775807 1", until (pos 9223372036854775807), until (negsuc 0))
     ∷ (codes "set a 0 9223372036854775808 1", Skip None BadFormat 3, Skip None BadFormat 3)
-    ∷ (codes "touch a 4294967396", Whole (command.Touch a (pos 4294967396) false), Whole (command.Touch a (pos 100) false))
-    ∷ (codes "flush_all 4294967295", Whole (command.FlushAll (pos 4294967295) false), Whole (command.FlushAll (negsuc 0) false))
+    ∷ (
+      codes "touch a 4294967396",
+      Whole (command.Touch a (pos 4294967396) false),
+      Whole (command.Touch a (pos 100) false),
+    )
+    ∷ (
+      codes "flush_all 4294967295",
+      Whole (command.FlushAll (pos 4294967295) false),
+      Whole (command.FlushAll (negsuc 0) false),
+    )
     ∷ []
     )
 unfolding line_of words_of name_of is_key number_of int_wrap
@@ -77,6 +95,35 @@ statistics : AreSo (
     )
 unfolding line_of words_of name_of
 statistics = (refl, refl)
+
+-- The native rules have no `shutdown`. memcached's refuse each form of it where clients may not end the server.
+shutdowns : AreSo (
+    (codes "shutdown", Refused Unknown, Refused ShutdownDisabled)
+    ∷ (codes "shutdown graceful", Refused Unknown, Refused ShutdownDisabled)
+    ∷ (codes "shutdown x", Refused Unknown, Refused ShutdownDisabled)
+    ∷ (codes "shutdown noreply", Refused Unknown, Refused ShutdownDisabled)
+    ∷ (codes "Shutdown", Refused Unknown, Refused Unknown)
+    ∷ (codes "shutdowns", Refused Unknown, Refused Unknown)
+    ∷ []
+    )
+unfolding line_of words_of name_of
+shutdowns = (refl, refl)
+
+-- what the lines are by these rules, where clients may end the server
+abbrev lines_by : LineRules → List (List ℕ) → List Line
+lines_by rules texts = map (λ text. line_of (record rules { shutdown = true }) (words_of text)) texts
+
+-- Where clients may end the server, memcached's rules have two forms of `shutdown`, and the native ones none.
+shutdown_modes :
+    (lines_by (drop_in DEFAULT_VALUE_LIMIT) (map codes ("shutdown" ∷ "shutdown graceful" ∷ "  shutdown  " ∷ []))
+    ≡ replicate 3 (Whole command.Shutdown))
+    × (lines_by (drop_in DEFAULT_VALUE_LIMIT)
+    (map codes ("shutdown x" ∷ "shutdown noreply" ∷ "shutdown Graceful" ∷ "shutdown graceful x" ∷ []))
+    ≡ replicate 4 (Refused ShutdownMode))
+    × (lines_by (own DEFAULT_VALUE_LIMIT) (map codes ("shutdown" ∷ "shutdown graceful" ∷ "shutdown x" ∷ []))
+    ≡ replicate 3 (Refused Unknown))
+unfolding line_of words_of name_of
+shutdown_modes = (refl, refl, refl)
 
 -- Too few or too many words are an unknown command, and a block is skipped if there is a length; `cas`
 -- without its unique has no block.
@@ -170,7 +217,13 @@ versions = (refl, refl)
 
 -- A joined value that is too large counts as not stored, or it is an error.
 abbrev joining : StoreMode → Option ℕ → Bool → Line
-joining mode compare lenient = Data (command.Store (record { asked = record { key = a; mode = mode; compare = compare; unique = None; flags = 0; exptime = pos 0; value = [] }; noreply = false; lenient = lenient })) 1
+joining mode compare lenient =
+    Data (command.Store (record {
+      asked =
+          record { key = a; mode = mode; compare = compare; unique = None; flags = 0; exptime = pos 0; value = [] };
+      noreply = false;
+      lenient = lenient;
+    })) 1
 
 joins : AreSo (
     (codes "append a 0 0 1", joining mode.Append None false, joining mode.Append None true)
@@ -187,7 +240,8 @@ joins = (refl, refl)
 abbrev ms_until : Profile → ℤ → StoreMode → Option ℕ → Line
 ms_until profile exptime mode compare =
     Data (command.MetaSet (record {
-      asked = record { key = a; mode = mode; compare = compare; unique = None; flags = 0; exptime = exptime; value = [] };
+      asked =
+          record { key = a; mode = mode; compare = compare; unique = None; flags = 0; exptime = exptime; value = [] };
       flags = record { base64 = false; quiet = false; profile = profile; returned = []; opaque = [] };
     })) 1
 
@@ -218,7 +272,16 @@ compares = (refl, refl)
 abbrev ma : Profile → Option ℕ → Line
 ma profile compare =
     Whole (command.MetaArithmetic (record {
-      asked = record { key = a; compare = compare; unique = None; direction = Increment; amount = 1; exptime = None; vivify = None };
+      asked =
+          record {
+            key = a;
+            compare = compare;
+            unique = None;
+            direction = Increment;
+            amount = 1;
+            exptime = None;
+            vivify = None;
+          };
       flags = record { base64 = false; quiet = false; profile = profile; returned = []; opaque = [] };
       value = false;
     }))
@@ -235,7 +298,13 @@ counts_compare = (refl, refl)
 
 -- The reply to a meta command follows the rules by which its line is read.
 abbrev mg_by : Profile → Bool → Line
-mg_by profile unnoted = Whole (command.MetaGet (record { asked = record { key = a; touch = None; vivify = None; recache = None; unnoted = unnoted }; flags = record { base64 = false; quiet = false; profile = profile; returned = []; opaque = [] }; value = true }))
+mg_by profile unnoted =
+    Whole (command.MetaGet (record {
+      asked =
+          record { key = a; touch = None; vivify = None; recache = None; unnoted = unnoted };
+      flags = record { base64 = false; quiet = false; profile = profile; returned = []; opaque = [] };
+      value = true;
+    }))
 
 replies : AreSo ((codes "mg a v", mg_by Own false, mg_by DropIn false) ∷ [])
 unfolding line_of words_of name_of is_key meta_line_of
@@ -257,7 +326,11 @@ unnoted = (refl, refl)
 flags : AreSo (
     (codes "ms a 1 I N30 Pto Lb", Skip None InvalidFlag 3, ms mode.Set None)
     ∷ (codes "ms a 1 N", Skip None InvalidFlag 3, Skip None BadFormat 3)
-    ∷ (codes "ms a 1 T4294967295", ms_until Own (pos 4294967295) mode.Set None, ms_until DropIn (negsuc 0) mode.Set None)
+    ∷ (
+      codes "ms a 1 T4294967295",
+      ms_until Own (pos 4294967295) mode.Set None,
+      ms_until DropIn (negsuc 0) mode.Set None,
+    )
     ∷ (codes "md a P P", Refused InvalidFlag, Refused DuplicateFlag)
     ∷ (codes "mg a P Q", Refused InvalidFlag, Refused InvalidFlag)
     ∷ (codes "ma a L D", Refused InvalidFlag, Refused BadFormat)

@@ -1,5 +1,6 @@
 -- Worked lines of the classic commands, with the results of the table.
-use Rattle.std.proofs.Common.{◌≡◌, ℕ, Bool, true, false, List, [], ◌∷◌, ◌++◌, Option, Some, None, refl, codes, ℤ, pos, negsuc, replicate}
+use Rattle.std.proofs.Common.{◌≡◌, ℕ, Bool, true, false, List, [], ◌∷◌, ◌++◌, Option, Some, None, refl, codes, ℤ, pos}
+use Rattle.std.proofs.Common.{negsuc, replicate}
 use Rattle.std.specs.Prelude.{map}
 use Rattle.mc_wire.specs.Words.{words_of}
 use Rattle.mc_wire.specs.Number.{number_of}
@@ -9,7 +10,7 @@ use Rattle.mc_command.specs.declared.command.Command.TheVariants as command
 use Rattle.mc_command.specs.declared.command.StoreMode.{StoreMode}
 use Rattle.mc_command.specs.declared.command.StoreMode.TheVariants.{Set, Add, Replace, Append, Prepend}
 use Rattle.mc_command.specs.declared.command.Direction.TheVariants.{Increment, Decrement}
-use Rattle.mc_command.specs.declared.refusal.Refusal.TheVariants.{Unknown, BadFormat, BadKey, InvalidFlag, TooLarge}
+use Rattle.mc_command.specs.declared.error.CommandError.TheVariants.{Unknown, BadFormat, BadKey, InvalidFlag, TooLarge}
 use Rattle.mc_command.specs.declared.line.Line.{Line}
 use Rattle.mc_command.specs.declared.line.Line.TheVariants.{Whole, Data, Refused, Skip}
 use Rattle.mc_command.specs.Field.{is_key}
@@ -34,7 +35,21 @@ abbrev each_is : Line → List (List ℕ) → Rows
 each_is line texts = map (λ text. (text, line)) texts
 
 abbrev stored_at : Option ℕ → List ℕ → StoreMode → ℕ → ℤ → Bool → Command
-stored_at compare key mode flags exptime noreply = command.Store (record { asked = record { key = key; mode = mode; compare = compare; unique = None; flags = flags; exptime = exptime; value = [] }; noreply = noreply; lenient = false })
+stored_at compare key mode flags exptime noreply =
+    command.Store (record {
+      asked =
+          record {
+            key = key;
+            mode = mode;
+            compare = compare;
+            unique = None;
+            flags = flags;
+            exptime = exptime;
+            value = [];
+          };
+      noreply = noreply;
+      lenient = false;
+    })
 
 abbrev stored : List ℕ → StoreMode → ℕ → ℤ → Bool → Command
 stored key mode flags exptime noreply = stored_at None key mode flags exptime noreply
@@ -79,11 +94,15 @@ storage_faults : AreSo (
     ∷ (codes "set a 0 0 4294967295", Skip None TooLarge 4294967297)
     ∷ each_is (Refused BadFormat) (map codes ("set a 0 1" ∷ "set a 0 0 -1" ∷ "set a 0 0 000000000000000000001" ∷ []))
     ++ each_is (Refused BadFormat) (map codes ("set a 0 0 4294967296" ∷ []))
-    ++ each_is (Skip None BadFormat 3) (map codes ("set a 0 0 1 noreply x" ∷ "cas a 0 0 1" ∷ "cas a 0 0 1 7 noreply x" ∷ "set a 0 - 1" ∷ []))
-    ++ each_is (Skip None BadFormat 3) (map codes ("set a 0 9223372036854775808 1" ∷ "set a 0 -9223372036854775809 1" ∷ []))
-    ++ each_is (Skip None BadFormat 3) (map codes ("set a 0 0 1 NOREPLY" ∷ "cas a 0 0 1 18446744073709551616" ∷ "cas a 0 0 1 -7" ∷ []))
+    ++ each_is (Skip None BadFormat 3)
+    (map codes ("set a 0 0 1 noreply x" ∷ "cas a 0 0 1" ∷ "cas a 0 0 1 7 noreply x" ∷ "set a 0 - 1" ∷ []))
+    ++ each_is (Skip None BadFormat 3)
+    (map codes ("set a 0 9223372036854775808 1" ∷ "set a 0 -9223372036854775809 1" ∷ []))
+    ++ each_is (Skip None BadFormat 3)
+    (map codes ("set a 0 0 1 NOREPLY" ∷ "cas a 0 0 1 18446744073709551616" ∷ "cas a 0 0 1 -7" ∷ []))
     ++ each_is (Skip None BadFormat 3) (map codes ("cas a 0 0 1 noreply" ∷ []))
-    ++ each_is (Skip None BadFormat 4) (map codes ("set a x 0 2" ∷ "set a +1 0 2" ∷ "set a -1 0 2" ∷ "append a 4294967296 0 2" ∷ []))
+    ++ each_is (Skip None BadFormat 4)
+    (map codes ("set a x 0 2" ∷ "set a +1 0 2" ∷ "set a -1 0 2" ∷ "append a 4294967296 0 2" ∷ []))
     ++ each_is (Skip None TooLarge 1048579) (map codes ("set a 0 0 1048577" ∷ "set a 0 0 1048577 noreply" ∷ [])))
 unfolding line_of words_of name_of is_key number_of word_count_refusal
 storage_faults = refl
@@ -138,10 +157,14 @@ change_rows : AreSo (
     ∷ (codes "flush_all -5 noreply", Whole (command.FlushAll (negsuc 4) true))
     ∷ each_is (Whole (command.Delete a false)) (map codes ("delete a" ∷ "delete a 0" ∷ []))
     ++ each_is (Whole (command.Delete a true)) (map codes ("delete a noreply" ∷ "delete a 0 noreply" ∷ []))
-    ++ each_is (Refused BadFormat) (map codes ("delete" ∷ "delete a 1" ∷ "delete a 00" ∷ "delete a -0" ∷ "delete a 0 0" ∷ []))
-    ++ each_is (Refused BadFormat) (map codes ("delete a noreply 0" ∷ "delete a noreply noreply" ∷ "incr a 18446744073709551616" ∷ []))
-    ++ each_is (Refused BadFormat) (map codes ("incr a -1" ∷ "incr a" ∷ "incr a noreply" ∷ "incr a 1 x" ∷ "touch a x" ∷ "touch a" ∷ []))
-    ++ each_is (Refused BadFormat) (map codes ("flush_all noreply noreply" ∷ "flush_all 1 2" ∷ "flush_all 1 noreply x" ∷ [])))
+    ++ each_is (Refused BadFormat)
+    (map codes ("delete" ∷ "delete a 1" ∷ "delete a 00" ∷ "delete a -0" ∷ "delete a 0 0" ∷ []))
+    ++ each_is (Refused BadFormat)
+    (map codes ("delete a noreply 0" ∷ "delete a noreply noreply" ∷ "incr a 18446744073709551616" ∷ []))
+    ++ each_is (Refused BadFormat)
+    (map codes ("incr a -1" ∷ "incr a" ∷ "incr a noreply" ∷ "incr a 1 x" ∷ "touch a x" ∷ "touch a" ∷ []))
+    ++ each_is (Refused BadFormat)
+    (map codes ("flush_all noreply noreply" ∷ "flush_all 1 2" ∷ "flush_all 1 noreply x" ∷ [])))
 unfolding line_of words_of name_of is_key keys_of number_of word_count_refusal
 change_rows = refl
 
@@ -153,7 +176,8 @@ other_rows : AreSo (
     ∷ (codes "mn x y", Whole command.MetaNoop)
     ∷ (codes "quitting", Refused Unknown)
     ∷ (codes "mn" ++ 13 ∷ [], Refused Unknown)
-    ∷ each_is (Refused BadFormat) (map codes ("verbosity" ∷ "verbosity noreply" ∷ "verbosity 1 2" ∷ "verbosity 1 noreply x" ∷ [])))
+    ∷ each_is (Refused BadFormat)
+    (map codes ("verbosity" ∷ "verbosity noreply" ∷ "verbosity 1 2" ∷ "verbosity 1 noreply x" ∷ [])))
 unfolding line_of words_of name_of is_key keys_of number_of word_count_refusal
 other_rows = refl
 
@@ -171,13 +195,18 @@ number_rows : AreSo (
     ∷ (codes "gat -0 a", got (a ∷ []) (Some (pos 0)) false)
     ∷ (codes "flush_all -9223372036854775808", Whole (command.FlushAll (negsuc 9223372036854775807) false))
     ∷ (codes "verbosity 18446744073709551615", Whole (command.Verbosity false))
-    ∷ each_is (Skip None BadFormat 3) (map codes ("set a 000000000000000000007 0 1" ∷ "set a 0 000000000000000000009 1" ∷ []))
-    ++ each_is (Skip None BadFormat 3) (map codes ("set a 0 -000000000000000000009 1" ∷ "set a 0 +1 1" ∷ "set a 0 --1 1" ∷ []))
+    ∷ each_is (Skip None BadFormat 3)
+    (map codes ("set a 000000000000000000007 0 1" ∷ "set a 0 000000000000000000009 1" ∷ []))
+    ++ each_is (Skip None BadFormat 3)
+    (map codes ("set a 0 -000000000000000000009 1" ∷ "set a 0 +1 1" ∷ "set a 0 --1 1" ∷ []))
     ++ each_is (Skip None BadFormat 3) (map codes ("cas a 0 0 1 000000000000000000007" ∷ []))
     ++ each_is (Refused BadFormat) (map codes ("set a 0 0 +1" ∷ "incr a 000000000000000000005" ∷ "incr a +1" ∷ []))
-    ++ each_is (Refused BadFormat) (map codes ("decr a 18446744073709551616 noreply" ∷ "touch a -000000000000000000001" ∷ []))
-    ++ each_is (Refused BadFormat) (map codes ("touch a 9223372036854775808" ∷ "touch a +1" ∷ "gats 18446744073709551615 a" ∷ []))
-    ++ each_is (Refused BadFormat) (map codes ("flush_all -9223372036854775809" ∷ "verbosity 18446744073709551616" ∷ "verbosity -1" ∷ [])))
+    ++ each_is (Refused BadFormat)
+    (map codes ("decr a 18446744073709551616 noreply" ∷ "touch a -000000000000000000001" ∷ []))
+    ++ each_is (Refused BadFormat)
+    (map codes ("touch a 9223372036854775808" ∷ "touch a +1" ∷ "gats 18446744073709551615 a" ∷ []))
+    ++ each_is (Refused BadFormat)
+    (map codes ("flush_all -9223372036854775809" ∷ "verbosity 18446744073709551616" ∷ "verbosity -1" ∷ [])))
 unfolding line_of words_of name_of is_key keys_of number_of word_count_refusal
 number_rows = refl
 
@@ -193,10 +222,13 @@ noreply_rows : AreSo (
     ∷ (codes "quit noreply", Whole command.Quit)
     ∷ (codes "mn noreply", Whole command.MetaNoop)
     ∷ (codes "ms a 2 noreply", Skip None InvalidFlag 4)
-    ∷ each_is (Skip None BadFormat 3) (map codes ("set a noreply 0 1" ∷ "set a 0 noreply 1" ∷ "set a 0 0 1 noreply noreply" ∷ []))
+    ∷ each_is (Skip None BadFormat 3)
+    (map codes ("set a noreply 0 1" ∷ "set a 0 noreply 1" ∷ "set a 0 0 1 noreply noreply" ∷ []))
     ++ each_is (Skip None BadFormat 3) (map codes ("set a 0 0 1 noreply1" ∷ "cas a 0 0 1 noreply 7" ∷ []))
-    ++ each_is (Refused BadFormat) (map codes ("set a 0 0 noreply" ∷ "set a 0 0 noreply 1" ∷ "gat noreply a" ∷ "decr a noreply 1" ∷ []))
-    ++ each_is (Refused BadFormat) (map codes ("touch a noreply" ∷ "flush_all noreply 5" ∷ "verbosity noreply noreply" ∷ []))
+    ++ each_is (Refused BadFormat)
+    (map codes ("set a 0 0 noreply" ∷ "set a 0 0 noreply 1" ∷ "gat noreply a" ∷ "decr a noreply 1" ∷ []))
+    ++ each_is (Refused BadFormat)
+    (map codes ("touch a noreply" ∷ "flush_all noreply 5" ∷ "verbosity noreply noreply" ∷ []))
     ++ each_is (Refused InvalidFlag) (map codes ("mg a noreply" ∷ "md a noreply" ∷ "ma a noreply" ∷ [])))
 unfolding line_of words_of name_of is_key keys_of number_of meta_line_of word_count_refusal
 noreply_rows = refl

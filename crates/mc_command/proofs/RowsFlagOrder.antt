@@ -9,7 +9,7 @@ use Rattle.mc_command.specs.declared.line.Line.TheVariants.{Whole, Refused, Skip
 use Rattle.mc_command.specs.declared.meta.ReturnFlag.{ReturnFlag}
 use Rattle.mc_command.specs.declared.meta.ReturnFlag.TheVariants.{Key, Opaque, TimeLeft}
 use Rattle.mc_command.specs.declared.meta.MetaKind.TheVariants.{Get, Set}
-use Rattle.mc_command.specs.declared.refusal.Refusal.TheVariants.{InvalidFlag, DuplicateFlag}
+use Rattle.mc_command.specs.declared.error.CommandError.TheVariants.{InvalidFlag, DuplicateFlag}
 use Rattle.mc_command.specs.Field.{is_key}
 use Rattle.mc_command.specs.FlagOrder.{before_flags}
 use Rattle.mc_command.specs.Meta.{meta_line_of}
@@ -24,15 +24,23 @@ line text = line_of (own DEFAULT_VALUE_LIMIT) (words_of text)
 
 -- the words before the flags
 heads : map words_of (codes "mg a k t" ∷ codes "ms a 2 k t" ∷ [])
-    ≡ (before_flags Get (codes "a") (codes "9") ++ codes "k" ∷ codes "t" ∷ []) ∷ (before_flags Set (codes "a") (codes "2") ++ codes "k" ∷ codes "t" ∷ []) ∷ []
+    ≡ (before_flags Get (codes "a") (codes "9") ++ codes "k" ∷ codes "t" ∷ []) ∷
+    (before_flags Set (codes "a") (codes "2") ++ codes "k" ∷ codes "t" ∷ []) ∷ []
 unfolding words_of
 heads = refl
 
 -- a get that gives these flags back
 abbrev got : List ReturnFlag → Line
-got returned = Whole (MetaGet (record { asked = record { key = codes "a"; touch = None; vivify = None; recache = None; unnoted = false }; flags = record { base64 = false; quiet = true; profile = Own; returned = returned; opaque = codes "1" }; value = true }))
+got returned =
+    Whole (MetaGet (record {
+      asked =
+          record { key = codes "a"; touch = None; vivify = None; recache = None; unnoted = false };
+      flags = record { base64 = false; quiet = true; profile = Own; returned = returned; opaque = codes "1" };
+      value = true;
+    }))
 
-gets : map line (codes "mg a k v O1 q t" ∷ codes "mg a t q O1 v k" ∷ []) ≡ got (Key ∷ Opaque ∷ TimeLeft ∷ []) ∷ got (TimeLeft ∷ Opaque ∷ Key ∷ []) ∷ []
+gets : map line (codes "mg a k v O1 q t" ∷ codes "mg a t q O1 v k" ∷ [])
+    ≡ got (Key ∷ Opaque ∷ TimeLeft ∷ []) ∷ got (TimeLeft ∷ Opaque ∷ Key ∷ []) ∷ []
 unfolding line_of name_of meta_line_of words_of number_of is_key word_count_refusal
 gets = refl
 

@@ -1,11 +1,12 @@
 -- From the command of a line's words to the line, with or without a block.
-use Rattle.std.specs.Prelude.{ℕ, ◌+◌, ◌-◌, ◌^◌, List, Option, Some, None, nat_lt, if◌then◌else◌, Result, Ok, Err, IsTrue}
+use Rattle.std.specs.Prelude.{ℕ, ◌+◌, ◌-◌, ◌^◌, List, Option, Some, None, nat_lt, if◌then◌else◌, Result, Ok, Err}
+use Rattle.std.specs.Prelude.{IsTrue}
 use Rattle.mc_command.specs.declared.command.Command.{Command}
 use Rattle.mc_command.specs.declared.command.Command.TheVariants as command
 use Rattle.mc_command.specs.declared.command.StoreMode.{StoreMode}
 use Rattle.mc_command.specs.declared.command.StoreMode.TheVariants as mode
-use Rattle.mc_command.specs.declared.refusal.Refusal.{Refusal}
-use Rattle.mc_command.specs.declared.refusal.Refusal.TheVariants.{BadFormat, TooLarge}
+use Rattle.mc_command.specs.declared.error.CommandError.{CommandError}
+use Rattle.mc_command.specs.declared.error.CommandError.TheVariants.{BadFormat, TooLarge}
 use Rattle.mc_command.specs.declared.line.Line.{Line}
 use Rattle.mc_command.specs.declared.line.Line.TheVariants.{Whole, Data, Refused, Skip}
 use Rattle.mc_command.specs.Command.{can_give_up, refusal_takes_memory}
@@ -14,7 +15,7 @@ use Rattle.mc_command.specs.Rules.{is_drop_in}
 use Rattle.mc_command.specs.declared.rules.Rules.{Rules}
 
 -- a line without a block
-abbrev pub whole_line : Result Command Refusal → Line
+abbrev pub whole_line : Result Command CommandError → Line
 whole_line (Ok command) = Whole command
 whole_line (Err refusal) = Refused refusal
 
@@ -36,14 +37,15 @@ discarded_by rules asked = if is_drop_in rules then key_set asked else None
 
 -- A line with a block, with the block's length if that word is valid. A valid length determines what is
 -- skipped, whatever else is wrong; a value above the limit is the last error to be reported.
-abbrev pub block_line : Rules → Option ℕ → Result Command Refusal → Line
-block_line rules (Some count) (Ok asked) = if nat_lt rules.value_limit count then Skip (discarded_by rules asked) TooLarge (count + 2) else Data asked count
+abbrev pub block_line : Rules → Option ℕ → Result Command CommandError → Line
+block_line rules (Some count) (Ok asked) =
+    if nat_lt rules.value_limit count then Skip (discarded_by rules asked) TooLarge (count + 2) else Data asked count
 block_line rules (Some count) (Err refusal) = Skip None refusal (count + 2)
 block_line rules None (Ok asked) = Refused BadFormat
 block_line rules None (Err refusal) = Refused refusal
 
 -- A line with this command may be refused for want of memory.
-abbrev pub MayBeGivenUp : Result Command Refusal → Type 0
+abbrev pub MayBeGivenUp : Result Command CommandError → Type 0
 MayBeGivenUp (Ok command) = IsTrue (can_give_up command)
 MayBeGivenUp (Err refusal) = IsTrue (refusal_takes_memory refusal)
 

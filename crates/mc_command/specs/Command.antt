@@ -4,8 +4,8 @@ use Rattle.mc_command.specs.declared.command.Command.{Command}
 use Rattle.mc_command.specs.declared.command.Command.TheVariants as command
 use Rattle.mc_command.specs.declared.command.StatsRequest.TheVariants as request
 use Rattle.mc_command.specs.declared.command.StoreRequest.{StoreRequest}
-use Rattle.mc_command.specs.declared.refusal.Refusal.{Refusal}
-use Rattle.mc_command.specs.declared.refusal.Refusal.TheVariants as refusal
+use Rattle.mc_command.specs.declared.error.CommandError.{CommandError}
+use Rattle.mc_command.specs.declared.error.CommandError.TheVariants as refusal
 
 -- the request with this value
 abbrev pub with_value : {V : Type 0} → StoreRequest V → V → StoreRequest V
@@ -18,7 +18,7 @@ with_block (command.MetaSet set) block = command.MetaSet (record set { asked = w
 with_block other block = other
 
 -- The refusal is "out of memory".
-abbrev pub is_memory : Refusal → Bool
+abbrev pub is_memory : CommandError → Bool
 is_memory refusal.Memory = true
 is_memory other = false
 
@@ -28,10 +28,12 @@ is_memory_refusal (command.Refused told) = is_memory told
 is_memory_refusal other = false
 
 -- Memory may be refused while a line with this error is parsed, before the error is found.
-abbrev pub refusal_takes_memory : Refusal → Bool
+abbrev pub refusal_takes_memory : CommandError → Bool
 refusal_takes_memory refusal.Unknown = false
 refusal_takes_memory refusal.LineTooLong = false
 refusal_takes_memory refusal.Memory = false
+refusal_takes_memory refusal.ShutdownDisabled = false
+refusal_takes_memory refusal.ShutdownMode = false
 refusal_takes_memory other = true
 
 -- A command with a request to a shard may be refused for want of memory, and so may a line that is refused
@@ -40,6 +42,7 @@ abbrev pub can_give_up : Command → Bool
 can_give_up (command.Version profile) = false
 can_give_up (command.Verbosity noreply) = false
 can_give_up command.Quit = false
+can_give_up command.Shutdown = false
 can_give_up command.MetaNoop = false
 can_give_up (command.Stats request.Empty) = false
 can_give_up (command.Refused told) = refusal_takes_memory told

@@ -27,8 +27,10 @@ returned_in command = []
 abbrev pub with_returned : Command → List ReturnFlag → Command
 with_returned (command.MetaGet get) returned = command.MetaGet (record get { flags = with_flags get.flags returned })
 with_returned (command.MetaSet set) returned = command.MetaSet (record set { flags = with_flags set.flags returned })
-with_returned (command.MetaDelete delete) returned = command.MetaDelete (record delete { flags = with_flags delete.flags returned })
-with_returned (command.MetaArithmetic arithmetic) returned = command.MetaArithmetic (record arithmetic { flags = with_flags arithmetic.flags returned })
+with_returned (command.MetaDelete delete) returned =
+    command.MetaDelete (record delete { flags = with_flags delete.flags returned })
+with_returned (command.MetaArithmetic arithmetic) returned =
+    command.MetaArithmetic (record arithmetic { flags = with_flags arithmetic.flags returned })
 with_returned command returned = command
 
 -- Two commands are equal but for the order of their returned flags.
@@ -55,5 +57,7 @@ before_flags Arithmetic key count = codes "ma" ∷ key ∷ []
 
 -- A meta line with its flags in another order is the same but for the order of the returned ones.
 abbrev pub FlagsInAnyOrder : Type 0
-FlagsInAnyOrder = (rules : Rules) (name : MetaKind) (key count : List ℕ) (flags others : List (List ℕ)) → IsPermutation flags others →
-    SameButOrder (line_of rules (before_flags name key count ++ flags)) (line_of rules (before_flags name key count ++ others))
+FlagsInAnyOrder =
+    (rules : Rules) (name : MetaKind) (key count : List ℕ) (flags others : List (List ℕ)) → IsPermutation flags others →
+    SameButOrder (line_of rules (before_flags name key count ++ flags))
+    (line_of rules (before_flags name key count ++ others))

@@ -7,8 +7,8 @@ use Rattle.mc_command.specs.declared.line.Line.{Line}
 use Rattle.mc_command.specs.declared.line.Line.TheVariants.{Refused, Skip}
 use Rattle.mc_command.specs.declared.name.CommandName.{CommandName}
 use Rattle.mc_command.specs.declared.name.CommandName.TheVariants as name
-use Rattle.mc_command.specs.declared.refusal.Refusal.{Refusal}
-use Rattle.mc_command.specs.declared.refusal.Refusal.TheVariants.{Hidden, Memory, WordCount}
+use Rattle.mc_command.specs.declared.error.CommandError.{CommandError}
+use Rattle.mc_command.specs.declared.error.CommandError.TheVariants.{Hidden, Memory, WordCount}
 use Rattle.mc_command.specs.declared.rules.Rules.{Rules}
 use Rattle.mc_command.specs.Field.{is_noreply}
 use Rattle.mc_command.specs.Rules.{is_drop_in}
@@ -32,7 +32,7 @@ abbrev pub hides_faults : Rules → CommandName → List (List ℕ) → Bool
 hides_faults rules name words = takes_noreply name && (is_drop_in rules && ends_in_noreply words)
 
 -- the refusal, or `Hidden`
-abbrev pub shown_refusal : Bool → Refusal → Refusal
+abbrev pub shown_refusal : Bool → CommandError → CommandError
 shown_refusal true Memory = Memory
 shown_refusal true WordCount = WordCount
 shown_refusal true other = Hidden

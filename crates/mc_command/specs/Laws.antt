@@ -13,4 +13,6 @@ abbrev pub IsNeverOutOfMemory : Type 0
 IsNeverOutOfMemory = (rules : Rules) (words : List (List ℕ)) → is_given_up (line_of rules words) ≡ false
 
 abbrev pub DataCanBeGivenUp : Type 0
-DataCanBeGivenUp = (rules : Rules) (words : List (List ℕ)) (asked : Command) (count : ℕ) → line_of rules words ≡ Data asked count → IsTrue (can_give_up asked)
+DataCanBeGivenUp =
+    (rules : Rules) (words : List (List ℕ)) (asked : Command) (count : ℕ) → line_of rules words ≡ Data asked count
+    → IsTrue (can_give_up asked)

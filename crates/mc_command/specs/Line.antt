@@ -24,7 +24,8 @@ abbrev pub Says : Line → Line → Type 0
 Says line (Whole command) = line ≡ Whole command
 Says line (Data command count) = line ≡ Data command count
 Says line (Refused refusal) = MatchBool (is_memory refusal) (CanGiveUpLine line) (line ≡ Refused refusal)
-Says line (Skip discarded refusal count) = MatchBool (is_memory refusal) ((discarded ≡ None) × CanGiveUpBlock line count) (line ≡ Skip discarded refusal count)
+Says line (Skip discarded refusal count) =
+    MatchBool (is_memory refusal) ((discarded ≡ None) × CanGiveUpBlock line count) (line ≡ Skip discarded refusal count)
 
 -- the number of bytes behind a line that belong to it: its block and line end
 abbrev pub bytes_behind : Line → ℕ

@@ -1,7 +1,9 @@
 -- The meta commands as a table: the flags and tokens of each, and the result for a line. A line has a name, a
 -- key, for `ms` the length of the data block, and flags, each one letter directly followed by its token
 -- (protocol.txt, "Meta Commands").
-use Rattle.std.specs.Prelude.{ℕ, zero, ℤ, pos, ◌==◌, ◌^◌, Bool, true, false, ◌&&◌, not, List, [], ◌∷◌, ◌++◌, length, drop, find, Option, Some, None, is_some, unwrap_or, option_and_then, nat_lt, codes, if◌then◌else◌, Result, Ok, Err}
+use Rattle.std.specs.Prelude.{ℕ, zero, ℤ, pos, ◌==◌, ◌^◌, Bool, true, false, ◌&&◌, not, List, [], ◌∷◌, ◌++◌, length}
+use Rattle.std.specs.Prelude.{drop, find, Option, Some, None, is_some, unwrap_or, option_and_then, nat_lt, codes}
+use Rattle.std.specs.Prelude.{if◌then◌else◌, Result, Ok, Err}
 use Rattle.std.specs.List.{filter_map, list_any, slice_get}
 use Rattle.std.specs.Map.{lookup}
 use Rattle.std.specs.Option.{ok_or, option_map, option_or}
@@ -27,8 +29,9 @@ use Rattle.mc_command.specs.declared.meta.Vivify.{Vivify}
 use Rattle.mc_command.specs.declared.meta.ReturnFlag.TheVariants as shows
 use Rattle.mc_command.specs.declared.meta.MetaKind.{MetaKind}
 use Rattle.mc_command.specs.declared.meta.MetaKind.TheVariants.{Get, Set, Delete, Arithmetic}
-use Rattle.mc_command.specs.declared.refusal.Refusal.{Refusal}
-use Rattle.mc_command.specs.declared.refusal.Refusal.TheVariants.{BadFormat, BadKey, InvalidFlag, DuplicateFlag, OpaqueTooLong}
+use Rattle.mc_command.specs.declared.error.CommandError.{CommandError}
+use Rattle.mc_command.specs.declared.error.CommandError.TheVariants.{BadFormat, BadKey, InvalidFlag, DuplicateFlag}
+use Rattle.mc_command.specs.declared.error.CommandError.TheVariants.{OpaqueTooLong}
 use Rattle.mc_command.specs.declared.rules.Profile.{Profile}
 use Rattle.mc_command.specs.declared.rules.Profile.TheVariants.{Own, DropIn}
 use Rattle.mc_command.specs.declared.rules.Rules.{Rules}
@@ -103,7 +106,7 @@ is_token name letter token =
 -- Errors.
 
 -- the refusal of a flag that follows others
-abbrev pub flag_refusal : Rules → MetaKind → List (List ℕ) → List ℕ → Option Refusal
+abbrev pub flag_refusal : Rules → MetaKind → List (List ℕ) → List ℕ → Option CommandError
 flag_refusal rules name before [] = Some InvalidFlag
 flag_refusal rules name before (letter ∷ token) =
     if not (is_among (letters_by rules.profile name) letter) then Some InvalidFlag
@@ -112,22 +115,22 @@ flag_refusal rules name before (letter ∷ token) =
     else (if is_token name letter token then None else Some BadFormat)))
 
 -- the first refusal among some flags that follow others
-abbrev pub flags_refusal : Rules → MetaKind → List (List ℕ) → List (List ℕ) → Option Refusal
+abbrev pub flags_refusal : Rules → MetaKind → List (List ℕ) → List (List ℕ) → Option CommandError
 flags_refusal rules name before [] = None
 flags_refusal rules name before (word ∷ words) =
     option_or (flag_refusal rules name before word) (flags_refusal rules name (before ++ word ∷ []) words)
 
 -- a value, unless something refuses it
-abbrev pub unless : {A : Type 0} → Option Refusal → Result A Refusal → Result A Refusal
+abbrev pub unless : {A : Type 0} → Option CommandError → Result A CommandError → Result A CommandError
 unless (Some refusal) value = Err refusal
 unless None value = value
 
 -- the key in a base64 word
-unfoldable pub decoded_key : List ℕ → Result (List ℕ) Refusal
+unfoldable pub decoded_key : List ℕ → Result (List ℕ) CommandError
 decoded_key word = ok_or (base64_key word) BadKey
 
 -- the key in a word, in base64 or as it is
-abbrev pub meta_key_of : Bool → List ℕ → Result (List ℕ) Refusal
+abbrev pub meta_key_of : Bool → List ℕ → Result (List ℕ) CommandError
 meta_key_of base64 word = if base64 then decoded_key word else key_of word
 
 -- `ms` compares in mode S alone
@@ -136,8 +139,10 @@ is_set mode.Set = true
 is_set other = false
 
 -- By memcached's rules it compares in the other modes too.
-abbrev pub compare_refusal : Rules → MetaSet → Option Refusal
-compare_refusal rules set = if not (is_drop_in rules) && (is_some set.asked.compare && not (is_set set.asked.mode)) then Some BadFormat else None
+abbrev pub compare_refusal : Rules → MetaSet → Option CommandError
+compare_refusal rules set =
+    if not (is_drop_in rules) && (is_some set.asked.compare && not (is_set set.asked.mode)) then Some BadFormat else
+    None
 
 -- the token of `C` in a mode, by memcached's rules: E compares nothing, and A and P nothing with 0, as `ma`
 abbrev pub compared_in : StoreMode → Option ℕ → Option ℕ
@@ -242,7 +247,7 @@ meta_arithmetic_of rules key words = record {
 }
 
 -- the command of this key and these flags
-abbrev pub keyed_command : Rules → MetaKind → List ℕ → List (List ℕ) → Result Command Refusal
+abbrev pub keyed_command : Rules → MetaKind → List ℕ → List (List ℕ) → Result Command CommandError
 keyed_command rules Get key words = Ok (command.MetaGet (meta_get_of rules key words))
 keyed_command rules Set key words =
     unless (compare_refusal rules (meta_set_of rules key words))
@@ -251,17 +256,17 @@ keyed_command rules Delete key words = Ok (command.MetaDelete (meta_delete_of ru
 keyed_command rules Arithmetic key words = Ok (command.MetaArithmetic (meta_arithmetic_of rules key words))
 
 -- a parsed mg, as a command
-abbrev pub as_meta_get : Result MetaGet Refusal → Result Command Refusal
+abbrev pub as_meta_get : Result MetaGet CommandError → Result Command CommandError
 as_meta_get (Ok get) = Ok (command.MetaGet get)
 as_meta_get (Err refusal) = Err refusal
 
 -- a parsed ms, as a command
-abbrev pub as_meta_set : Result MetaSet Refusal → Result Command Refusal
+abbrev pub as_meta_set : Result MetaSet CommandError → Result Command CommandError
 as_meta_set (Ok set) = Ok (command.MetaSet set)
 as_meta_set (Err refusal) = Err refusal
 
 -- the command of a key word and the flags behind it: the flags are checked first
-abbrev pub meta_command_of : Rules → MetaKind → List ℕ → List (List ℕ) → Result Command Refusal
+abbrev pub meta_command_of : Rules → MetaKind → List ℕ → List (List ℕ) → Result Command CommandError
 meta_command_of rules name word words =
     unless (flags_refusal rules name [] words)
     (then_of (meta_key_of (has_flag (byte "b") words) word) (λ key. keyed_command rules name key words))
@@ -274,7 +279,8 @@ line_without_block rules name (word ∷ words) = whole_line (meta_command_of rul
 abbrev pub line_with_block : Rules → List (List ℕ) → Line
 line_with_block rules [] = Refused (word_count_refusal rules)
 line_with_block rules (word ∷ []) = Refused BadFormat
-line_with_block rules (word ∷ count ∷ words) = block_line rules (block_count rules count) (meta_command_of rules Set word words)
+line_with_block rules (word ∷ count ∷ words) =
+    block_line rules (block_count rules count) (meta_command_of rules Set word words)
 
 -- the result for a line of this name, by the words behind the name
 unfoldable pub meta_line_of : Rules → MetaKind → List (List ℕ) → Line

@@ -22,7 +22,8 @@ names =
     (codes "incr", name.Count Increment) ∷ (codes "decr", name.Count Decrement) ∷
     (codes "touch", name.Touch) ∷ (codes "flush_all", name.FlushAll) ∷
     (codes "version", name.Version) ∷ (codes "verbosity", name.Verbosity) ∷
-    (codes "quit", name.Quit) ∷ (codes "stats", name.Stats) ∷ []
+    (codes "quit", name.Quit) ∷ (codes "stats", name.Stats) ∷
+    (codes "shutdown", name.Shutdown) ∷ []
 
 -- the command of that name
 unfoldable pub name_of : List ℕ → Option CommandName

@@ -7,11 +7,11 @@ use Rattle.mc_command.specs.declared.rules.Rules.{Rules}
 
 -- the native rules, with this value limit and the default line limit
 abbrev pub own : ℕ → Rules
-own limit = record { profile = Own; value_limit = limit; line_limit = DEFAULT_LINE_LIMIT }
+own limit = record { profile = Own; value_limit = limit; line_limit = DEFAULT_LINE_LIMIT; shutdown = false }
 
 -- memcached's rules, with this value limit and their default line limit
 abbrev pub drop_in : ℕ → Rules
-drop_in limit = record { profile = DropIn; value_limit = limit; line_limit = DROP_IN_LINE_LIMIT }
+drop_in limit = record { profile = DropIn; value_limit = limit; line_limit = DROP_IN_LINE_LIMIT; shutdown = false }
 
 -- whether a profile is that of memcached
 abbrev pub follows_memcached : Profile → Bool

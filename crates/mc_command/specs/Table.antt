@@ -4,12 +4,14 @@ use Rattle.std.specs.Prelude.{ℕ, Bool, true, false, List, [], ◌∷◌, Optio
 use Rattle.mc_command.specs.declared.command.Command.TheVariants as command
 use Rattle.mc_command.specs.declared.name.CommandName.{CommandName}
 use Rattle.mc_command.specs.declared.name.CommandName.TheVariants as name
-use Rattle.mc_command.specs.declared.refusal.Refusal.TheVariants.{Unknown}
+use Rattle.mc_command.specs.declared.error.CommandError.TheVariants.{Unknown}
 use Rattle.mc_command.specs.declared.line.Line.{Line}
 use Rattle.mc_command.specs.declared.line.Line.TheVariants.{Whole, Refused}
 use Rattle.mc_command.specs.declared.rules.Rules.{Rules}
 use Rattle.mc_command.specs.Blocks.{whole_line}
-use Rattle.mc_command.specs.Classic.{cas_count_in, count_in, storage_line, cas_line, get_words, gat_words, delete_words, count_words, touch_words, flush_words, stats_words, verbosity_words}
+use Rattle.mc_command.specs.Classic.{cas_count_in, count_in, storage_line, cas_line, get_words, gat_words, delete_words}
+use Rattle.mc_command.specs.Classic.{count_words, touch_words, flush_words, shutdown_words, stats_words}
+use Rattle.mc_command.specs.Classic.{verbosity_words}
 use Rattle.mc_command.specs.Meta.{meta_line_of, meta_count_in}
 use Rattle.mc_command.specs.Name.{name_of}
 use Rattle.mc_command.specs.Hiding.{hides_faults, shown_line}
@@ -28,6 +30,7 @@ line_named rules name.Version words = Whole (command.Version rules.profile)
 line_named rules name.Verbosity words = whole_line (verbosity_words rules words)
 line_named rules name.Stats words = whole_line (stats_words rules words)
 line_named rules name.Quit words = Whole command.Quit
+line_named rules name.Shutdown words = whole_line (shutdown_words rules words)
 line_named rules name.MetaNoop words = Whole command.MetaNoop
 line_named rules (name.Meta name) words = meta_line_of rules name words
 
@@ -54,6 +57,7 @@ takes_memory name.Version = false
 takes_memory name.Verbosity = false
 takes_memory name.Stats = false
 takes_memory name.Quit = false
+takes_memory name.Shutdown = false
 takes_memory name.MetaNoop = false
 takes_memory other = true
 

@@ -17,19 +17,19 @@ use crate::rules::Rules;
 use mc_wire::{WordWalk, words};
 
 /// Number of bytes behind a line that belong to it, under the native rules; see
-/// `announced_bytes_under`. It doesn't depend on the value limit.
+/// `announced_bytes_with_rules`. It doesn't depend on the value limit.
 pub fn announced_bytes(line: &[u8]) -> u64
     ensures { (limit : ℕ) → result ≡ bytes_behind (line_of (own limit) (words_of line.now)) }
 {
-    announced_bytes_under(line, Rules::own(0))
+    announced_bytes_with_rules(line, Rules::own(0))
 }
 
 /// Number of bytes behind a line that belong to it: its data block with the line end, or what is
 /// skipped behind a refused line; 0 if there is nothing (protocol.txt, "Storage commands"). Parses
-/// the line as `read_line_under` does; the result doesn't depend on the value limit. Allocates
+/// the line as `read_line_with_rules` does; the result doesn't depend on the value limit. Allocates
 /// nothing.
 #[tactic(auto, unfolding(crate::specs::Table::line_of), using(crate::proofs::Behind::behind_shown))]
-pub fn announced_bytes_under(line: &[u8], rules: Rules) -> u64
+pub fn announced_bytes_with_rules(line: &[u8], rules: Rules) -> u64
     ensures { (limit : ℕ) →
         result ≡ bytes_behind (line_of (record rules { value_limit = limit }) (words_of line.now)) }
 {

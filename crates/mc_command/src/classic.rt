@@ -1,16 +1,16 @@
-//! Classic commands without a data block: retrieval, deletion, arithmetic, touch, flush and
-//! verbosity.
+//! Classic commands without a data block: retrieval, deletion, arithmetic, touch, flush, verbosity,
+//! statistics and shutdown.
 ghost use Rattle.std.specs.Prelude.{◌≡◌};
 ghost use Rattle.mc_wire.specs.Words.{words_left};
 ghost use Rattle.mc_command.specs.Field.{Reads};
 ghost use Rattle.mc_command.specs.Classic as spec;
 
 use crate::command::{Command, Direction, Retrieval, StatsRequest};
+use crate::error::CommandError;
 use crate::field::{read_exptime, read_key, read_last_word, read_noreply, read_u64};
 use crate::hiding::is_noreply;
 use crate::keys::Keys;
-use crate::refusal::Refusal;
-use crate::rules::Rules;
+use crate::rules::{Profile, Rules};
 use crate::table::find_word;
 use mc_wire::WordWalk;
 use std::alloc::Global;
@@ -21,7 +21,7 @@ pub(crate) fn read_get(
     rules: Rules,
     with_unique: bool,
     mut walk: WordWalk<'_>,
-) -> Result<Command, Refusal>
+) -> Result<Command, CommandError>
     ensures { Reads (spec.get_words rules with_unique (words_left walk.entry)) result }
 {
     let Some(first) = walk.next() else {
@@ -41,7 +41,7 @@ pub(crate) fn read_gat(
     rules: Rules,
     with_unique: bool,
     mut walk: WordWalk<'_>,
-) -> Result<Command, Refusal>
+) -> Result<Command, CommandError>
     ensures { Reads (spec.gat_words rules with_unique (words_left walk.entry)) result }
 {
     let (Some(exptime), Some(first)) = (walk.next(), walk.next()) else {
@@ -61,7 +61,7 @@ pub(crate) fn read_delete(
     alloc: Global,
     rules: Rules,
     mut walk: WordWalk<'_>,
-) -> Result<Command, Refusal>
+) -> Result<Command, CommandError>
     ensures { Reads (spec.delete_words rules (words_left walk.entry)) result }
 {
     let (Some(key), second, third, None) = (walk.next(), walk.next(), walk.next(), walk.next())
@@ -71,7 +71,7 @@ pub(crate) fn read_delete(
     let key = read_key(alloc, key)?;
     let noreply = match (second, third) {
         (Some(b"0"), word) | (word, None) => read_noreply(word)?,
-        _ => return Err(Refusal::BadFormat),
+        _ => return Err(CommandError::BadFormat),
     };
     Ok(Command::Delete { key, noreply })
 }
@@ -82,7 +82,7 @@ pub(crate) fn read_count(
     rules: Rules,
     direction: Direction,
     mut walk: WordWalk<'_>,
-) -> Result<Command, Refusal>
+) -> Result<Command, CommandError>
     ensures { Reads (spec.count_words rules direction (words_left walk.entry)) result }
 {
     let (Some(key), Some(amount), noreply, None) = (
@@ -109,7 +109,7 @@ pub(crate) fn read_touch(
     alloc: Global,
     rules: Rules,
     mut walk: WordWalk<'_>,
-) -> Result<Command, Refusal>
+) -> Result<Command, CommandError>
     ensures { Reads (spec.touch_words rules (words_left walk.entry)) result }
 {
     let (Some(key), Some(exptime), noreply, None) = (
@@ -131,7 +131,7 @@ pub(crate) fn read_touch(
 }
 
 /// Parses `flush_all [DELAY] [noreply]`.
-pub(crate) fn read_flush_all(rules: Rules, mut walk: WordWalk<'_>) -> Result<Command, Refusal>
+pub(crate) fn read_flush_all(rules: Rules, mut walk: WordWalk<'_>) -> Result<Command, CommandError>
     ensures { result ≡ spec.flush_words rules (words_left walk.entry) }
 {
     let (first, second, None) = (walk.next(), walk.next(), walk.next()) else {
@@ -154,7 +154,7 @@ pub(crate) fn read_flush_all(rules: Rules, mut walk: WordWalk<'_>) -> Result<Com
 }
 
 /// Parses `verbosity LEVEL [noreply]`.
-pub(crate) fn read_verbosity(rules: Rules, mut walk: WordWalk<'_>) -> Result<Command, Refusal>
+pub(crate) fn read_verbosity(rules: Rules, mut walk: WordWalk<'_>) -> Result<Command, CommandError>
     ensures { result ≡ spec.verbosity_words rules (words_left walk.entry) }
 {
     let (Some(level), noreply, None) = (walk.next(), walk.next(), walk.next()) else {
@@ -165,19 +165,49 @@ pub(crate) fn read_verbosity(rules: Rules, mut walk: WordWalk<'_>) -> Result<Com
     Ok(Command::Verbosity { noreply })
 }
 
+/// Parses `shutdown [graceful]` (protocol.txt, "Other commands"). The native rules don't have this
+/// command. Where clients may not end the server, each form of it is refused.
+pub(crate) fn read_shutdown(rules: Rules, walk: WordWalk<'_>) -> Result<Command, CommandError>
+    ensures { result ≡ spec.shutdown_words rules (words_left walk.entry) }
+{
+    match (rules.profile, rules.shutdown) {
+        (Profile::Own, _) => Err(CommandError::Unknown),
+        (Profile::DropIn, false) => Err(CommandError::ShutdownDisabled),
+        (Profile::DropIn, true) => read_shutdown_mode(walk),
+    }
+}
+
+/// Parses the mode of `shutdown`: none, or `graceful`.
+fn read_shutdown_mode(mut walk: WordWalk<'_>) -> Result<Command, CommandError>
+    ensures { result ≡ spec.shutdown_of (words_left walk.entry) }
+{
+    match (walk.next(), walk.next()) {
+        (None, _) => Ok(Command::Shutdown),
+        (Some(mode), None) if is_graceful(mode) => Ok(Command::Shutdown),
+        _ => Err(CommandError::ShutdownMode),
+    }
+}
+
+/// Whether a word is `graceful`, the mode in which memcached closes its connections in order.
+fn is_graceful(word: &[u8]) -> bool
+    ensures { result ≡ spec.is_graceful word.now }
+{
+    word == b"graceful".as_slice()
+}
+
 /// Parses `stats [WHAT..]`. The native rules don't have this command.
-pub(crate) fn read_stats(rules: Rules, mut walk: WordWalk<'_>) -> Result<Command, Refusal>
+pub(crate) fn read_stats(rules: Rules, mut walk: WordWalk<'_>) -> Result<Command, CommandError>
     ensures { result ≡ spec.stats_words rules (words_left walk.entry) }
 {
     if !rules.is_drop_in() {
-        return Err(Refusal::Unknown);
+        return Err(CommandError::Unknown);
     }
     let Some(word) = walk.next() else {
         return Ok(Command::Stats(StatsRequest::General));
     };
     match find_word(&REQUESTS, word) {
         Some(request) => Ok(Command::Stats(request)),
-        None => Err(Refusal::Unknown),
+        None => Err(CommandError::Unknown),
     }
 }
 

@@ -2,9 +2,9 @@
 ghost use Rattle.std.specs.Prelude.{◌≡◌};
 
 use crate::block::Block;
+use crate::error::CommandError;
 use crate::keys::Keys;
 use crate::meta::{MetaArithmetic, MetaDelete, MetaGet, MetaSet};
-use crate::refusal::Refusal;
 use crate::rules::Profile;
 use mc_wire::Key;
 
@@ -48,6 +48,8 @@ pub enum Command {
     Stats(StatsRequest),
     /// `quit`, which closes the stream.
     Quit,
+    /// `shutdown`, which closes the stream and requests the server's end, by memcached's rules.
+    Shutdown,
     /// `mn`.
     MetaNoop,
     /// `mg`.
@@ -59,12 +61,12 @@ pub enum Command {
     /// `ma`.
     MetaArithmetic(MetaArithmetic),
     /// A refused line, or a refused data block.
-    Refused(Refusal),
+    Refused(CommandError),
     /// A line whose value is too large, under memcached's rules: the item under the key is deleted,
     /// and the line is refused.
     Discard {
         key: Key,
-        refusal: Refusal,
+        refusal: CommandError,
     },
 }
 

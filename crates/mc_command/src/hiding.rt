@@ -4,9 +4,9 @@ ghost use Rattle.mc_wire.specs.Words.{words_left, words_of};
 ghost use Rattle.mc_command.specs.Field.{is_noreply};
 ghost use Rattle.mc_command.specs.Hiding.{ends_in_noreply, hides_faults, shown_line, shown_refusal, takes_noreply};
 
+use crate::error::CommandError;
 use crate::line::Line;
 use crate::name::CommandName;
-use crate::refusal::Refusal;
 use crate::rules::Rules;
 use mc_wire::{WordWalk, words};
 
@@ -35,12 +35,12 @@ fn hides_faults(rules: Rules, name: CommandName, behind: &[u8]) -> bool
 }
 
 /// The refusal, or `Hidden`.
-fn shown_refusal(hides: bool, refusal: Refusal) -> Refusal
+fn shown_refusal(hides: bool, refusal: CommandError) -> CommandError
     ensures { result ≡ shown_refusal hides refusal }
 {
     match refusal {
-        Refusal::Memory | Refusal::WordCount => refusal,
-        _ if hides => Refusal::Hidden,
+        CommandError::Memory | CommandError::WordCount => refusal,
+        _ if hides => CommandError::Hidden,
         _ => refusal,
     }
 }
@@ -62,6 +62,7 @@ fn takes_noreply(name: CommandName) -> bool
         | CommandName::Version
         | CommandName::Stats
         | CommandName::Quit
+        | CommandName::Shutdown
         | CommandName::MetaNoop
         | CommandName::Meta(_) => false,
     }

@@ -5,6 +5,7 @@ mod announced;
 mod block;
 mod classic;
 mod command;
+mod error;
 mod field;
 mod hiding;
 mod keys;
@@ -14,22 +15,21 @@ mod meta;
 mod meta_flags;
 mod meta_line;
 mod name;
-mod refusal;
 mod rules;
 mod storage;
 mod table;
 
-pub use announced::{announced_bytes, announced_bytes_under, read_block_count};
+pub use announced::{announced_bytes, announced_bytes_with_rules, read_block_count};
 pub use block::Block;
 pub use command::{Command, Direction, Retrieval, StatsRequest, Storage, StoreMode, StoreRequest};
+pub use error::CommandError;
 pub use field::{read_exptime, read_last_word, read_u32};
 pub use keys::{Keys, are_keys};
 pub use laws::{data_can_be_given_up, flags_in_any_order, table_is_never_out_of_memory};
-pub use line::{Line, read_line, read_line_under};
+pub use line::{Line, read_line, read_line_with_rules};
 pub use meta::{
     MetaArithmetic, MetaCount, MetaDelete, MetaFetch, MetaFlags, MetaGet, MetaKind, MetaRemoval,
     MetaSet, Opaque, RETURN_FLAGS, ReturnFlag, Returned, Vivify,
 };
 pub use meta_line::{read_meta_get, read_meta_set};
-pub use refusal::Refusal;
 pub use rules::{Profile, Rules};

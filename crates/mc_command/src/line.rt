@@ -5,19 +5,19 @@ ghost use Rattle.mc_command.specs.Rules.{own};
 ghost use Rattle.mc_command.specs.Table.{line_of, line_named, may_take_memory, takes_memory};
 ghost use Rattle.std.specs.Prelude.{◌≡◌, ◌+◌, false};
 ghost use Rattle.mc_command.specs.declared.line.Line.TheVariants.{Skip};
-ghost use Rattle.mc_command.specs.declared.refusal.Refusal.TheVariants.{TooLarge};
+ghost use Rattle.mc_command.specs.declared.error.CommandError.TheVariants.{TooLarge};
 ghost use Rattle.mc_command.specs.Blocks.{discarded_by};
 ghost use Rattle.mc_command.specs.Blocks as spec;
 
 use crate::classic::{
-    read_count, read_delete, read_flush_all, read_gat, read_get, read_stats, read_touch,
-    read_verbosity,
+    read_count, read_delete, read_flush_all, read_gat, read_get, read_shutdown, read_stats,
+    read_touch, read_verbosity,
 };
 use crate::command::{Command, Storage, StoreMode, StoreRequest};
+use crate::error::CommandError;
 use crate::hiding::hide_fault;
 use crate::meta_line::read_meta;
 use crate::name::{CommandName, read_name};
-use crate::refusal::Refusal;
 use crate::rules::Rules;
 use crate::storage::{read_cas, read_storage};
 use mc_wire::{Key, WordWalk, words};
@@ -31,13 +31,13 @@ pub enum Line {
     /// A storage command with a placeholder as its block, and the block's length.
     Data(Command, u32),
     /// A refused line; nothing behind it is skipped.
-    Refused(Refusal),
+    Refused(CommandError),
     /// A refused line, and the number of bytes to skip behind it: its block and line end. If there
     /// is a key, its item is deleted: by memcached's rules a value that is too large leaves no old
     /// one behind.
     Skip {
         discarded: Option<Key>,
-        refusal: Refusal,
+        refusal: CommandError,
         count: u64,
     },
 }
@@ -48,12 +48,12 @@ pub fn read_line(alloc: Global, line: &[u8], limit: usize) -> Line
     ensures told { may_take_memory (words_of line.now) ≡ false →
         result ≡ line_of (own limit) (words_of line.now) }
 {
-    read_line_under(alloc, line, Rules::own(limit))
+    read_line_with_rules(alloc, line, Rules::own(limit))
 }
 
 /// Parses a line without its line end, under these rules.
 #[tactic(auto, unfolding(crate::specs::Table::line_of), using(crate::proofs::Hidings::says_shown))]
-pub fn read_line_under(alloc: Global, line: &[u8], rules: Rules) -> Line
+pub fn read_line_with_rules(alloc: Global, line: &[u8], rules: Rules) -> Line
     ensures says { Says (line_of rules (words_of line.now)) result }
     // A line without keys is never refused for want of memory.
     ensures told { may_take_memory (words_of line.now) ≡ false →
@@ -61,7 +61,7 @@ pub fn read_line_under(alloc: Global, line: &[u8], rules: Rules) -> Line
 {
     let mut walk = words(line);
     let Some(name) = walk.next().and_then(read_name) else {
-        return Line::Refused(Refusal::Unknown);
+        return Line::Refused(CommandError::Unknown);
     };
     let behind = walk.text();
     let mut read = read_named(alloc, name, walk, rules);
@@ -70,7 +70,7 @@ pub fn read_line_under(alloc: Global, line: &[u8], rules: Rules) -> Line
 }
 
 /// Parses the words behind a command's name.
-#[tactic(auto, using(crate::proofs::GivingUp::says_whole, crate::proofs::Lines::get_may, crate::proofs::Lines::gat_may, crate::proofs::Lines::delete_may, crate::proofs::Lines::count_may, crate::proofs::Lines::touch_may, crate::proofs::Lines::flush_may, crate::proofs::Told::verbosity_told, crate::proofs::Told::stats_told, crate::proofs::Told::says_told))]
+#[tactic(auto, using(crate::proofs::GivingUp::says_whole, crate::proofs::Lines::get_may, crate::proofs::Lines::gat_may, crate::proofs::Lines::delete_may, crate::proofs::Lines::count_may, crate::proofs::Lines::touch_may, crate::proofs::Lines::flush_may, crate::proofs::Told::verbosity_told, crate::proofs::Told::stats_told, crate::proofs::Told::shutdown_told, crate::proofs::Told::says_told))]
 fn read_named(alloc: Global, name: CommandName, walk: WordWalk<'_>, rules: Rules) -> Line
     ensures says { Says (line_named rules name (words_left walk.entry)) result }
     ensures told { takes_memory name ≡ false →
@@ -94,6 +94,7 @@ fn read_named(alloc: Global, name: CommandName, walk: WordWalk<'_>, rules: Rules
         CommandName::Verbosity => whole_line(read_verbosity(rules, walk)),
         CommandName::Stats => whole_line(read_stats(rules, walk)),
         CommandName::Quit => Line::Whole(Command::Quit),
+        CommandName::Shutdown => whole_line(read_shutdown(rules, walk)),
         CommandName::MetaNoop => Line::Whole(Command::MetaNoop),
         CommandName::Meta(name) => read_meta(alloc, name, walk, rules),
     }
@@ -101,7 +102,7 @@ fn read_named(alloc: Global, name: CommandName, walk: WordWalk<'_>, rules: Rules
 
 /// A line without a block.
 #[inline(always)]
-pub(crate) fn whole_line(read: Result<Command, Refusal>) -> Line
+pub(crate) fn whole_line(read: Result<Command, CommandError>) -> Line
     ensures { result ≡ spec.whole_line read }
 {
     match read {
@@ -113,7 +114,11 @@ pub(crate) fn whole_line(read: Result<Command, Refusal>) -> Line
 /// A line with a block of this length, if that is valid: then the block and its line end are
 /// skipped whatever else is wrong with the line.
 #[inline(always)]
-pub(crate) fn block_line(rules: Rules, count: Option<u32>, read: Result<Command, Refusal>) -> Line
+pub(crate) fn block_line(
+    rules: Rules,
+    count: Option<u32>,
+    read: Result<Command, CommandError>,
+) -> Line
     ensures { result ≡ spec.block_line rules count read }
 {
     match (count, read) {
@@ -130,7 +135,7 @@ pub(crate) fn block_line(rules: Rules, count: Option<u32>, read: Result<Command,
         },
         (None, Ok(command)) => {
             let_go(command);
-            Line::Refused(Refusal::BadFormat)
+            Line::Refused(CommandError::BadFormat)
         }
         (None, Err(refusal)) => Line::Refused(refusal),
     }
@@ -147,7 +152,7 @@ fn too_large(rules: Rules, command: Command, count: u32) -> Line
     let skipped = u64::from(count) + 2;
     Line::Skip {
         discarded,
-        refusal: Refusal::TooLarge,
+        refusal: CommandError::TooLarge,
         count: skipped,
     }
 }

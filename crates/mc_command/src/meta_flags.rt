@@ -9,9 +9,9 @@ ghost use Rattle.mc_command.specs.internal.FlagReading.{CountsFlags, nothing_ask
 ghost use Rattle.mc_command.specs.internal.FlagReading as spec;
 
 use crate::command::{Direction, StoreMode};
+use crate::error::CommandError;
 use crate::field::{read_i64, read_u32, read_u64};
 use crate::meta::{MetaFlags, MetaKind, Opaque, ReturnFlag, Returned};
-use crate::refusal::Refusal;
 use crate::rules::{Profile, Rules};
 use mc_wire::WordWalk;
 
@@ -92,7 +92,7 @@ pub(crate) fn read_flags(
     rules: Rules,
     name: MetaKind,
     walk: WordWalk<'_>,
-) -> Result<FlagsRead, Refusal>
+) -> Result<FlagsRead, CommandError>
     ensures { result ≡
         unless (flags_refusal rules name [] (words_left walk.entry))
         (Ok (asked_of rules name (words_left walk.entry))) }
@@ -124,7 +124,7 @@ impl FlagReader {
     }
 
     /// Parses one more flag. If it is refused, nothing changes.
-    fn read(&mut self, rules: Rules, name: MetaKind, word: &[u8]) -> Result<(), Refusal>
+    fn read(&mut self, rules: Rules, name: MetaKind, word: &[u8]) -> Result<(), CommandError>
         requires { CountsFlags self.old }
         ensures counted { OnOk result (CountsFlags self.new) }
         ensures ok { OnOk result (with_word rules name self.old word.now ≡ Ok self.new) }
@@ -132,14 +132,14 @@ impl FlagReader {
             (λ refusal. with_word rules name self.old word.now ≡ Err refusal) }
     {
         let Some((letter, token)) = word.split_first() else {
-            return Err(Refusal::InvalidFlag);
+            return Err(CommandError::InvalidFlag);
         };
         let letter = *letter;
         if !name.has_flag(rules, letter) {
-            return Err(Refusal::InvalidFlag);
+            return Err(CommandError::InvalidFlag);
         }
         if self.seen[usize::from(letter)] {
-            return Err(Refusal::DuplicateFlag);
+            return Err(CommandError::DuplicateFlag);
         }
         let flag = flag_of(name, letter, token)?;
         self.asked.add(flag);
@@ -207,7 +207,7 @@ impl FlagsRead {
 }
 
 /// Parses a flag's token, by its letter.
-fn flag_of(name: MetaKind, letter: u8, token: &[u8]) -> Result<Flag, Refusal>
+fn flag_of(name: MetaKind, letter: u8, token: &[u8]) -> Result<Flag, CommandError>
     ensures { result ≡ spec.flag_of name letter token.now }
 {
     match letter {
@@ -230,28 +230,28 @@ fn flag_of(name: MetaKind, letter: u8, token: &[u8]) -> Result<Flag, Refusal>
     }
 }
 
-fn opaque_flag(token: &[u8]) -> Result<Flag, Refusal>
+fn opaque_flag(token: &[u8]) -> Result<Flag, CommandError>
     ensures { result ≡ spec.opaque_flag token.now }
 {
     match Opaque::from_token(token) {
         Some(opaque) => Ok(Flag::Opaque(opaque)),
-        None => Err(Refusal::OpaqueTooLong),
+        None => Err(CommandError::OpaqueTooLong),
     }
 }
 
-fn mode_flag(name: MetaKind, token: &[u8]) -> Result<Flag, Refusal>
+fn mode_flag(name: MetaKind, token: &[u8]) -> Result<Flag, CommandError>
     ensures { result ≡ spec.mode_flag name token.now }
 {
     match name {
         MetaKind::Set => match mode_of(token) {
             Some(mode) => Ok(Flag::Mode(mode)),
-            None => Err(Refusal::BadFormat),
+            None => Err(CommandError::BadFormat),
         },
         MetaKind::Arithmetic => match direction_of(token) {
             Some(direction) => Ok(Flag::Direction(direction)),
-            None => Err(Refusal::BadFormat),
+            None => Err(CommandError::BadFormat),
         },
-        MetaKind::Get | MetaKind::Delete => Err(Refusal::BadFormat),
+        MetaKind::Get | MetaKind::Delete => Err(CommandError::BadFormat),
     }
 }
 

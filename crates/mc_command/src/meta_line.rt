@@ -9,6 +9,7 @@ ghost use Rattle.mc_command.specs.internal.FlagsAsked.{arithmetic_by, command_by
 use crate::announced::read_block_count;
 use crate::block::Block;
 use crate::command::{Command, Direction, StoreMode, StoreRequest};
+use crate::error::CommandError;
 use crate::field::read_key;
 use crate::line::{Line, block_line, whole_line};
 use crate::meta::{
@@ -16,7 +17,6 @@ use crate::meta::{
     Vivify,
 };
 use crate::meta_flags::{FlagsRead, read_flags};
-use crate::refusal::Refusal;
 use crate::rules::Rules;
 use mc_wire::{Key, WordWalk};
 use std::alloc::Global;
@@ -52,7 +52,7 @@ fn read_with_block(alloc: Global, mut walk: WordWalk<'_>, rules: Rules) -> Line
         return Line::Refused(rules.word_count_refusal());
     };
     let Some(count) = walk.next() else {
-        return Line::Refused(Refusal::BadFormat);
+        return Line::Refused(CommandError::BadFormat);
     };
     let count = read_block_count(rules, count);
     block_line(
@@ -69,7 +69,7 @@ fn read_command(
     name: MetaKind,
     word: &[u8],
     walk: WordWalk<'_>,
-) -> Result<Command, Refusal>
+) -> Result<Command, CommandError>
     ensures { Reads (meta_command_of rules name word.now (words_left walk.entry)) result }
 {
     let asked = read_flags(rules, name, walk)?;
@@ -83,7 +83,7 @@ pub fn read_meta_get(
     rules: Rules,
     word: &[u8],
     flags: WordWalk<'_>,
-) -> Result<MetaGet, Refusal>
+) -> Result<MetaGet, CommandError>
     ensures { Reads (meta_command_of rules MetaKind.Get word.now (words_left flags.entry))
         (as_meta_get result) }
 {
@@ -99,7 +99,7 @@ pub fn read_meta_set(
     rules: Rules,
     word: &[u8],
     flags: WordWalk<'_>,
-) -> Result<MetaSet, Refusal>
+) -> Result<MetaSet, CommandError>
     ensures { Reads (meta_command_of rules MetaKind.Set word.now (words_left flags.entry))
         (as_meta_set result) }
 {
@@ -109,7 +109,7 @@ pub fn read_meta_set(
 }
 
 /// Parses a key, which may be in base64.
-fn read_meta_key(alloc: Global, base64: bool, word: &[u8]) -> Result<Key, Refusal>
+fn read_meta_key(alloc: Global, base64: bool, word: &[u8]) -> Result<Key, CommandError>
     ensures { Reads (meta_key_of base64 word.now) result }
 {
     if base64 {
@@ -121,7 +121,7 @@ fn read_meta_key(alloc: Global, base64: bool, word: &[u8]) -> Result<Key, Refusa
 
 /// Parses a key in base64.
 #[tactic(auto, unfolding(crate::specs::Meta::decoded_key))]
-fn read_base64_key(alloc: Global, word: &[u8]) -> Result<Key, Refusal>
+fn read_base64_key(alloc: Global, word: &[u8]) -> Result<Key, CommandError>
     ensures { Reads (decoded_key word.now) result }
 {
     let key = Key::from_base64(alloc, word)?;
@@ -136,7 +136,7 @@ impl FlagsRead {
         rules: Rules,
         name: MetaKind,
         key: Key,
-    ) -> Result<Command, Refusal>
+    ) -> Result<Command, CommandError>
         ensures { result ≡ command_by rules name key self }
     {
         match name {
@@ -148,12 +148,17 @@ impl FlagsRead {
     }
 
     /// Builds `ms`. Under the native rules, `C` is refused in modes other than `S`.
-    fn into_checked_set(self, alloc: Global, rules: Rules, key: Key) -> Result<MetaSet, Refusal>
+    fn into_checked_set(
+        self,
+        alloc: Global,
+        rules: Rules,
+        key: Key,
+    ) -> Result<MetaSet, CommandError>
         ensures { as_meta_set result ≡ command_by rules MetaKind.Set key self }
     {
         let set = self.into_set(alloc, rules, key);
         if !rules.is_drop_in() && set.asked.compare.is_some() && set.asked.mode != StoreMode::Set {
-            return Err(Refusal::BadFormat);
+            return Err(CommandError::BadFormat);
         }
         Ok(set)
     }

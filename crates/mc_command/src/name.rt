@@ -33,6 +33,8 @@ pub(crate) enum CommandName {
     Stats,
     /// `quit`.
     Quit,
+    /// `shutdown`.
+    Shutdown,
     /// `mn`.
     MetaNoop,
     /// `mg`, `ms`, `md` and `ma`.
@@ -40,7 +42,7 @@ pub(crate) enum CommandName {
 }
 
 /// Each name with its command. Names are lower case.
-const NAMES: [(&[u8], CommandName); 24] = [
+const NAMES: [(&[u8], CommandName); 25] = [
     (b"get", CommandName::Get { with_unique: false }),
     (b"gets", CommandName::Get { with_unique: true }),
     (b"gat", CommandName::GetAndTouch { with_unique: false }),
@@ -65,6 +67,7 @@ const NAMES: [(&[u8], CommandName); 24] = [
     (b"verbosity", CommandName::Verbosity),
     (b"quit", CommandName::Quit),
     (b"stats", CommandName::Stats),
+    (b"shutdown", CommandName::Shutdown),
 ];
 
 /// Looks up a command name.

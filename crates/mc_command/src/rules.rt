@@ -3,7 +3,7 @@ ghost use Rattle.std.specs.Prelude.{◌≡◌, ◌≤◌, ◌^◌};
 ghost use Rattle.std.specs.Int.{int_wrap, w32};
 
 use crate::command::StoreMode;
-use crate::refusal::Refusal;
+use crate::error::CommandError;
 use mc_wire::DEFAULT_LINE_LIMIT;
 
 /// The protocol profile: whose rules apply where the two differ (docs/PROTOCOL.md).
@@ -24,6 +24,8 @@ pub struct Rules {
     pub value_limit: usize,
     /// Line limit in bytes, line feed included.
     pub line_limit: usize,
+    /// Whether clients may end the server by `shutdown`, which only memcached's rules have.
+    pub shutdown: bool,
 }
 
 impl Rules {
@@ -42,6 +44,7 @@ impl Rules {
             profile: Profile::Own,
             value_limit,
             line_limit: DEFAULT_LINE_LIMIT,
+            shutdown: false,
         }
     }
 
@@ -74,12 +77,12 @@ impl Rules {
 
     /// The refusal of a line with too few or too many words.
     #[tactic(auto, unfolding(crate::specs::Field::word_count_refusal))]
-    pub(crate) fn word_count_refusal(self) -> Refusal
+    pub(crate) fn word_count_refusal(self) -> CommandError
         ensures { result ≡ word_count_refusal self }
     {
         match self.profile {
-            Profile::Own => Refusal::BadFormat,
-            Profile::DropIn => Refusal::WordCount,
+            Profile::Own => CommandError::BadFormat,
+            Profile::DropIn => CommandError::WordCount,
         }
     }
 

@@ -10,9 +10,9 @@ ghost use Rattle.mc_command.specs.Classic as spec;
 use crate::announced::{announced, announced_by_cas};
 use crate::block::Block;
 use crate::command::{Command, Storage, StoreMode, StoreRequest};
+use crate::error::CommandError;
 use crate::field::{read_exptime, read_key, read_last_word, read_u32, read_u64};
 use crate::line::{Line, block_line};
-use crate::refusal::Refusal;
 use crate::rules::Rules;
 use mc_wire::WordWalk;
 use std::alloc::Global;
@@ -87,7 +87,7 @@ fn storage(
     exptime: &[u8],
     unique: Option<&[u8]>,
     noreply: Option<&[u8]>,
-) -> Result<Command, Refusal>
+) -> Result<Command, CommandError>
     ensures { Reads
         (spec.storage_of rules mode key.now flags.now exptime.now
         (option_copied unique.entry) (option_copied noreply.entry)) result }
@@ -113,7 +113,7 @@ fn storage(
 }
 
 /// Parses the unique of `cas`.
-fn read_compare(unique: Option<&[u8]>) -> Result<Option<u64>, Refusal>
+fn read_compare(unique: Option<&[u8]>) -> Result<Option<u64>, CommandError>
     ensures { result ≡ spec.compare_of (option_copied unique.entry) }
 {
     match unique {

@@ -1,6 +1,7 @@
 -- What each call makes of what a connection was told.
-use Rattle.std.proofs.Common.{◌≡◌, ℕ, ◌+◌, ◌<◌, ◌≤◌, ◌==◌, ◌↔◌, Bool, true, false, not, inl, inr, List, [], ◌∷◌, ◌++◌, length, drop, Some, None, IsTrue, refl, sym, ap, subst, ◌∙◌, arith, length-drop}
-use Rattle.std.specs.Prelude.{Option, Result, Ok, Err, OnOk, OnErr, IfSome, is_some}
+use Rattle.std.proofs.Common.{◌≡◌, ℕ, ◌+◌, ◌<◌, ◌≤◌, ◌==◌, ◌↔◌, Bool, true, false, not, inl, inr, List, [], ◌∷◌, ◌++◌}
+use Rattle.std.proofs.Common.{length, drop, Some, None, IsTrue, refl, sym, ap, subst, ◌∙◌, arith, length-drop}
+use Rattle.std.specs.Prelude.{Option, Result, Ok, Err, OnOk, OnErr, IfNone, IfSome, is_some}
 use Rattle.std.specs.List.{slice_get}
 use Rattle.std.proofs.lemmas.Bool.{false≢true}
 use Rattle.std.proofs.lemmas.Bool.Decides.{nat_tests}
@@ -10,24 +11,31 @@ use Rattle.mc_command.specs.declared.command.Command.{Command}
 use Rattle.mc_reader.specs.Reader.{IfReader, IsAmidSkipped, IsClosedLine, IsReader, entries_of}
 use Rattle.mc_reader.specs.Spelling.{SpellsFront, is_closed}
 use Rattle.mc_ring.specs.Reply.{Shown}
-use Rattle.mc_reply.specs.declared.form.Form.{Form}
+use Rattle.mc_reply.specs.declared.pending_reply.PendingReply.{PendingReply}
 use Rattle.mc_split.specs.declared.plan.Piece.{Piece}
 use Rattle.mc_join.specs.Held.{Held, TakesIn}
-use Rattle.mc_join.specs.Joined.{IsJoiner}
+use Rattle.mc_join.specs.Joined.{IsReorderBuffer}
 use Rattle.mc_join.specs.Replies.{replies}
 use Rattle.mc_join.proofs.Joins.{opened_length, slice_get-drop}
 use Rattle.mc_conn.specs.declared.conn.Conn.{Conn}
 use Rattle.mc_conn.specs.internal.Inside.{HasBeenTold, put_first}
 use Rattle.mc_join.specs.Expects.{Expects}
-use Rattle.mc_conn.specs.Told.{Told, IsAllTaken, IsAtRest, IsOver, IsShut, EndsAmidSkipped, LeavesUnread, all_forms, all_pieces, all_texts}
-use Rattle.mc_conn.proofs.Forms.{length-forms}
+use Rattle.mc_conn.specs.Told.{Told, IsAllTaken, IsAtRest, IsOver, IsShut, EndsAmidSkipped, LeavesUnread}
+use Rattle.mc_conn.specs.Told.{all_pending_replies, all_pieces, all_texts}
+use Rattle.mc_conn.proofs.PendingReplies.{length-pending_replies}
 
--- A call took no command and handed out nothing: what it made of the reader, of the answers and of the pieces is all that is new.
-pub stays_told : (old new : Conn) (told : Told) (out : ℕ) (lent : Bool) (accepted : List Shown) (h : HasBeenTold old told) → new.dispatcher.splitter.shards ≡ old.dispatcher.splitter.shards → new.broken ≡ old.broken →
-    IsReader new.reader told.rules told.fed told.ended h.given → new.dispatcher.joiner.window ≡ old.dispatcher.joiner.window → new.dispatcher.joiner.gone ≡ old.dispatcher.joiner.gone → IsJoiner new.dispatcher.joiner (all_forms told) accepted h.texts →
-    out ≤ length (all_pieces told) → put_first new.put_back new.dispatcher.unsent.items ≡ drop out (all_pieces told) → (IsTrue lent → (new.put_back ≡ None) × (0 < out)) →
+-- A call took no command and handed out nothing: what it made of the reader, of the answers and of the pieces is all
+-- that is new.
+pub stays_told : (old new : Conn) (told : Told) (out : ℕ) (lent : Bool) (accepted : List Shown)
+    (h : HasBeenTold old told) → new.dispatcher.planner.shards ≡ old.dispatcher.planner.shards → new.dispatcher.log
+    ≡ old.dispatcher.log → new.broken ≡ old.broken →
+    IsReader new.reader told.rules told.fed told.ended h.given → new.dispatcher.reorder_buffer.window
+    ≡ old.dispatcher.reorder_buffer.window → new.dispatcher.reorder_buffer.gone ≡ old.dispatcher.reorder_buffer.gone
+    → IsReorderBuffer new.dispatcher.reorder_buffer (all_pending_replies told) accepted h.texts →
+    out ≤ length (all_pieces told) → put_first new.put_back new.dispatcher.unsent.items ≡ drop out (all_pieces told)
+    → (IsTrue lent → (new.put_back ≡ None) × (0 < out)) →
     HasBeenTold new (record told { out = out; lent = lent; accepted = accepted })
-stays_told old new told out lent accepted h shards broken read window gone joined within unsent lent_is = record {
+stays_told old new told out lent accepted h shards log broken read window gone joined within unsent lent_is = record {
   given = h.given;
   texts = h.texts;
   shards = shards ∙ h.shards;
@@ -36,6 +44,7 @@ stays_told old new told out lent accepted h shards broken read window gone joine
   read = read;
   spelled = h.spelled;
   may = h.may;
+  logged = log ∙ h.logged;
   joined = joined;
   handed = h.handed;
   bounded = h.bounded;
@@ -45,77 +54,112 @@ stays_told old new told out lent accepted h shards broken read window gone joine
   lent = lent_is;
 }
 
--- And the joiner is the same.
-pub joiner_stays : (old new : Conn) (told : Told) (out : ℕ) (lent : Bool) (h : HasBeenTold old told) → new.dispatcher.splitter.shards ≡ old.dispatcher.splitter.shards → new.broken ≡ old.broken →
-    IsReader new.reader told.rules told.fed told.ended h.given → new.dispatcher.joiner ≡ old.dispatcher.joiner →
-    out ≤ length (all_pieces told) → put_first new.put_back new.dispatcher.unsent.items ≡ drop out (all_pieces told) → (IsTrue lent → (new.put_back ≡ None) × (0 < out)) →
+-- And the reorder buffer is the same.
+pub reorder_buffer_stays : (old new : Conn) (told : Told) (out : ℕ) (lent : Bool) (h : HasBeenTold old told)
+    → new.dispatcher.planner.shards ≡ old.dispatcher.planner.shards → new.dispatcher.log ≡ old.dispatcher.log
+    → new.broken ≡ old.broken →
+    IsReader new.reader told.rules told.fed told.ended h.given → new.dispatcher.reorder_buffer
+    ≡ old.dispatcher.reorder_buffer →
+    out ≤ length (all_pieces told) → put_first new.put_back new.dispatcher.unsent.items ≡ drop out (all_pieces told)
+    → (IsTrue lent → (new.put_back ≡ None) × (0 < out)) →
     HasBeenTold new (record told { out = out; lent = lent })
-joiner_stays old new told out lent h shards broken read joiner =
-    stays_told old new told out lent told.accepted h shards broken read (ap (λ (held : Held). held.window) joiner) (ap (λ (held : Held). held.gone) joiner) (rw joiner h.joined)
+reorder_buffer_stays old new told out lent h shards log broken read reorder_buffer =
+    stays_told old new told out lent told.accepted h shards log broken read
+    (ap (λ (held : Held). held.window) reorder_buffer) (ap (λ (held : Held). held.gone) reorder_buffer)
+    (rw reorder_buffer h.joined)
 
 -- A reply is accepted.
 pub accepts : {A B : Type 0} (result : Result A B) (old new : Conn) (reply : Shown) →
-    new.reader ≡ old.reader → new.dispatcher.unsent ≡ old.dispatcher.unsent → new.put_back ≡ old.put_back → new.dispatcher.splitter.shards ≡ old.dispatcher.splitter.shards → new.broken ≡ old.broken →
-    OnOk result ((opened : List Form) (accepted : List Shown) (handed : List (List ℕ)) → IsJoiner old.dispatcher.joiner opened accepted handed → Expects opened accepted reply) → OnOk result (TakesIn old.dispatcher.joiner new.dispatcher.joiner reply) →
-    OnOk result ((opened : List Form) (accepted : List Shown) (handed : List (List ℕ)) → IsJoiner old.dispatcher.joiner opened accepted handed → IsJoiner new.dispatcher.joiner opened (accepted ++ reply ∷ []) handed) →
-    OnOk result ((told : Told) → HasBeenTold old told → Expects (all_forms told) told.accepted reply × HasBeenTold new (record told { accepted = told.accepted ++ reply ∷ [] }))
-accepts (Ok done) old new reply reader unsent put_back shards broken expected takes joins = λ told h. (
-  expected (all_forms told) told.accepted h.texts h.joined,
-  stays_told old new told told.out told.lent (told.accepted ++ reply ∷ []) h shards broken (rw reader h.read) (ap (λ (held : Held). held.window) takes.after) (ap (λ (held : Held). held.gone) takes.after)
-      (joins (all_forms told) told.accepted h.texts h.joined) h.within (rw (put_back, unsent) h.unsent) (rw put_back h.lent),
+    new.reader ≡ old.reader → new.dispatcher.unsent ≡ old.dispatcher.unsent → new.put_back ≡ old.put_back
+    → new.dispatcher.planner.shards ≡ old.dispatcher.planner.shards → new.dispatcher.log ≡ old.dispatcher.log
+    → new.broken ≡ old.broken →
+    OnOk result ((opened : List PendingReply) (accepted : List Shown) (handed : List (List ℕ))
+    → IsReorderBuffer old.dispatcher.reorder_buffer opened accepted handed → Expects opened accepted reply)
+    → OnOk result (TakesIn old.dispatcher.reorder_buffer new.dispatcher.reorder_buffer reply) →
+    OnOk result ((opened : List PendingReply) (accepted : List Shown) (handed : List (List ℕ))
+    → IsReorderBuffer old.dispatcher.reorder_buffer opened accepted handed
+    → IsReorderBuffer new.dispatcher.reorder_buffer opened (accepted ++ reply ∷ []) handed) →
+    OnOk result ((told : Told) → HasBeenTold old told → Expects (all_pending_replies told) told.accepted reply
+    × HasBeenTold new (record told { accepted = told.accepted ++ reply ∷ [] }))
+accepts (Ok done) old new reply reader unsent put_back shards log broken expected takes joins = λ told h. (
+  expected (all_pending_replies told) told.accepted h.texts h.joined,
+  stays_told old new told told.out told.lent (told.accepted ++ reply ∷ []) h shards log broken (rw reader h.read)
+      (ap (λ (held : Held). held.window) takes.after) (ap (λ (held : Held). held.gone) takes.after)
+      (joins (all_pending_replies told) told.accepted h.texts h.joined) h.within (rw (put_back, unsent) h.unsent)
+      (rw put_back h.lent),
 )
-accepts (Err fault) old new reply reader unsent put_back shards broken expected takes joins = tt
+accepts (Err fault) old new reply reader unsent put_back shards log broken expected takes joins = tt
 
--- A stranger changes nothing.
+-- An unexpected reply changes nothing.
 pub refuses : {A B : Type 0} (result : Result A B) (old new : Conn) (reply : Shown) →
-    new.reader ≡ old.reader → new.dispatcher.unsent ≡ old.dispatcher.unsent → new.put_back ≡ old.put_back → new.dispatcher.splitter.shards ≡ old.dispatcher.splitter.shards → new.broken ≡ old.broken →
-    OnErr result ((opened : List Form) (accepted : List Shown) (handed : List (List ℕ)) → IsJoiner old.dispatcher.joiner opened accepted handed → ¬ Expects opened accepted reply) → OnErr result (new.dispatcher.joiner ≡ old.dispatcher.joiner) →
-    OnErr result ((told : Told) → HasBeenTold old told → (¬ Expects (all_forms told) told.accepted reply) × HasBeenTold new told)
-refuses (Ok done) old new reply reader unsent put_back shards broken unexpected same = tt
-refuses (Err fault) old new reply reader unsent put_back shards broken unexpected same = λ told h. (
-  unexpected (all_forms told) told.accepted h.texts h.joined,
-  joiner_stays old new told told.out told.lent h shards broken (rw reader h.read) same h.within (rw (put_back, unsent) h.unsent) (rw put_back h.lent),
+    new.reader ≡ old.reader → new.dispatcher.unsent ≡ old.dispatcher.unsent → new.put_back ≡ old.put_back
+    → new.dispatcher.planner.shards ≡ old.dispatcher.planner.shards → new.dispatcher.log ≡ old.dispatcher.log
+    → new.broken ≡ old.broken →
+    OnErr result ((opened : List PendingReply) (accepted : List Shown) (handed : List (List ℕ))
+    → IsReorderBuffer old.dispatcher.reorder_buffer opened accepted handed → ¬ Expects opened accepted reply)
+    → OnErr result (new.dispatcher.reorder_buffer ≡ old.dispatcher.reorder_buffer) →
+    OnErr result ((told : Told) → HasBeenTold old told → (¬ Expects (all_pending_replies told) told.accepted reply)
+    × HasBeenTold new told)
+refuses (Ok done) old new reply reader unsent put_back shards log broken unexpected same = tt
+refuses (Err fault) old new reply reader unsent put_back shards log broken unexpected same = λ told h. (
+  unexpected (all_pending_replies told) told.accepted h.texts h.joined,
+  reorder_buffer_stays old new told told.out told.lent h shards log broken (rw reader h.read) same h.within
+      (rw (put_back, unsent) h.unsent) (rw put_back h.lent),
 )
 
 drop_at : {X : Type 0} (n : ℕ) (xs : List X) (x : X) → slice_get xs n ≡ Some x → drop n xs ≡ x ∷ drop (n + 1) xs
-drop_at n xs x here = at_drop_more (λ ys. ys) xs n x (slice_get_within xs n x here) ∙ ap (λ y. y ∷ drop (n + 1) xs) (get_or_from_slice_get xs n x x here)
+drop_at n xs x here =
+    at_drop_more (λ ys. ys) xs n x (slice_get_within xs n x here)
+    ∙ ap (λ y. y ∷ drop (n + 1) xs) (get_or_from_slice_get xs n x x here)
 
-get_drop : {X : Type 0} (n : ℕ) (xs : List X) (x : X) (rest : List X) → drop n xs ≡ x ∷ rest → (slice_get xs n ≡ Some x) × (rest ≡ drop (n + 1) xs)
+get_drop : {X : Type 0} (n : ℕ) (xs : List X) (x : X) (rest : List X) → drop n xs ≡ x ∷ rest → (slice_get xs n ≡ Some x)
+    × (rest ≡ drop (n + 1) xs)
 get_drop n xs x rest here =
     let at : n ≡ n + 0 = omega arith in
-    let found : slice_get xs n ≡ Some x = ap (λ k. slice_get xs k) at ∙ (sym (slice_get-drop n 0 xs) ∙ ap (λ ys. slice_get ys 0) here) in
+    let found : slice_get xs n ≡ Some x =
+    ap (λ k. slice_get xs k) at ∙ (sym (slice_get-drop n 0 xs) ∙ ap (λ ys. slice_get ys 0) here) in
     let next = drop_at n xs x found in
     (found, cc)
 
 -- The oldest piece is taken out.
 pub gives : (old new : Conn) (piece : ℕ × Piece) →
-    new.reader ≡ old.reader → new.dispatcher.joiner ≡ old.dispatcher.joiner → new.dispatcher.splitter.shards ≡ old.dispatcher.splitter.shards → new.broken ≡ old.broken → new.put_back ≡ None →
+    new.reader ≡ old.reader → new.dispatcher.reorder_buffer ≡ old.dispatcher.reorder_buffer
+    → new.dispatcher.planner.shards ≡ old.dispatcher.planner.shards → new.dispatcher.log ≡ old.dispatcher.log
+    → new.broken ≡ old.broken → new.put_back ≡ None →
     put_first old.put_back old.dispatcher.unsent.items ≡ piece ∷ new.dispatcher.unsent.items →
-    (told : Told) → HasBeenTold old told → (slice_get (all_pieces told) told.out ≡ Some piece) × HasBeenTold new (record told { out = told.out + 1; lent = true })
-gives old new piece reader joiner shards broken none left told h =
+    (told : Told) → HasBeenTold old told → (slice_get (all_pieces told) told.out ≡ Some piece)
+    × HasBeenTold new (record told { out = told.out + 1; lent = true })
+gives old new piece reader reorder_buffer shards log broken none left told h =
     let at = get_drop told.out (all_pieces told) piece new.dispatcher.unsent.items (sym h.unsent ∙ left) in
     let below = slice_get_within (all_pieces told) told.out piece at.0 in (
       at.0,
-      joiner_stays old new told (told.out + 1) true h shards broken (rw reader h.read) joiner (omega (arith, below)) (rw none at.1) (λ _. (none, omega arith)),
+      reorder_buffer_stays old new told (told.out + 1) true h shards log broken (rw reader h.read) reorder_buffer
+          (omega (arith, below)) (rw none at.1) (λ _. (none, omega arith)),
     )
 
 -- The same where none was put back.
 pub gives_front : (result : Option (ℕ × Piece)) (old new : Conn) →
-    new.reader ≡ old.reader → new.dispatcher.joiner ≡ old.dispatcher.joiner → new.dispatcher.splitter.shards ≡ old.dispatcher.splitter.shards →
+    new.reader ≡ old.reader → new.dispatcher.reorder_buffer ≡ old.dispatcher.reorder_buffer
+    → new.dispatcher.planner.shards ≡ old.dispatcher.planner.shards → new.dispatcher.log ≡ old.dispatcher.log →
     new.broken ≡ old.broken → new.put_back ≡ None → old.put_back ≡ None →
     IfSome result (λ piece. old.dispatcher.unsent.items ≡ piece ∷ new.dispatcher.unsent.items) →
-    IfSome result (λ piece. (told : Told) → HasBeenTold old told → (slice_get (all_pieces told) told.out ≡ Some piece) × HasBeenTold new (record told { out = told.out + 1; lent = true }))
-gives_front None old new reader joiner shards broken none before left = tt
-gives_front (Some piece) old new reader joiner shards broken none before left =
-    gives old new piece reader joiner shards broken none (rw before left)
+    IfSome result (λ piece. (told : Told) → HasBeenTold old told → (slice_get (all_pieces told) told.out ≡ Some piece)
+    × HasBeenTold new (record told { out = told.out + 1; lent = true }))
+gives_front None old new reader reorder_buffer shards log broken none before left = tt
+gives_front (Some piece) old new reader reorder_buffer shards log broken none before left =
+    gives old new piece reader reorder_buffer shards log broken none (rw before left)
 
 -- The same where one may have been put back.
 pub gives_back : (result : Option (ℕ × Piece)) (old new : Conn) →
-    new.reader ≡ old.reader → new.dispatcher.joiner ≡ old.dispatcher.joiner → new.dispatcher.splitter.shards ≡ old.dispatcher.splitter.shards → new.broken ≡ old.broken → new.put_back ≡ None → result ≡ old.put_back → new.dispatcher.unsent ≡ old.dispatcher.unsent →
-    IfSome result (λ piece. (told : Told) → HasBeenTold old told → (slice_get (all_pieces told) told.out ≡ Some piece) × HasBeenTold new (record told { out = told.out + 1; lent = true }))
-gives_back None old new reader joiner shards broken none taken unsent = tt
-gives_back (Some piece) old new reader joiner shards broken none taken unsent =
-    gives old new piece reader joiner shards broken none (rw (← taken, unsent) refl)
+    new.reader ≡ old.reader → new.dispatcher.reorder_buffer ≡ old.dispatcher.reorder_buffer
+    → new.dispatcher.planner.shards ≡ old.dispatcher.planner.shards → new.dispatcher.log ≡ old.dispatcher.log
+    → new.broken ≡ old.broken → new.put_back ≡ None → result ≡ old.put_back → new.dispatcher.unsent
+    ≡ old.dispatcher.unsent →
+    IfSome result (λ piece. (told : Told) → HasBeenTold old told → (slice_get (all_pieces told) told.out ≡ Some piece)
+    × HasBeenTold new (record told { out = told.out + 1; lent = true }))
+gives_back None old new reader reorder_buffer shards log broken none taken unsent = tt
+gives_back (Some piece) old new reader reorder_buffer shards log broken none taken unsent =
+    gives old new piece reader reorder_buffer shards log broken none (rw (← taken, unsent) refl)
 
 -- None was put back.
 pub none_back : (back : Option (ℕ × Piece)) (found : Bool) → found ≡ is_some back → found ≡ false → back ≡ None
@@ -124,85 +168,115 @@ none_back (Some piece) found is not_found = absurd (false≢true (sym not_found 
 
 -- The piece that was taken out last is put back.
 pub takes_back : (old new : Conn) (piece : ℕ × Piece) →
-    new.reader ≡ old.reader → new.dispatcher.joiner ≡ old.dispatcher.joiner → new.dispatcher.splitter.shards ≡ old.dispatcher.splitter.shards → new.broken ≡ old.broken → new.put_back ≡ Some piece → new.dispatcher.unsent ≡ old.dispatcher.unsent →
-    (told : Told) (before : ℕ) → HasBeenTold old told → IsTrue told.lent → told.out ≡ before + 1 → slice_get (all_pieces told) before ≡ Some piece →
+    new.reader ≡ old.reader → new.dispatcher.reorder_buffer ≡ old.dispatcher.reorder_buffer
+    → new.dispatcher.planner.shards ≡ old.dispatcher.planner.shards → new.dispatcher.log ≡ old.dispatcher.log
+    → new.broken ≡ old.broken → new.put_back ≡ Some piece → new.dispatcher.unsent ≡ old.dispatcher.unsent →
+    (told : Told) (before : ℕ) → HasBeenTold old told → IsTrue told.lent → told.out ≡ before + 1
+    → slice_get (all_pieces told) before ≡ Some piece →
     HasBeenTold new (record told { out = before; lent = false })
-takes_back old new piece reader joiner shards broken back unsent told before h lent out here =
+takes_back old new piece reader reorder_buffer shards log broken back unsent told before h lent out here =
     let within = h.within in
     let none = (h.lent lent).0 in
     let items : old.dispatcher.unsent.items ≡ drop told.out (all_pieces told) = rw none at h.unsent in
-    joiner_stays old new told before false h shards broken (rw reader h.read) joiner (omega (arith, within, out))
-    (rw (back, unsent) (ap (λ rest. piece ∷ rest) (items ∙ ap (λ n. drop n (all_pieces told)) out) ∙ sym (drop_at before (all_pieces told) piece here)))
+    reorder_buffer_stays old new told before false h shards log broken (rw reader h.read) reorder_buffer
+    (omega (arith, within, out))
+    (rw (back, unsent) (ap (λ rest. piece ∷ rest) (items ∙ ap (λ n. drop n (all_pieces told)) out)
+    ∙ sym (drop_at before (all_pieces told) piece here)))
     (λ yes. absurd (false≢true yes))
 
 -- how many tickets are open
-pub waiting_is : (conn : Conn) (told : Told) → HasBeenTold conn told → told.handed + length conn.dispatcher.joiner.forms ≡ length told.taken
+pub waiting_is : (conn : Conn) (told : Told) → HasBeenTold conn told
+    → told.handed + length conn.dispatcher.reorder_buffer.pending_replies ≡ length told.taken
 waiting_is conn told h =
-    let opened = opened_length conn.dispatcher.joiner (all_forms told) told.accepted h.texts h.joined in
-    let long = length-forms told.shards 0 told.taken in
+    let opened = opened_length conn.dispatcher.reorder_buffer (all_pending_replies told) told.accepted h.texts h.joined
+    in
+    let long = length-pending_replies told.shards 0 told.taken in
     let count = h.joined.count in
     let handed = h.handed in
     omega (arith, opened, long, count, handed)
 
 -- no piece is left
-nothing_left : (conn : Conn) (told : Told) → HasBeenTold conn told → conn.put_back ≡ None → length conn.dispatcher.unsent.items ≡ 0 → told.out ≡ length (all_pieces told)
+nothing_left : (conn : Conn) (told : Told) → HasBeenTold conn told → conn.put_back ≡ None
+    → length conn.dispatcher.unsent.items ≡ 0 → told.out ≡ length (all_pieces told)
 nothing_left conn told h none empty =
     let items : conn.dispatcher.unsent.items ≡ drop told.out (all_pieces told) = rw none at h.unsent in
     let within = h.within in
     omega (arith, within, empty, ap length items, length-drop told.out (all_pieces told))
 
+-- None is left.
+pub gives_none : (result : Option (ℕ × Piece)) (old new : Conn) →
+    new.reader ≡ old.reader → new.dispatcher.reorder_buffer ≡ old.dispatcher.reorder_buffer
+    → new.dispatcher.planner.shards ≡ old.dispatcher.planner.shards → new.dispatcher.log ≡ old.dispatcher.log →
+    new.broken ≡ old.broken → new.put_back ≡ old.put_back → old.put_back ≡ None
+    → IfNone result (old.dispatcher.unsent.items ≡ []) → IfNone result (new.dispatcher.unsent.items ≡ []) →
+    IfNone result ((told : Told) → HasBeenTold old told → (told.out ≡ length (all_pieces told)) × HasBeenTold new told)
+gives_none (Some piece) old new reader reorder_buffer shards log broken back none before left = tt
+gives_none None old new reader reorder_buffer shards log broken back none before left = λ told h.
+    let same : new.dispatcher.unsent.items ≡ old.dispatcher.unsent.items = left ∙ sym before in (
+      nothing_left old told h none (ap length before),
+      reorder_buffer_stays old new told told.out told.lent h shards log broken (rw reader h.read) reorder_buffer
+          h.within (rw (back, same) h.unsent) (rw back h.lent),
+    )
+
 same_number : (a b : ℕ) → IsTrue (a == b) ↔ (a ≡ b)
 same_number a b = (λ e. grind (arith, nat_tests), λ e. grind (arith, nat_tests))
 
 -- when a broken connection is at rest
-pub rest_broken : (conn : Conn) (told : Told) (passes waiting : ℕ) → conn.put_back ≡ None → length conn.dispatcher.unsent.items ≡ 0 → conn.broken ≡ true →
-    ((opened : List Form) (accepted : List Shown) (handed : List (List ℕ)) → IsJoiner conn.dispatcher.joiner opened accepted handed → length handed + passes ≡ length (replies opened accepted)) →
-    waiting ≡ length conn.dispatcher.joiner.forms → HasBeenTold conn told → IsTrue (passes == waiting) ↔ IsAtRest told
+pub rest_broken : (conn : Conn) (told : Told) (passes waiting : ℕ) → conn.put_back ≡ None
+    → length conn.dispatcher.unsent.items ≡ 0 → conn.broken ≡ true →
+    ((opened : List PendingReply) (accepted : List Shown) (handed : List (List ℕ))
+    → IsReorderBuffer conn.dispatcher.reorder_buffer opened accepted handed → length handed + passes
+    ≡ length (replies opened accepted)) →
+    waiting ≡ length conn.dispatcher.reorder_buffer.pending_replies → HasBeenTold conn told → IsTrue (passes == waiting)
+    ↔ IsAtRest told
 rest_broken conn told passes waiting none empty broken passed tickets h =
     let told_broken : told.broken ≡ true = sym h.broken ∙ broken in
-    let texts = passed (all_forms told) told.accepted h.texts h.joined in
+    let texts = passed (all_pending_replies told) told.accepted h.texts h.joined in
     let handed = h.handed in
-    let forms = waiting_is conn told h in (
+    let pending_replies = waiting_is conn told h in (
       λ same.
           let e = (same_number passes waiting).0 same in
-          let all : length (all_texts told) ≡ length told.taken = omega (arith, texts, handed, forms, tickets, e) in
+          let all : length (all_texts told) ≡ length told.taken =
+          omega (arith, texts, handed, pending_replies, tickets, e) in
           record { sent = nothing_left conn told h none empty; done = rw told_broken all },
       λ rest.
           let all : length (all_texts told) ≡ length told.taken = rw told_broken at rest.done in
-          (same_number passes waiting).1 (omega (arith, texts, handed, forms, tickets, all)),
+          (same_number passes waiting).1 (omega (arith, texts, handed, pending_replies, tickets, all)),
     )
 
 -- when an unbroken one is
-pub rest_whole : (conn : Conn) (told : Told) (waiting : ℕ) → conn.put_back ≡ None → length conn.dispatcher.unsent.items ≡ 0 → conn.broken ≡ false → IsAllTaken told →
-    waiting ≡ length conn.dispatcher.joiner.forms → HasBeenTold conn told → IsTrue (waiting == 0) ↔ IsAtRest told
+pub rest_whole : (conn : Conn) (told : Told) (waiting : ℕ) → conn.put_back ≡ None → length conn.dispatcher.unsent.items
+    ≡ 0 → conn.broken ≡ false → IsAllTaken told →
+    waiting ≡ length conn.dispatcher.reorder_buffer.pending_replies → HasBeenTold conn told → IsTrue (waiting == 0)
+    ↔ IsAtRest told
 rest_whole conn told waiting none empty broken all tickets h =
     let told_broken : told.broken ≡ false = sym h.broken ∙ broken in
-    let forms = waiting_is conn told h in (
+    let pending_replies = waiting_is conn told h in (
       λ same.
           let e = (same_number waiting 0).0 same in
-          let handed : told.handed ≡ length told.taken = omega (arith, forms, tickets, e) in
+          let handed : told.handed ≡ length told.taken = omega (arith, pending_replies, tickets, e) in
           record { sent = nothing_left conn told h none empty; done = rw told_broken (all, handed) },
       λ rest.
           let done : IsAllTaken told × (told.handed ≡ length told.taken) = rw told_broken at rest.done in
           let handed = done.1 in
-          (same_number waiting 0).1 (omega (arith, forms, tickets, handed)),
+          (same_number waiting 0).1 (omega (arith, pending_replies, tickets, handed)),
     )
 
--- A number is 0 where one that equals it was tested to be 0.
-pub empty_is : (len n : ℕ) → true ≡ (len == 0) → len ≡ n → n ≡ 0
-empty_is len n e same =
-    let none = (same_number len 0).0 (sym e) in
-    omega (arith, none, same)
+-- A number is 0 where it was tested to be 0.
+pub empty_is : (n : ℕ) → true ≡ (n == 0) → n ≡ 0
+empty_is n e = (same_number n 0).0 (sym e)
 
 -- what the reader's test tells of the last command taken
-pub shut_is : (conn : Conn) (closed : Bool) → IfReader conn.reader (λ rules fed ended given. IsTrue closed ↔ IsClosedLine given) →
+pub shut_is : (conn : Conn) (closed : Bool)
+    → IfReader conn.reader (λ rules fed ended given. IsTrue closed ↔ IsClosedLine given) →
     (told : Told) → HasBeenTold conn told → IsTrue closed ↔ IsShut told
 shut_is conn closed says told h =
     let P : List Command → Type 0 = λ entries. IsTrue closed ↔ IsTrue (is_closed entries) in
     subst P h.spelled (says told.rules told.fed told.ended h.given h.read)
 
 -- An ended connection goes on only while some command is not taken.
-pub over_at_end : (told : Told) (whole : Bool) → told.broken ≡ false → ¬ IsShut told → IsTrue told.ended → ((whole ≡ false) ↔ IsAllTaken told) → IsTrue (not whole) ↔ IsOver told
+pub over_at_end : (told : Told) (whole : Bool) → told.broken ≡ false → ¬ IsShut told → IsTrue told.ended
+    → ((whole ≡ false) ↔ IsAllTaken told) → IsTrue (not whole) ↔ IsOver told
 over_at_end told true unbroken on ended says = (
   λ none. absurd (false≢true none),
   λ over. elim over [
@@ -216,7 +290,8 @@ over_at_end told true unbroken on ended says = (
 over_at_end told false unbroken on ended says = (λ _. inr (inr (ended, says.0 refl)), λ _. refl)
 
 -- A connection with a command that is not taken is not at rest.
-pub rest_unread : (told : Told) (whole : Bool) → told.broken ≡ false → not whole ≡ false → ((whole ≡ false) ↔ IsAllTaken told) → IsTrue (not whole) ↔ IsAtRest told
+pub rest_unread : (told : Told) (whole : Bool) → told.broken ≡ false → not whole ≡ false
+    → ((whole ≡ false) ↔ IsAllTaken told) → IsTrue (not whole) ↔ IsAtRest told
 rest_unread told whole unbroken unread says = (
   λ none. absurd (false≢true (sym unread ∙ none)),
   λ rest.
@@ -225,9 +300,11 @@ rest_unread told whole unbroken unread says = (
 )
 
 -- What is skipped behind the commands taken is skipped behind those that the reader gave.
-pub amid_skipped : (conn : Conn) (told : Told) (h : HasBeenTold conn told) → EndsAmidSkipped told → IsAmidSkipped told.rules told.fed h.given
+pub amid_skipped : (conn : Conn) (told : Told) (h : HasBeenTold conn told) → EndsAmidSkipped told
+    → IsAmidSkipped told.rules told.fed h.given
 amid_skipped conn told h skips =
-    let Front : List Command → Type 0 = λ entries. SpellsFront told.rules 0 told.fed entries (skips.line ++ 10 ∷ skips.skipped) in
+    let Front : List Command → Type 0 =
+    λ entries. SpellsFront told.rules 0 told.fed entries (skips.line ++ 10 ∷ skips.skipped) in
     let On : List Command → Type 0 = λ entries. is_closed entries ≡ false in
     record {
       line = skips.line;
@@ -243,7 +320,9 @@ amid_skipped conn told h skips =
     }
 
 -- What is unread behind the commands taken is unread behind those that the reader gave.
-pub unread_behind : (conn : Conn) (told : Told) (h : HasBeenTold conn told) (unread : List ℕ) → LeavesUnread told unread → SpellsFront told.rules 0 told.fed (entries_of h.given) unread × (is_closed (entries_of h.given) ≡ false)
+pub unread_behind : (conn : Conn) (told : Told) (h : HasBeenTold conn told) (unread : List ℕ) → LeavesUnread told unread
+    → SpellsFront told.rules 0 told.fed (entries_of h.given) unread × (is_closed (entries_of h.given) ≡ false)
 unread_behind conn told h unread leaves =
-    let P : List Command → Type 0 = λ entries. SpellsFront told.rules 0 told.fed entries unread × (is_closed entries ≡ false) in
+    let P : List Command → Type 0 = λ entries. SpellsFront told.rules 0 told.fed entries unread
+    × (is_closed entries ≡ false) in
     subst P (sym h.spelled) (leaves.used, leaves.goes_on)

@@ -1,6 +1,6 @@
 pub mod Gets
 pub mod Places
-pub mod Forms
+pub mod PendingReplies
 pub mod Fitting
 pub mod Counting
 pub mod Telling
@@ -13,3 +13,6 @@ pub mod Takes
 pub mod Staying
 pub mod Handing
 pub mod Dispatching
+pub mod Logged
+pub mod Shutdown
+pub mod Asks

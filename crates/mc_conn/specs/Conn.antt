@@ -1,7 +1,7 @@
 -- What a connection is, by what it was told and what it told; and what its calls answer.
-use Rattle.std.specs.Prelude.{ℕ, ◌≡◌, ◌+◌, ◌<◌, true, false, [], ◌∷◌, ◌++◌, length, IsTrue}
-use Rattle.mc_wire.specs.Outlet.{Sight, took}
-use Rattle.mc_wire.specs.Outlet as outlet
+use Rattle.std.specs.Prelude.{ℕ, ◌≡◌, ◌+◌, ◌<◌, true, false, List, [], ◌∷◌, ◌++◌, length, IsTrue}
+use Rattle.mc_wire.specs.Sink.{Sight, took}
+use Rattle.mc_wire.specs.Sink as sink
 use Rattle.mc_reader.specs.Reader.{IsWaiting}
 use Rattle.mc_reader.specs.Reader as reader
 use Rattle.mc_reader.specs.Spelling.{BeginCommands, is_closed}
@@ -23,6 +23,10 @@ IsConn conn told = HasBeenTold conn told
 abbrev pub IfConn : Conn → (Told → Type 0) → Type 0
 IfConn conn is_so = (told : Told) → IsConn conn told → is_so told
 
+-- the commands that the connection took, each as it is carried out
+unfoldable pub taken_by : Conn → List Taken
+taken_by conn = conn.dispatcher.log
+
 -- The connection has just found that it needs more bytes for the next command, and has room for some.
 unfoldable pub IsAwaiting : Conn → Type 0
 IsAwaiting conn = IsWaiting conn.reader
@@ -36,7 +40,8 @@ unfoldable pub SkipsBytes : Conn → Type 0
 SkipsBytes conn = reader.IsSkipping conn.reader
 
 -- One command more was taken, at this moment, and by a source that may show this of the server.
-pub record TakesCommand (told : Told) (moment : ℕ) (may_show : ServerStats → Type 0) (ticket : Ticket) (new : Conn) : Type 0 where
+pub record TakesCommand (told : Told) (moment : ℕ) (may_show : ServerStats → Type 0) (ticket : Ticket) (new : Conn) :
+    Type 0 where
   pub one : Taken
   pub moment_is : one.moment ≡ moment
   -- What is shown of the server is what the source answered.
@@ -69,7 +74,8 @@ pub record FillsWindow (told : Told) (new : Conn) : Type 0 where
 
 -- What taking a command answers, and what the connection is then.
 abbrev pub TakeSays : Conn → ℕ → (ServerStats → Type 0) → Took → Conn → Type 0
-TakeSays old moment may_show (took.Opened ticket) new = IfConn old (λ told. TakesCommand told moment may_show ticket new)
+TakeSays old moment may_show (took.Opened ticket) new =
+    IfConn old (λ told. TakesCommand told moment may_show ticket new)
 TakeSays old moment may_show took.NeedMore new = IfConn old (λ told. NeedsMore told new)
 TakeSays old moment may_show took.Full new = IfConn old (λ told. FillsWindow told new)
 TakeSays old moment may_show took.Closed new = IfConn old (λ told. IsOver told × IsConn new told)
@@ -84,11 +90,11 @@ pub record HandsOut (told : Told) (count : ℕ) (new : Conn) (before after : Sig
   pub together : handed_text (record told { handed = told.handed + count }) ≡ handed_text told ++ waiting_text told
   pub none_waits : waiting_text (record told { handed = told.handed + count }) ≡ []
 
--- The outlet failed: some reply was due, of these it took a beginning, and the connection is broken.
+-- The sink failed: some reply was due, of these it took a beginning, and the connection is broken.
 pub record FailsToHand (told : Told) (new : Conn) (before after : Sight) : Type 0 where
   pub whole : told.broken ≡ false
   pub owed : told.handed < length (all_texts told)
-  pub cut : outlet.BreaksOff (waiting_text told) before after
+  pub cut : sink.BreaksOff (waiting_text told) before after
   pub now : IsConn new (record told { broken = true })
 
 -- A broken connection hands out nothing.

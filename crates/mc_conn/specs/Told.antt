@@ -1,16 +1,17 @@
 -- What a connection was told and what it told so far, as plain lists.
-use Rattle.std.specs.Prelude.{ℕ, ◌≡◌, ◌+◌, ◌<◌, ◌≤◌, Bool, false, ◌⊎◌, Option, List, [], ◌∷◌, ◌++◌, length, map, take, drop, IsTrue, MatchBool}
+use Rattle.std.specs.Prelude.{ℕ, ◌≡◌, ◌+◌, ◌<◌, ◌≤◌, Bool, false, ◌⊎◌, Option, List, [], ◌∷◌, ◌++◌, length, map, take}
+use Rattle.std.specs.Prelude.{drop, IsTrue, MatchBool}
 use Rattle.std.specs.List.{AllByRecursion, concat}
 use Rattle.mc_command.specs.declared.command.Command.{Command}
 use Rattle.mc_command.specs.declared.line.Line.TheVariants.{Skip}
-use Rattle.mc_command.specs.declared.refusal.Refusal.{Refusal}
+use Rattle.mc_command.specs.declared.error.CommandError.{CommandError}
 use Rattle.mc_reader.specs.Spelling.{AreCommands, BeginCommands, HasNoEnd, SpellsFront, is_closed, line_says}
 use Rattle.mc_ring.specs.Reply.{Shown}
-use Rattle.mc_reply.specs.declared.form.Form.{Form}
+use Rattle.mc_reply.specs.declared.pending_reply.PendingReply.{PendingReply}
 use Rattle.mc_split.specs.declared.plan.Piece.{Piece}
 use Rattle.mc_join.specs.Replies.{replies}
 use Rattle.mc_conn.specs.History.{Taken, MayBeTaken}
-use Rattle.mc_conn.specs.Due.{forms_of, pieces}
+use Rattle.mc_conn.specs.Due.{pending_replies_of, pieces}
 use Rattle.mc_command.specs.declared.rules.Rules.{Rules}
 
 pub record Told : Type 0 where
@@ -24,7 +25,7 @@ pub record Told : Type 0 where
   pub fed : List ℕ
   -- no more bytes come
   pub ended : Bool
-  -- the outlet failed, or the caller broke the connection
+  -- the sink failed, or the caller broke the connection
   pub broken : Bool
   -- the commands taken, with their moments
   pub taken : List Taken
@@ -39,7 +40,20 @@ pub record Told : Type 0 where
 
 -- a new connection
 abbrev pub told_nothing : ℕ → Rules → ℕ → Told
-told_nothing shards rules window = record { shards = shards; rules = rules; window = window; fed = []; ended = false; broken = false; taken = []; out = 0; lent = false; accepted = []; handed = 0 }
+told_nothing shards rules window =
+    record {
+      shards = shards;
+      rules = rules;
+      window = window;
+      fed = [];
+      ended = false;
+      broken = false;
+      taken = [];
+      out = 0;
+      lent = false;
+      accepted = [];
+      handed = 0;
+    }
 
 abbrev pub commands_of : List Taken → List Command
 commands_of taken = map (λ one. one.entry) taken
@@ -48,13 +62,13 @@ commands_of taken = map (λ one. one.entry) taken
 abbrev pub all_pieces : Told → List (ℕ × Piece)
 all_pieces told = pieces told.shards told.taken
 
--- the forms of their replies
-abbrev pub all_forms : Told → List Form
-all_forms told = forms_of told.shards told.taken
+-- the pending replies of their replies
+abbrev pub all_pending_replies : Told → List PendingReply
+all_pending_replies told = pending_replies_of told.shards told.taken
 
 -- the texts of the replies to the longest beginning of the commands taken all of whose pieces are answered
 abbrev pub all_texts : Told → List (List ℕ)
-all_texts told = replies (all_forms told) told.accepted
+all_texts told = replies (all_pending_replies told) told.accepted
 
 -- the bytes of the replies that were handed out
 abbrev pub handed_text : Told → List ℕ
@@ -72,8 +86,8 @@ IsAllTaken told = AreCommands told.rules told.fed (commands_of told.taken)
 abbrev pub IsNotAllTaken : Told → Type 0
 IsNotAllTaken told = (entry : Command) × BeginCommands told.rules told.fed (commands_of told.taken ++ entry ∷ [])
 
--- The last command taken is one after which nothing is read: `quit`, a line that is too long, or the last that a connection
--- may have.
+-- The last command taken is one after which nothing is read: `quit`, `shutdown`, a line that is too long, or the last
+-- that a connection may have.
 abbrev pub IsShut : Told → Type 0
 IsShut told = IsTrue (is_closed (commands_of told.taken))
 
@@ -104,7 +118,7 @@ pub record EndsAmidSkipped (told : Told) : Type 0 where
   pub line : List ℕ
   pub skipped : List ℕ
   pub discarded : Option (List ℕ)
-  pub refusal : Refusal
+  pub refusal : CommandError
   pub count : ℕ
   pub front : SpellsFront told.rules 0 told.fed (commands_of told.taken) (line ++ 10 ∷ skipped)
   pub goes_on : is_closed (commands_of told.taken) ≡ false
@@ -112,11 +126,12 @@ pub record EndsAmidSkipped (told : Told) : Type 0 where
   pub says : line_says told.rules line ≡ Skip discarded refusal count
   pub behind : length skipped < count
 
--- Nothing is under way. Every piece has left; and of a connection that isn't broken every command that the bytes fed spell
--- was taken, and the reply to each handed out; of a broken one every piece is answered.
+-- Nothing is under way. Every piece has left; and of a connection that isn't broken every command that the bytes fed
+-- spell was taken, and the reply to each handed out; of a broken one every piece is answered.
 pub record IsAtRest (told : Told) : Type 0 where
   pub sent : told.out ≡ length (all_pieces told)
-  pub done : MatchBool told.broken (length (all_texts told) ≡ length told.taken) (IsAllTaken told × (told.handed ≡ length told.taken))
+  pub done : MatchBool told.broken (length (all_texts told) ≡ length told.taken)
+      (IsAllTaken told × (told.handed ≡ length told.taken))
 
 -- What holds of every connection.
 pub record IsSound (told : Told) : Type 0 where

@@ -1,5 +1,5 @@
-//! One connection: the bytes that come in, the pieces that go to the shards and come back answered, and the replies that go
-//! out.
+//! One connection: the bytes that come in, the pieces that go to the shards and come back answered,
+//! and the replies that go out.
 ghost use Rattle.std.specs.Prelude.{◌≡◌, ◌+◌, ◌<◌, ◌≤◌, ◌++◌, ◌∷◌, ◌↔◌, ℕ, List, [], Some, true, false, IfOk, IfErr, IfSome, IfNone, OnOk, OnErr, IsTrue, length, take};
 ghost use Rattle.std.specs.List.{slice_get};
 ghost use Rattle.mc_ring.specs.Reply.{shown};
@@ -7,19 +7,20 @@ ghost use Rattle.mc_command.specs.Rules.{own};
 ghost use Rattle.mc_reader.specs.Spelling.{HasNoEnd, most_commands};
 ghost use Rattle.mc_join.specs.Length.{capped};
 ghost use Rattle.mc_join.specs.Expects.{Expects};
-ghost use Rattle.mc_conn.specs.Told.{Told, IsAtRest, IsNotAllTaken, IsAllTaken, IsOpen, IsOver, IsShut, EndsAmidSkipped, IsUsedUp, LeavesUnread, all_forms, all_pieces, all_texts, told_nothing, waiting_text};
+ghost use Rattle.mc_conn.specs.Shutdown.{asks_shutdown};
+ghost use Rattle.mc_conn.specs.Told.{Told, IsAtRest, IsNotAllTaken, IsAllTaken, IsOpen, IsOver, IsShut, EndsAmidSkipped, IsUsedUp, LeavesUnread, all_pending_replies, all_pieces, all_texts, told_nothing, waiting_text};
 
 use crate::dispatcher::Dispatcher;
 use crate::source::StatsSource;
+use crate::taken_log::TakenLog;
 use mc_command::Rules;
-use mc_join::{Gone, Joiner, Stranger};
+use mc_join::{Gone, ReorderBuffer, UnexpectedReply};
 use mc_reader::{Memory, Reader, Step};
 use mc_reply::Ticket;
 use mc_ring::Reply;
-use mc_split::{Piece, Splitter};
-use mc_wire::{GREATEST_LINE_LIMIT, GREATEST_VALUE_LIMIT, Outlet};
+use mc_split::{Piece, PieceQueue, Planner};
+use mc_wire::{MAX_LINE_LIMIT, MAX_VALUE_LIMIT, Sink};
 use std::alloc::Global;
-use std::collections::VecDeque;
 
 /// What `Conn::take` answers.
 #[derive(Clone, Copy, Debug, PartialEq, Eq)]
@@ -34,16 +35,17 @@ pub enum Taken {
     Closed,
 }
 
-/// One connection. A command is open from when it is taken until its reply is handed out; at most a window of them are open
-/// at a time.
+/// One connection. A command is open from when it is taken until its reply is handed out; at most a
+/// window of them are open at a time.
 ///
-/// The contracts speak of a connection by the lists of what it was told and what it told, `Told`: `IsConn conn told` says
-/// that the connection is what these make of it, `IfConn conn (λ told. ..)` says something of them, whatever they are, and
-/// each call says how they grow.
+/// The contracts speak of a connection by the lists of what it was told and what it told, `Told`:
+/// `IsConn conn told` says that the connection is what these make of it, `IfConn conn (λ told. ..)`
+/// says something of them, whatever they are, and each call says how they grow.
 pub struct Conn {
     reader: Reader,
     dispatcher: Dispatcher,
-    /// The piece that was put back. It is the oldest, and has a place of its own so that putting it back takes no memory.
+    /// The piece that was put back. It is the oldest, and has a place of its own so that putting it
+    /// back takes no memory.
     put_back: Option<(usize, Piece)>,
     broken: bool,
 }
@@ -63,47 +65,49 @@ impl Drop for Conn {
 impl Conn {
     ghost use Rattle.mc_conn.specs.Conn.{IsConn, IfConn, IsAwaiting, TakeSays, HandsOut, FailsToHand, SkipsBytes, StaysSilent, held_bytes};
 
-    /// A new connection over `shards` shards by this server's own rules, for values of at most `limit` bytes and with this
-    /// window. It takes the room for the longest line and for the open commands. `Memory`: memory ran out.
+    /// A new connection over `shards` shards by this server's own rules, for values of at most
+    /// `limit` bytes and with this window. It takes the room for the longest line and for the open
+    /// commands. `Memory`: memory ran out.
     pub fn new(alloc: Global, shards: usize, limit: usize, window: usize) -> Result<Conn, Memory>
         requires shards { 0 < shards }
-        requires limit { limit ≤ GREATEST_VALUE_LIMIT }
+        requires limit { limit ≤ MAX_VALUE_LIMIT }
         requires window { 0 < window }
         ensures { IfOk result (λ conn. IsConn conn (told_nothing shards (own limit) window)) }
     {
         Conn::under(alloc, shards, Rules::own(limit), window)
     }
 
-    /// A new connection over `shards` shards by these rules and with this window. It takes the room for the longest line and
-    /// for the open commands. `Memory`: memory ran out.
+    /// A new connection over `shards` shards by these rules and with this window. It takes the room
+    /// for the longest line and for the open commands. `Memory`: memory ran out.
     #[tactic(auto, unfolding(crate::specs::Conn::IsConn))]
     pub fn under(alloc: Global, shards: usize, rules: Rules, window: usize) -> Result<Conn, Memory>
         requires shards { 0 < shards }
-        requires limit { rules.value_limit ≤ GREATEST_VALUE_LIMIT }
-        requires line { rules.line_limit ≤ GREATEST_LINE_LIMIT }
+        requires limit { rules.value_limit ≤ MAX_VALUE_LIMIT }
+        requires line { rules.line_limit ≤ MAX_LINE_LIMIT }
         requires window { 0 < window }
         ensures { IfOk result (λ conn. IsConn conn (told_nothing shards rules window)) }
     {
         Ok(Conn {
             reader: Reader::under(alloc, rules)?,
             dispatcher: Dispatcher {
-                joiner: Joiner::new(alloc, window)?,
-                unsent: VecDeque::new(alloc),
-                splitter: Splitter {
+                reorder_buffer: ReorderBuffer::new(alloc, window)?,
+                unsent: PieceQueue::new(alloc),
+                planner: Planner {
                     alloc,
                     ticket: Ticket(0),
                     moment: 0,
                     shards,
                 },
                 stats_asked: false,
+                log: TakenLog::new(),
             },
             put_back: None,
             broken: false,
         })
     }
 
-    /// Takes a front of the piece, and tells how many bytes that is; of an ended or broken connection none. It takes no
-    /// memory.
+    /// Takes a front of the piece and returns its length in bytes: 0 on an ended or broken
+    /// connection. Allocates nothing.
     #[tactic(auto, unfolding(crate::specs::Conn::IsConn, crate::specs::Conn::IsAwaiting))]
     pub fn feed(&mut self, piece: &[u8]) -> usize
         ensures within { result ≤ length piece.now }
@@ -112,7 +116,8 @@ impl Conn {
         // Some byte is taken right after `take` answered `NeedMore`.
         ensures progress { IfConn self.old (λ told. IsOpen told → IsAllTaken told →
             IsAwaiting self.old → 0 < length piece.now → 0 < result) }
-        // The whole of a piece that isn't too long is taken where every byte before it is part of a command taken.
+        // The whole of a piece that isn't too long is taken where every byte before it is part of a
+        // command taken.
         ensures whole { IfConn self.old (λ told. IsOpen told → IsUsedUp told →
             length piece.now ≤ told.rules.line_limit → result ≡ length piece.now) }
         // After the last command everything is taken, and dropped.
@@ -149,9 +154,10 @@ impl Conn {
         self.reader.is_closed() || (self.reader.is_ended() && !self.whole())
     }
 
-    /// Takes the next command, at this moment in seconds since 1970. Tickets count from 0. A command for which memory runs
-    /// out is taken all the same: its reply is "out of memory" (protocol.txt, "Error strings"), and no shard is asked. Where the
-    /// command is `stats`, the source is asked what it shows of the server, and for no other.
+    /// Takes the next command, at this moment in seconds since 1970. Tickets count from 0. A
+    /// command for which memory runs out is taken all the same: its reply is "out of memory"
+    /// (protocol.txt, "Error strings"), and no shard is asked. Where the command is `stats`, the
+    /// source is asked what it shows of the server, and for no other.
     #[tactic(auto, unfolding(crate::specs::Conn::IsConn, crate::specs::Conn::IsAwaiting))]
     pub fn take<S: StatsSource>(&mut self, alloc: Global, moment: u64, source: &S) -> Taken
         ensures says { TakeSays self.old moment (S.may_show source.now) result self.new }
@@ -160,15 +166,15 @@ impl Conn {
         if self.is_over() {
             return Taken::Closed;
         }
-        if self.dispatcher.joiner.is_full() {
+        if self.dispatcher.reorder_buffer.is_full() {
             return Taken::Full;
         }
-        let Some(ticket) = self.dispatcher.joiner.next_ticket() else {
+        let Some(ticket) = self.dispatcher.reorder_buffer.next_ticket() else {
             // The reader gives no more commands than there are tickets, so this is never reached.
             return Taken::Full;
         };
-        self.dispatcher.splitter.ticket = ticket;
-        self.dispatcher.splitter.moment = moment;
+        self.dispatcher.planner.ticket = ticket;
+        self.dispatcher.planner.moment = moment;
         self.dispatcher.stats_asked = false;
         match self.reader.next_into(alloc, &mut self.dispatcher) {
             Step::Gave => {
@@ -192,7 +198,7 @@ impl Conn {
         if self.put_back.is_some() {
             return self.put_back.take();
         }
-        self.dispatcher.next_unsent()
+        self.dispatcher.unsent.pop()
     }
 
     /// Puts the piece that was taken out last back in front, with its shard. It takes no memory.
@@ -205,21 +211,25 @@ impl Conn {
         self.put_back = Some((shard, piece));
     }
 
-    /// Accepts the answer to a piece, whichever open command and part it belongs to; of a broken connection too.
-    /// `Stranger`: no such answer is awaited, and the reply is handed back unchanged. It takes no memory.
+    /// Accepts the answer to a piece, whichever open command and part it belongs to; of a broken
+    /// connection too. `UnexpectedReply`: no such answer is awaited, and the reply is handed back
+    /// unchanged. It takes no memory.
     #[tactic(auto, unfolding(crate::specs::Conn::IsConn))]
-    pub fn accept(&mut self, reply: Reply) -> Result<(), Stranger>
+    pub fn accept(&mut self, reply: Reply) -> Result<(), UnexpectedReply>
         ensures ok { OnOk result (IfConn self.old (λ told.
-            Expects (all_forms told) told.accepted (shown reply) ×
+            Expects (all_pending_replies told) told.accepted (shown reply) ×
             IsConn self.new (record told { accepted = told.accepted ++ shown reply ∷ [] }))) }
-        ensures stranger { IfErr result (λ stranger. shown stranger.reply ≡ shown reply) }
+        ensures unexpected_reply { IfErr result
+            (λ unexpected_reply. shown unexpected_reply.reply ≡ shown reply) }
         ensures err { OnErr result (IfConn self.old (λ told.
-            (¬ Expects (all_forms told) told.accepted (shown reply)) × IsConn self.new told)) }
+            (¬ Expects (all_pending_replies told) told.accepted (shown reply)) ×
+            IsConn self.new told)) }
     {
-        self.dispatcher.joiner.accept(reply)
+        self.dispatcher.reorder_buffer.accept(reply)
     }
 
-    /// How many bytes `hand` would write, `u64::MAX` where they are more; of a broken connection 0. It takes no memory.
+    /// How many bytes `hand` would write, `u64::MAX` where they are more; of a broken connection 0.
+    /// It takes no memory.
     #[tactic(auto, unfolding(crate::specs::Conn::IsConn))]
     pub fn ready(&self) -> u64
         ensures whole { IfConn self.now (λ told. told.broken ≡ false →
@@ -229,11 +239,11 @@ impl Conn {
         if self.broken {
             return 0;
         }
-        self.dispatcher.joiner.ready()
+        self.dispatcher.reorder_buffer.ready()
     }
 
-    /// To how many commands `hand` would hand out the reply, silent ones among them; of a broken connection to none. It takes
-    /// no memory.
+    /// To how many commands `hand` would hand out the reply, silent ones among them; of a broken
+    /// connection to none. It takes no memory.
     #[tactic(auto, unfolding(crate::specs::Conn::IsConn))]
     pub fn passes(&self) -> usize
         ensures whole { IfConn self.now (λ told. told.broken ≡ false →
@@ -243,14 +253,29 @@ impl Conn {
         if self.broken {
             return 0;
         }
-        self.dispatcher.joiner.passes()
+        self.dispatcher.reorder_buffer.passes()
     }
 
-    /// Writes the replies whose turn has come, a silent one as nothing, and tells to how many commands they are; of a broken
-    /// connection nothing, and 0. It takes no memory. `Gone`: the outlet failed. It took a beginning of what was due, and the
-    /// connection is broken.
+    /// Writes the replies whose turn has come, a silent one as nothing, and returns how many
+    /// commands they answer. A broken connection writes nothing and returns 0. Allocates nothing.
+    /// `Gone`: the sink failed. It took a prefix of what was due, and the connection is broken.
+    pub fn hand<O: Sink>(&mut self, out: &mut O) -> Result<u64, Gone>
+        ensures ok { IfOk result (λ count. IfConn self.old (λ told. told.broken ≡ false →
+            HandsOut told count self.new (O.sight out.old) (O.sight out.new))) }
+        ensures gone { OnErr result (IfConn self.old (λ told.
+            FailsToHand told self.new (O.sight out.old) (O.sight out.new))) }
+        ensures silent { IfOk result (λ count. IfConn self.old (λ told. IsTrue told.broken →
+            StaysSilent told count self.new (O.sight out.old) (O.sight out.new))) }
+    {
+        let handed = self.hand_due(out);
+        self.free_spare();
+        handed
+    }
+
+    /// Writes the replies, as `hand` does.
+    #[inline(always)]
     #[tactic(auto, using(crate::proofs::Handing::none_waits, crate::proofs::Handing::all_together), unfolding(crate::specs::Conn::IsConn))]
-    pub fn hand<O: Outlet>(&mut self, out: &mut O) -> Result<u64, Gone>
+    fn hand_due<O: Sink>(&mut self, out: &mut O) -> Result<u64, Gone>
         ensures ok { IfOk result (λ count. IfConn self.old (λ told. told.broken ≡ false →
             HandsOut told count self.new (O.sight out.old) (O.sight out.new))) }
         ensures gone { OnErr result (IfConn self.old (λ told.
@@ -261,18 +286,37 @@ impl Conn {
         if self.broken {
             return Ok(0);
         }
-        let handed = self.dispatcher.joiner.hand(out);
+        let handed = self.dispatcher.reorder_buffer.hand(out);
         self.broken = handed.is_err();
         handed
     }
 
-    /// Breaks the connection: no byte is read or written any more, while the pieces of the commands taken still leave and
-    /// their answers are accepted. It takes no memory.
+    /// Frees memory for unsent pieces that an idle connection doesn't need, where no command is
+    /// left to take.
+    #[inline(always)]
+    fn free_spare(&mut self)
+        ensures { self.new ≡ self.old }
+    {
+        if self.dispatcher.unsent.has_spare() && !self.whole() {
+            self.dispatcher.unsent.free_spare();
+        }
+    }
+
+    /// Breaks the connection: no byte is read or written any more, while the pieces of the commands
+    /// taken still leave and their answers are accepted. It takes no memory.
     #[tactic(auto, unfolding(crate::specs::Conn::IsConn))]
     pub fn broken(&mut self)
         ensures { IfConn self.old (λ told. IsConn self.new (record told { broken = true })) }
     {
         self.broken = true;
+    }
+
+    /// Whether a command taken asks for the server's end: `shutdown`, after which nothing is read.
+    /// It takes no memory.
+    pub fn asks_shutdown(&self) -> bool
+        ensures { IfConn self.now (λ told. result ≡ asks_shutdown told.taken) }
+    {
+        self.dispatcher.log.asks_shutdown()
     }
 
     /// Whether a command that the bytes fed spell is not taken yet. It takes no memory.
@@ -284,14 +328,15 @@ impl Conn {
         self.reader.whole()
     }
 
-    /// How many bytes are held that are not part of a command taken: those that are unread, and those of a data block that is
-    /// being read. It takes no memory.
+    /// How many bytes are held that are not part of a command taken: those that are unread, and
+    /// those of a data block that is being read. It takes no memory.
     #[tactic(auto, unfolding(crate::specs::Conn::IsConn, crate::specs::Conn::held_bytes, crate::specs::Conn::SkipsBytes))]
     pub fn held(&self) -> usize
         ensures value { result ≡ held_bytes self.now }
         ensures most { IfConn self.now (λ told.
             result ≤ told.rules.line_limit + told.rules.value_limit + 2) }
-        // No more than the bytes fed that are not part of a command taken, until the last command is taken.
+        // No more than the bytes fed that are not part of a command taken, until the last command
+        // is taken.
         ensures unread { IfConn self.now (λ told. (unread : List ℕ) →
             LeavesUnread told unread → result ≤ length unread) }
         // A line whose end has not come is held whole.
@@ -306,8 +351,8 @@ impl Conn {
         self.reader.held()
     }
 
-    /// Whether nothing is under way: no command unread, no piece unsent and no command open; of a broken connection, no piece
-    /// unsent and none unanswered. It takes no memory.
+    /// Whether nothing is under way: no command unread, no piece unsent and no command open; of a
+    /// broken connection, no piece unsent and none unanswered. It takes no memory.
     #[tactic(auto, unfolding(crate::specs::Conn::IsConn))]
     pub fn is_at_rest(&self) -> bool
         ensures { IfConn self.now (λ told. IsTrue result ↔ IsAtRest told) }
@@ -316,15 +361,28 @@ impl Conn {
             return false;
         }
         if self.broken {
-            return self.dispatcher.joiner.passes() == self.dispatcher.joiner.waiting();
+            return self.dispatcher.reorder_buffer.passes()
+                == self.dispatcher.reorder_buffer.waiting();
         }
-        !self.whole() && self.dispatcher.joiner.waiting() == 0
+        !self.whole() && self.dispatcher.reorder_buffer.waiting() == 0
     }
 
-    /// Begins the next connection in the same room, where this one is at rest and closed or broken, and tells whether it did;
-    /// else nothing changes. It takes no memory.
-    #[tactic(auto, unfolding(crate::specs::Conn::IsConn))]
+    /// Resets the state for the next connection if this one is at rest and closed or broken, and
+    /// returns whether it did. Otherwise nothing changes. Allocates nothing.
     pub fn renew(&mut self) -> bool
+        ensures when { IfConn self.old (λ told. IsTrue result ↔ (IsAtRest told × IsOver told)) }
+        ensures new { IsTrue result → IfConn self.old (λ told.
+            IsConn self.new (told_nothing told.shards told.rules told.window)) }
+        ensures same { result ≡ false → self.new ≡ self.old }
+    {
+        let renewed = self.reset();
+        self.free_spare();
+        renewed
+    }
+
+    /// Begins the next connection, as `renew` does.
+    #[tactic(auto, unfolding(crate::specs::Conn::IsConn))]
+    fn reset(&mut self) -> bool
         ensures when { IfConn self.old (λ told. IsTrue result ↔ (IsAtRest told × IsOver told)) }
         ensures new { IsTrue result → IfConn self.old (λ told.
             IsConn self.new (told_nothing told.shards told.rules told.window)) }
@@ -334,7 +392,8 @@ impl Conn {
             return false;
         }
         self.reader.reset();
-        self.dispatcher.joiner.reset();
+        self.dispatcher.reorder_buffer.reset();
+        self.dispatcher.log = TakenLog::new();
         self.broken = false;
         true
     }

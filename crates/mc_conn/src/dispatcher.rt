@@ -1,30 +1,41 @@
-//! Where commands are planned and opened: the joiner, and the pieces that have not left.
-ghost use Rattle.std.specs.Prelude.{◌≡◌, ◌<◌, ◌∷◌, [], IfOk, IfNone, IfSome, IsTrue, length};
+//! Where commands are planned and opened: the reorder buffer, and the pieces that have not left.
+ghost use Rattle.std.specs.Prelude.{◌≡◌, ◌<◌, false, IfOk, IsTrue, length};
 ghost use Rattle.mc_reply.specs.Server.{shows_server};
 ghost use Rattle.mc_join.specs.Held.{opened_count};
+ghost use Rattle.mc_conn.specs.Shutdown.{is_shutdown};
 
 use crate::source::StatsSource;
-use mc_command::{Command, MetaGet, MetaSet, Profile, Refusal, StatsRequest};
+use crate::taken_log::TakenLog;
+use mc_command::{Command, CommandError, MetaGet, MetaSet, Profile, StatsRequest};
 use mc_item::NoMemory;
-use mc_join::Joiner;
-use mc_plain::Commands;
-use mc_reply::{Form, ServerStats};
-use mc_split::{Piece, Splitter};
-use std::collections::VecDeque;
-
-/// The most pieces whose room a connection keeps once all have left. A get of many keys needs more for its moment.
-const KEPT_PIECES: usize = 256;
+use mc_join::ReorderBuffer;
+use mc_plain::CommandSink;
+use mc_reply::{PendingReply, ServerStats};
+use mc_split::{PieceQueue, Planner};
+use std::snapshot::Snapshot;
 
 /// Where a connection's commands are planned and opened.
 #[derive(Drop)]
 pub(crate) struct Dispatcher {
-    pub(crate) joiner: Joiner,
+    pub(crate) reorder_buffer: ReorderBuffer,
     /// The pieces that have not left, but for one that was put back.
-    pub(crate) unsent: VecDeque<(usize, Piece)>,
+    pub(crate) unsent: PieceQueue,
     /// What the pieces of the next command share.
-    pub(crate) splitter: Splitter,
-    /// Whether the command that was given is `stats`, which is opened once it is known what it shows of the server.
+    pub(crate) planner: Planner,
+    /// Whether the command that was given is `stats`, which is opened once it is known what it
+    /// shows of the server.
     pub(crate) stats_asked: bool,
+    pub(crate) log: TakenLog,
+}
+
+/// What the log has of a command other than `shutdown`. It takes no memory.
+#[inline(always)]
+fn noted(command: &Command) -> Snapshot<Command>
+    requires { is_shutdown command.now ≡ false }
+    ensures same { result.value ≡ command.now }
+    ensures other { is_shutdown result.value ≡ false }
+{
+    Snapshot::of(command)
 }
 
 /// Whether the reply to a command shows the server.
@@ -34,50 +45,49 @@ fn is_stats(command: &Command) -> bool
     matches!(command, Command::Stats(StatsRequest::General))
 }
 
+/// Whether a command asks for the server's end.
+fn is_shutdown(command: &Command) -> bool
+    ensures { result ≡ is_shutdown command.now }
+{
+    matches!(command, Command::Shutdown)
+}
+
 impl Dispatcher {
-    ghost use Rattle.mc_conn.specs.internal.Dispatcher.{CanOpen, Opens, OpensNoted, OpensSplit, OpensStats, refusal_of};
+    ghost use Rattle.mc_command.specs.declared.command.Command.{Command};
+    ghost use Rattle.mc_command.specs.declared.command.Command.TheVariants as command;
+    ghost use Rattle.mc_command.specs.declared.error.CommandError.TheVariants.{Memory};
+    ghost use Rattle.mc_reply.specs.Server.{no_server};
+    ghost use Rattle.mc_conn.specs.internal.Dispatcher.{CanOpen, Opens, OpensPendingReply, OpensNoted, OpensSplit, OpensStats, logged, refusal_of};
 
-    /// Takes out the oldest piece that has not left. With the last one, room for more than `KEPT_PIECES` is freed.
-    pub(crate) fn next_unsent(&mut self) -> Option<(usize, Piece)>
-        ensures some { IfSome result (λ piece.
-            self.old.unsent.items ≡ piece ∷ self.new.unsent.items) }
-        ensures none { IfNone result (self.old.unsent.items ≡ []) }
-        ensures left { IfNone result (self.new.unsent.items ≡ []) }
-        ensures joiner { self.new.joiner ≡ self.old.joiner }
-        ensures splitter { self.new.splitter ≡ self.old.splitter }
-    {
-        let piece = self.unsent.pop_front()?;
-        if self.unsent.is_empty() && self.unsent.capacity() > KEPT_PIECES {
-            self.unsent = VecDeque::new(self.splitter.alloc);
-        }
-        Some(piece)
-    }
-
-    /// Opens a form.
+    /// Opens a pending reply.
     #[inline(always)]
-    fn open(&mut self, form: Form)
-        requires room { length self.old.joiner.forms < self.old.joiner.window }
-        requires number { form.ticket.0 ≡ opened_count self.old.joiner }
-        ensures { Opens self.old form self.new }
+    fn open(&mut self, pending_reply: PendingReply)
+        requires room { length self.old.reorder_buffer.pending_replies <
+            self.old.reorder_buffer.window }
+        requires number { pending_reply.ticket.0 ≡ opened_count self.old.reorder_buffer }
+        ensures { Opens self.old pending_reply self.old.log self.new }
     {
-        let Ok(()) = self.joiner.open(form) else {
+        let Ok(()) = self.reorder_buffer.open(pending_reply) else {
             unreachable!()
         };
     }
 
-    /// Opens the form of the refusal "out of memory". It is kept out of line, so that the form of a command that was split
-    /// is moved once.
+    /// Opens the pending reply of the refusal "out of memory". It is kept out of line, so that the
+    /// pending reply of a command that was split is moved once.
     #[cold]
     #[inline(never)]
     fn open_refusal(&mut self)
         requires { CanOpen self.old }
-        ensures { Opens self.old (refusal_of self.old) self.new }
+        ensures { Opens self.old (refusal_of self.old)
+            (logged self.old no_server (command.Refused Memory)) self.new }
     {
-        let form = self.splitter.form_of_refusal(Refusal::Memory);
-        self.open(form);
+        self.log = self.log.and(&self.planner.moment);
+        let pending_reply = self.planner.pending_reply_of_refusal(CommandError::Memory);
+        self.open(pending_reply);
     }
 
-    /// Opens `stats` where it was noted, of the server that the source knows. For any other command the source isn't asked.
+    /// Opens `stats` where it was noted, of the server that the source knows. For any other command
+    /// the source isn't asked.
     #[inline(always)]
     pub(crate) fn open_noted<S: StatsSource>(&mut self, source: &S)
         requires { IsTrue self.old.stats_asked → CanOpen self.old }
@@ -88,7 +98,8 @@ impl Dispatcher {
         }
     }
 
-    /// Plans `stats`, and opens its form, of this server. It is kept out of line: few commands are `stats`.
+    /// Plans `stats`, and opens its pending reply, of this server. It is kept out of line: few
+    /// commands are `stats`.
     #[cold]
     #[inline(never)]
     pub(crate) fn open_stats(&mut self, server: ServerStats)
@@ -96,27 +107,53 @@ impl Dispatcher {
         ensures { OpensStats self.old server self.new }
     {
         let stats = Command::Stats(StatsRequest::General);
-        match self.splitter.split_into(&mut self.unsent, stats) {
-            Ok(form) => self.open(form.of_server(server)),
+        match self.planner.split_into(&mut self.unsent, stats) {
+            Ok(pending_reply) => {
+                self.log = self.log.and(&(self.planner.moment, server));
+                self.open(pending_reply.of_server(server));
+            }
             Err(_) => self.open_refusal(),
         }
     }
 
-    /// Opens the form of a command that was split, or of the refusal where memory ran out.
-    #[inline(always)]
-    fn open_split(&mut self, split: Result<Form, NoMemory>)
-        requires can { CanOpen self.old }
-        requires number { IfOk split (λ form. form.ticket ≡ self.old.splitter.ticket) }
-        ensures { OpensSplit self.old split self.new }
+    /// Plans `shutdown`, and opens its pending reply. It is kept out of line: few commands are
+    /// `shutdown`.
+    #[cold]
+    #[inline(never)]
+    fn open_shutdown(&mut self)
+        requires { CanOpen self.old }
+        ensures { OpensPendingReply self.old command.Shutdown self.new }
     {
+        let Ok(pending_reply) = self.planner.split_into(&mut self.unsent, Command::Shutdown) else {
+            unreachable!()
+        };
+        self.log = self.log.and_shutdown(&self.planner.moment);
+        self.open(pending_reply);
+    }
+
+    /// Opens the pending reply of a command that was split, or of the refusal where memory ran out.
+    /// Which command it is the caller's proof names by what `about` has.
+    #[inline(always)]
+    fn open_split<A>(&mut self, split: Result<PendingReply, NoMemory>, about: &A)
+        ghost asked: { Command }
+        requires can { CanOpen self.old }
+        requires goes_on { is_shutdown asked ≡ false }
+        requires number { IfOk split
+            (λ pending_reply. pending_reply.ticket ≡ self.old.planner.ticket) }
+        ensures { OpensSplit self.old asked split self.new }
+    {
+        let _ = about;
         match split {
-            Ok(form) => self.open(form),
+            Ok(pending_reply) => {
+                self.log = self.log.and(&self.planner.moment);
+                self.open(pending_reply);
+            }
             Err(_) => self.open_refusal(),
         }
     }
 }
 
-impl Commands for Dispatcher {
+impl CommandSink for Dispatcher {
     ghost use Rattle.mc_conn.specs.internal.Dispatcher.{CanOpen, TakesIn};
 
     ghost can_take = { CanOpen };
@@ -124,47 +161,60 @@ impl Commands for Dispatcher {
     ghost takes = { TakesIn };
 
     fn no_op(&mut self) {
-        let form = self.splitter.split_no_op();
-        self.open(form);
+        self.log = self.log.and(&self.planner.moment);
+        let pending_reply = self.planner.split_no_op();
+        self.open(pending_reply);
     }
 
     fn get_one(&mut self, key: &[u8], with_unique: bool) {
-        match self.splitter.queue_get_one(&mut self.unsent, key) {
-            Ok(shown) => self.open(self.splitter.form_of_get_one(shown, with_unique)),
+        match self.planner.queue_get_one(&mut self.unsent, key) {
+            Ok(shown) => {
+                self.log = self.log.and(&(self.planner.moment, key, with_unique));
+                self.open(self.planner.pending_reply_of_get_one(shown, with_unique));
+            }
             Err(_) => self.open_refusal(),
         }
     }
 
     fn get(&mut self, first: &[u8], others: &[u8], with_unique: bool) {
         let split = self
-            .splitter
+            .planner
             .split_get(&mut self.unsent, first, others, with_unique);
-        self.open_split(split);
+        self.open_split(split, &(first, others, with_unique));
     }
 
     fn meta_get_value(&mut self, profile: Profile, key: &[u8]) {
-        match self.splitter.queue_meta_get_value(&mut self.unsent, key) {
-            Ok(()) => self.open(self.splitter.form_of_meta_get_value(profile)),
+        match self.planner.queue_meta_get_value(&mut self.unsent, key) {
+            Ok(()) => {
+                self.log = self.log.and(&(self.planner.moment, profile, key));
+                self.open(self.planner.pending_reply_of_meta_get_value(profile));
+            }
             Err(_) => self.open_refusal(),
         }
     }
 
     fn meta_get(&mut self, get: MetaGet) {
-        let split = self.splitter.split_meta_get(&mut self.unsent, get);
-        self.open_split(split);
+        let asked = Snapshot::of(&get);
+        let split = self.planner.split_meta_get(&mut self.unsent, get);
+        self.open_split(split, &asked);
     }
 
     fn meta_set(&mut self, set: MetaSet, block: &[u8]) {
-        let split = self.splitter.split_meta_set(&mut self.unsent, set, block);
-        self.open_split(split);
+        let asked = Snapshot::of(&set);
+        let split = self.planner.split_meta_set(&mut self.unsent, set, block);
+        self.open_split(split, &(asked, block));
     }
 
     fn set(&mut self, key: &[u8], flags: u32, exptime: i64, noreply: bool, block: &[u8]) {
         match self
-            .splitter
+            .planner
             .queue_set(&mut self.unsent, key, flags, exptime, block)
         {
-            Ok(()) => self.open(self.splitter.form_of_set(noreply)),
+            Ok(()) => {
+                let asked = (self.planner.moment, key, flags, exptime, noreply, block);
+                self.log = self.log.and(&asked);
+                self.open(self.planner.pending_reply_of_set(noreply));
+            }
             Err(_) => self.open_refusal(),
         }
     }
@@ -175,7 +225,12 @@ impl Commands for Dispatcher {
             self.stats_asked = true;
             return;
         }
-        let split = self.splitter.split_into(&mut self.unsent, command);
-        self.open_split(split);
+        if is_shutdown(&command) {
+            self.open_shutdown();
+            return;
+        }
+        let asked = noted(&command);
+        let split = self.planner.split_into(&mut self.unsent, command);
+        self.open_split(split, &asked);
     }
 }

@@ -1,16 +1,16 @@
-//! Laws of connections: of the pieces that are due at the shards, of the replies that answer them, and of the bytes handed
-//! out. Each is the contract of a function that does nothing.
+//! Laws of connections: of the pieces that are due at the shards, of the replies that answer them,
+//! and of the bytes handed out. Each is the contract of a function that does nothing.
 ghost use Rattle.std.specs.Prelude.{◌≡◌, ◌+◌, ◌<◌, ◌≤◌, ◌↔◌, ◌++◌, ◌∷◌, ℕ, List, [], Some, length, map};
 ghost use Rattle.std.specs.List.{AllByRecursion, slice_get};
 ghost use Rattle.mc_ring.specs.Reply.{Shown};
 ghost use Rattle.mc_split.specs.declared.plan.Piece.{Piece};
 ghost use Rattle.mc_join.specs.Replies.{replies};
-ghost use Rattle.mc_conn.specs.History.{Taken, MayBeTaken};
-ghost use Rattle.mc_conn.specs.Due.{Ran, due, forms_of, ran_on};
+ghost use Rattle.mc_conn.specs.History.{Taken, MayBeTaken, carried_out};
+ghost use Rattle.mc_conn.specs.Due.{Ran, due, pending_replies_of, ran_on};
 ghost use Rattle.mc_join.specs.Expects.{Expects};
 ghost use Rattle.mc_conn.specs.declared.conn.Conn.{Conn};
-ghost use Rattle.mc_conn.specs.Conn.{IfConn, IsConn};
-ghost use Rattle.mc_conn.specs.Told.{Told, IsSound, KeepsHanded, all_forms};
+ghost use Rattle.mc_conn.specs.Conn.{IfConn, IsConn, taken_by};
+ghost use Rattle.mc_conn.specs.Told.{Told, IsSound, KeepsHanded, all_pending_replies};
 ghost use Rattle.mc_conn.specs.Fits.{CameFrom, Fits, HasCome, IsReplyTo, KeysFit, ReceivesFromShard, Serves, Tells, counts, reply_of};
 
 /// What holds of every connection, whatever it was told.
@@ -18,17 +18,32 @@ pub fn connections_are_sound()
     ensures { (conn : Conn) → IfConn conn IsSound }
 {}
 
-/// The replies that were handed out begin all replies, and still do when a reply is accepted and when a command is taken. So
-/// the bytes of several hands, one after another, are one beginning of the texts, and no text is begun twice.
+/// A connection has a log of the commands that it took, each as it is carried out: with the refusal
+/// in place of one that was given up. What is due for these is due for those, with the same pending
+/// replies of replies, and each of them may be taken.
+pub fn connections_log_what_they_take()
+    ensures log { (conn : Conn) → IfConn conn (λ told.
+        taken_by conn ≡ map carried_out told.taken) }
+    ensures due { (shards s : ℕ) (taken : List Taken) →
+        due shards s (map carried_out taken) ≡ due shards s taken }
+    ensures pending_replies { (shards : ℕ) (taken : List Taken) →
+        pending_replies_of shards (map carried_out taken) ≡ pending_replies_of shards taken }
+    ensures may { (taken : List Taken) → AllByRecursion MayBeTaken (map carried_out taken) }
+{}
+
+/// The replies that were handed out begin all replies, and still do when a reply is accepted and
+/// when a command is taken. So the bytes of several hands, one after another, are one beginning of
+/// the texts, and no text is begun twice.
 pub fn handed_replies_stay()
     ensures accept { (conn : Conn) (told : Told) (reply : Shown) → IsConn conn told →
-        Expects (all_forms told) told.accepted reply →
+        Expects (all_pending_replies told) told.accepted reply →
         KeepsHanded told (record told { accepted = told.accepted ++ reply ∷ [] }) }
     ensures take { (conn : Conn) (told : Told) (one : Taken) → IsConn conn told →
         KeepsHanded told (record told { taken = told.taken ++ one ∷ [] }) }
 {}
 
-/// The ticket and the part of a piece that is due tell its shard, and its place among what is due there.
+/// The ticket and the part of a piece that is due determine its shard, and its place among what is
+/// due there.
 pub fn keys_name_one_place()
     ensures { (shards s t i j : ℕ) (taken : List Taken) (p q : Piece) →
         slice_get (due shards s taken) i ≡ Some p → slice_get (due shards t taken) j ≡ Some q →
@@ -53,21 +68,23 @@ pub fn more_commands_fit()
         Fits shards (taken ++ one ∷ []) accepted received }
 {}
 
-/// A reply to the next piece that is due at its shard is expected, and where it is accepted it stands in its place.
+/// A reply to the next piece that is due at its shard is expected, and once accepted it is in its
+/// place.
 pub fn accepted_answers_fit()
     ensures { (shards s : ℕ) (taken : List Taken) (accepted : List Shown) (old new : ℕ → List Shown)
         (p : Piece) (reply : Shown) → Fits shards taken accepted old →
         slice_get (due shards s taken) (length (old s)) ≡ Some p → IsReplyTo p reply →
         ReceivesFromShard old s reply new →
-        Expects (forms_of shards taken) accepted reply ×
+        Expects (pending_replies_of shards taken) accepted reply ×
         Fits shards taken (accepted ++ reply ∷ []) new }
 {}
 
-/// The first commands have their replies exactly where everything that is due for them was received.
+/// The first commands have their replies exactly where everything that is due for them was
+/// received.
 pub fn come_answers_complete_the_first_commands()
     ensures { (shards count : ℕ) (taken : List Taken) (accepted : List Shown)
         (received : ℕ → List Shown) → count ≤ length taken → Fits shards taken accepted received →
-        (count ≤ length (replies (forms_of shards taken) accepted)) ↔
+        (count ≤ length (replies (pending_replies_of shards taken) accepted)) ↔
         HasCome shards taken (counts received) count }
 {}
 
@@ -79,8 +96,9 @@ pub fn received_answers_tell_the_history()
         Tells shards taken accepted received count }
 {}
 
-/// A connection that doesn't know what the shards send back knows this much of its answers, whether a command is taken, a
-/// reply is accepted or a reply is handed back: they fit, should the keys of what was received fit.
+/// A connection that doesn't know what the shards send back knows this much of its answers, whether
+/// a command is taken, a reply is accepted or a reply is handed back: they fit, should the keys of
+/// what was received fit.
 pub fn serving_keeps_answers()
     ensures begin { (shards : ℕ) → Serves shards [] [] (λ s. []) }
     ensures take { (shards : ℕ) (taken : List Taken) (one : Taken) (accepted : List Shown)
@@ -90,14 +108,15 @@ pub fn serving_keeps_answers()
         (old new : ℕ → List Shown) (reply : Shown) → Serves shards taken accepted old →
         length (old s) < length (due shards s taken) → ReceivesFromShard old s reply new →
         Serves shards taken (accepted ++ reply ∷ []) new }
-    ensures stranger { (shards s : ℕ) (taken : List Taken) (accepted : List Shown)
+    ensures unexpected_reply { (shards s : ℕ) (taken : List Taken) (accepted : List Shown)
         (old new : ℕ → List Shown) (reply : Shown) → Serves shards taken accepted old →
         length (old s) < length (due shards s taken) → ReceivesFromShard old s reply new →
-        ¬ Expects (forms_of shards taken) accepted reply → Serves shards taken accepted new }
+        ¬ Expects (pending_replies_of shards taken) accepted reply →
+        Serves shards taken accepted new }
 {}
 
-/// The keys of the replies fit where each shard ran the first of the pieces that are due there and sent back their replies;
-/// and what it ran is what the pieces and the replies tell.
+/// The keys of the replies fit if each shard ran the first of the pieces that are due there and
+/// sent back their replies; and what it ran follows from the pieces and the replies.
 pub fn replies_of_shards_fit()
     ensures keys { (shards : ℕ) (taken : List Taken) (received : ℕ → List Shown) →
         ((s : ℕ) → CameFrom shards s taken (received s)) → KeysFit shards taken received }

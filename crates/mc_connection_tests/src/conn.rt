@@ -1,11 +1,11 @@
 //! Tests of whole conversations: commands in, pieces out, answers in any order, and failing
-//! outlets. They cover what no contract states: that calls succeed with ample memory, and the
+//! sinks. They cover what no contract states: that calls succeed with ample memory, and the
 //! texts.
 ghost use Rattle.std.specs.Prelude.{◌<◌};
 
 use crate::asserting::{equal, holds};
-use crate::outlet::{MemoryOutlet, outlet, outlet_over};
-use crate::stranger::stranger_of;
+use crate::sink::{MemorySink, sink, sink_over};
+use crate::unexpected_reply::unexpected_reply_of;
 use mc_command::Rules;
 use mc_conn::{Conn, Taken};
 use mc_item::{Answer, Kind};
@@ -45,11 +45,11 @@ fn takes(rt: &impl Abort, alloc: Global, conn: &mut Conn, want: Taken) {
 
 /// Asserts that a reply is accepted.
 fn accepts(rt: &impl Abort, conn: &mut Conn, reply: Reply) {
-    equal(rt, stranger_of(conn.accept(reply)), None);
+    equal(rt, unexpected_reply_of(conn.accept(reply)), None);
 }
 
 /// Asserts that the replies of `count` commands are written.
-fn hands(rt: &impl Abort, conn: &mut Conn, out: &mut MemoryOutlet, count: u64) {
+fn hands(rt: &impl Abort, conn: &mut Conn, out: &mut MemorySink, count: u64) {
     holds(rt, conn.hand(out) == Ok(count));
 }
 
@@ -98,7 +98,7 @@ fn answer_all(rt: &impl Abort, conn: &mut Conn) {
 }
 
 /// Parses, answers and writes until no command is complete.
-fn serve(rt: &impl Abort, alloc: Global, conn: &mut Conn, out: &mut MemoryOutlet) -> Taken {
+fn serve(rt: &impl Abort, alloc: Global, conn: &mut Conn, out: &mut MemorySink) -> Taken {
     for _ in 0..CONVERSATION.len() {
         let taken = take_all(alloc, conn);
         answer_all(rt, conn);
@@ -116,7 +116,7 @@ fn converses(rt: &impl Abort, alloc: Global, window: usize, size: usize) -> Resu
     requires size { 0 < size }
 {
     let mut conn = fed(rt, alloc, window, b"")?;
-    let mut out = outlet(alloc, usize::MAX);
+    let mut out = sink(alloc, usize::MAX);
     let mut taken = Taken::NeedMore;
     for piece in CONVERSATION.chunks(size) {
         feeds(rt, &mut conn, piece, piece.len());
@@ -148,7 +148,7 @@ fn answers_in_order(rt: &impl Abort, alloc: Global, order: [u64; 3]) -> Result<(
         4,
         b"touch a 0\r\nstats\r\ndelete b noreply\r\ntouch c 0\r\n",
     )?;
-    let mut out = outlet(alloc, usize::MAX);
+    let mut out = sink(alloc, usize::MAX);
     equal(rt, take_all(alloc, &mut conn), Taken::Full);
     let mut answered = [false; 4];
     for ticket in order {
@@ -198,7 +198,7 @@ fn answers_come_in_every_order(rt: HostRuntime) -> Result<(), Fail> {
 #[test]
 fn the_last_command_closes_a_full_window(rt: HostRuntime) -> Result<(), Fail> {
     let alloc = rt.alloc();
-    let mut out = outlet(alloc, usize::MAX);
+    let mut out = sink(alloc, usize::MAX);
     let mut conn = fed(&rt, alloc, 1, b"mn\r\nquit\r\nmn\r\n")?;
     takes(&rt, alloc, &mut conn, Taken::Opened(Ticket(0)));
     takes(&rt, alloc, &mut conn, Taken::Full);
@@ -229,7 +229,7 @@ fn the_last_command_closes_a_full_window(rt: HostRuntime) -> Result<(), Fail> {
 #[test]
 fn a_line_limit_of_2048(rt: HostRuntime) -> Result<(), Fail> {
     let alloc = rt.alloc();
-    let mut out = outlet(alloc, usize::MAX);
+    let mut out = sink(alloc, usize::MAX);
     let rules = Rules {
         line_limit: 2_048,
         ..Rules::own(DEFAULT_VALUE_LIMIT)
@@ -249,11 +249,11 @@ fn a_line_limit_of_2048(rt: HostRuntime) -> Result<(), Fail> {
     Ok(())
 }
 
-/// The outlet fails after `left` bytes.
+/// The sink fails after `left` bytes.
 fn fails_after(rt: &impl Abort, alloc: Global, left: usize) -> Result<(), Fail> {
     let text = b"END\r\nMN\r\n".as_slice();
     let mut conn = fed(rt, alloc, 4, b"get a\r\nmn\r\n")?;
-    let mut out = outlet(alloc, left);
+    let mut out = sink(alloc, left);
     equal(rt, take_all(alloc, &mut conn), Taken::NeedMore);
     answer_all(rt, &mut conn);
     holds(rt, conn.hand(&mut out).is_err());
@@ -268,7 +268,7 @@ fn fails_after(rt: &impl Abort, alloc: Global, left: usize) -> Result<(), Fail> 
 }
 
 #[test]
-fn an_outlet_fails_at_every_byte(rt: HostRuntime) -> Result<(), Fail> {
+fn a_sink_fails_at_every_byte(rt: HostRuntime) -> Result<(), Fail> {
     let alloc = rt.alloc();
     for left in 0..9usize {
         fails_after(&rt, alloc, left)?;
@@ -279,7 +279,7 @@ fn an_outlet_fails_at_every_byte(rt: HostRuntime) -> Result<(), Fail> {
 #[test]
 fn a_broken_connection_still_answers_its_pieces(rt: HostRuntime) -> Result<(), Fail> {
     let alloc = rt.alloc();
-    let mut out = outlet(alloc, usize::MAX);
+    let mut out = sink(alloc, usize::MAX);
     let mut conn = fed(&rt, alloc, 4, b"get a b\r\nget c\r\n")?;
     equal(&rt, take_all(alloc, &mut conn), Taken::NeedMore);
     let Some((shard, piece)) = conn.next_piece() else {
@@ -304,7 +304,7 @@ fn a_broken_connection_still_answers_its_pieces(rt: HostRuntime) -> Result<(), F
 }
 
 /// Asserts that a reply is returned unchanged.
-fn is_stranger(
+fn is_unexpected_reply(
     rt: &impl Abort,
     conn: &mut Conn,
     ticket: u64,
@@ -312,27 +312,27 @@ fn is_stranger(
     kind: Kind,
     answer: Answer,
 ) {
-    let stranger = stranger_of(conn.accept(reply(rt, ticket, part, kind, answer)));
-    equal(rt, stranger, Some((Ticket(ticket), part, kind)));
+    let unexpected_reply = unexpected_reply_of(conn.accept(reply(rt, ticket, part, kind, answer)));
+    equal(rt, unexpected_reply, Some((Ticket(ticket), part, kind)));
 }
 
 #[test]
 fn strangers_are_handed_back(rt: HostRuntime) -> Result<(), Fail> {
     let alloc = rt.alloc();
-    let mut out = outlet(alloc, usize::MAX);
+    let mut out = sink(alloc, usize::MAX);
     let mut conn = fed(&rt, alloc, 2, b"get a b\r\n")?;
-    is_stranger(&rt, &mut conn, 0, 0, Kind::Fetch, Answer::Miss);
+    is_unexpected_reply(&rt, &mut conn, 0, 0, Kind::Fetch, Answer::Miss);
     takes(&rt, alloc, &mut conn, Taken::Opened(Ticket(0)));
-    is_stranger(&rt, &mut conn, 1, 0, Kind::Fetch, Answer::Miss);
-    is_stranger(&rt, &mut conn, 0, 2, Kind::Fetch, Answer::Miss);
-    is_stranger(&rt, &mut conn, 0, 0, Kind::Touch, Answer::NotFound);
+    is_unexpected_reply(&rt, &mut conn, 1, 0, Kind::Fetch, Answer::Miss);
+    is_unexpected_reply(&rt, &mut conn, 0, 2, Kind::Fetch, Answer::Miss);
+    is_unexpected_reply(&rt, &mut conn, 0, 0, Kind::Touch, Answer::NotFound);
     let second = reply(&rt, 0, 1, Kind::Fetch, Answer::Miss);
     accepts(&rt, &mut conn, second);
-    is_stranger(&rt, &mut conn, 0, 1, Kind::Fetch, Answer::NoMemory);
+    is_unexpected_reply(&rt, &mut conn, 0, 1, Kind::Fetch, Answer::NoMemory);
     let first = reply(&rt, 0, 0, Kind::Fetch, Answer::Miss);
     accepts(&rt, &mut conn, first);
     hands(&rt, &mut conn, &mut out, 1);
-    is_stranger(&rt, &mut conn, 0, 0, Kind::Fetch, Answer::Miss);
+    is_unexpected_reply(&rt, &mut conn, 0, 0, Kind::Fetch, Answer::Miss);
     equal(&rt, out.taken.as_slice(), b"END\r\n".as_slice());
     Ok(())
 }
@@ -345,7 +345,7 @@ fn a_refused_allocation_gives_up_one_command(rt: HostRuntime) {
     let Ok(taken) = Vec::with_capacity(alloc, 64) else {
         return;
     };
-    let mut out = outlet_over(taken, 64);
+    let mut out = sink_over(taken, 64);
     let Ok(mut conn) = Conn::new(alloc, 2, DEFAULT_VALUE_LIMIT, 4) else {
         return;
     };

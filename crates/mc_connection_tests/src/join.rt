@@ -1,25 +1,25 @@
-//! Replies of a few commands, whose answers come in any order, and outlets that count or fail.
+//! Replies of a few commands, whose answers come in any order, and sinks that count or fail.
 ghost use Rattle.std.specs.Prelude.{◌≡◌, ◌+◌, Some, IfOk, IfSome, OnOk, false};
-ghost use Rattle.mc_wire.specs.Outlet.{Listed, Untold, sight_out};
+ghost use Rattle.mc_wire.specs.Sink.{Listed, Untold, sight_out};
 ghost use Rattle.mc_join.specs.Held.{opened_count};
 
 use crate::asserting::{equal, holds};
-use crate::outlet::{MemoryOutlet, outlet};
-use crate::stranger::stranger_of;
+use crate::sink::{MemorySink, sink};
+use crate::unexpected_reply::unexpected_reply_of;
 use mc_command::{Command, Keys, Retrieval};
 use mc_item::{Answer, Kind, Value};
-use mc_join::Joiner;
-use mc_reply::{Form, Ticket};
+use mc_join::ReorderBuffer;
+use mc_reply::{PendingReply, Ticket};
 use mc_ring::Reply;
 use mc_split::split;
-use mc_wire::{OutFault, Outlet, words};
+use mc_wire::{Sink, SinkError, words};
 use std::alloc::Global;
 use std::process::Abort;
 use std::test::Fail;
 
 /// The form of a get of the keys in this text.
-fn get_words(alloc: Global, ticket: Ticket, text: &[u8]) -> Result<Form, Fail>
-    ensures { IfOk result (λ form. form.ticket ≡ ticket) }
+fn get_words(alloc: Global, ticket: Ticket, text: &[u8]) -> Result<PendingReply, Fail>
+    ensures { IfOk result (λ pending_reply. pending_reply.ticket ≡ ticket) }
 {
     let mut walk = words(text);
     let Some(first) = walk.next() else {
@@ -30,12 +30,12 @@ fn get_words(alloc: Global, ticket: Ticket, text: &[u8]) -> Result<Form, Fail>
         touch: None,
         with_unique: false,
     });
-    Ok(split(alloc, command, ticket, 1000, 2)?.form)
+    Ok(split(alloc, command, ticket, 1000, 2)?.pending_reply)
 }
 
 /// The form of a get of these keys.
-fn get(alloc: Global, ticket: Ticket, keys: &[&[u8]]) -> Result<Form, Fail>
-    ensures { IfOk result (λ form. form.ticket ≡ ticket) }
+fn get(alloc: Global, ticket: Ticket, keys: &[&[u8]]) -> Result<PendingReply, Fail>
+    ensures { IfOk result (λ pending_reply. pending_reply.ticket ≡ ticket) }
 {
     let mut text = Vec::new(alloc);
     for key in keys {
@@ -46,10 +46,10 @@ fn get(alloc: Global, ticket: Ticket, keys: &[&[u8]]) -> Result<Form, Fail>
 }
 
 /// The form of `mn`.
-fn noop(alloc: Global, ticket: Ticket) -> Result<Form, Fail>
-    ensures { IfOk result (λ form. form.ticket ≡ ticket) }
+fn noop(alloc: Global, ticket: Ticket) -> Result<PendingReply, Fail>
+    ensures { IfOk result (λ pending_reply. pending_reply.ticket ≡ ticket) }
 {
-    Ok(split(alloc, Command::MetaNoop, ticket, 1000, 2)?.form)
+    Ok(split(alloc, Command::MetaNoop, ticket, 1000, 2)?.pending_reply)
 }
 
 fn hit(alloc: Global, value: &[u8]) -> Result<Answer, Fail> {
@@ -70,102 +70,127 @@ fn reply(rt: &impl Abort, ticket: u64, part: usize, kind: Kind, answer: Answer) 
 }
 
 /// Opens the next ticket, for which there is space.
-fn open(rt: &impl Abort, joiner: &mut Joiner, form: Form)
-    requires { form.ticket.0 ≡ opened_count joiner.old }
-    ensures { opened_count joiner.new ≡ opened_count joiner.old + 1 }
+fn open(rt: &impl Abort, reorder_buffer: &mut ReorderBuffer, pending_reply: PendingReply)
+    requires { pending_reply.ticket.0 ≡ opened_count reorder_buffer.old }
+    ensures { opened_count reorder_buffer.new ≡ opened_count reorder_buffer.old + 1 }
 {
-    holds(rt, joiner.open(form).is_ok());
+    holds(rt, reorder_buffer.open(pending_reply).is_ok());
 }
 
 /// Opens a get of these keys, for which there is space.
 fn open_get(
     rt: &impl Abort,
     alloc: Global,
-    joiner: &mut Joiner,
+    reorder_buffer: &mut ReorderBuffer,
     ticket: u64,
     keys: &[&[u8]],
 ) -> Result<(), Fail>
-    requires { ticket ≡ opened_count joiner.old }
-    ensures { OnOk result (opened_count joiner.new ≡ opened_count joiner.old + 1) }
+    requires { ticket ≡ opened_count reorder_buffer.old }
+    ensures { OnOk result (opened_count reorder_buffer.new ≡ opened_count reorder_buffer.old + 1) }
 {
-    open(rt, joiner, get(alloc, Ticket(ticket), keys)?);
+    open(rt, reorder_buffer, get(alloc, Ticket(ticket), keys)?);
     Ok(())
 }
 
 /// Opens an `mn`, for which there is space.
-fn open_noop(rt: &impl Abort, alloc: Global, joiner: &mut Joiner, ticket: u64) -> Result<(), Fail>
-    requires { ticket ≡ opened_count joiner.old }
-    ensures { OnOk result (opened_count joiner.new ≡ opened_count joiner.old + 1) }
+fn open_noop(
+    rt: &impl Abort,
+    alloc: Global,
+    reorder_buffer: &mut ReorderBuffer,
+    ticket: u64,
+) -> Result<(), Fail>
+    requires { ticket ≡ opened_count reorder_buffer.old }
+    ensures { OnOk result (opened_count reorder_buffer.new ≡ opened_count reorder_buffer.old + 1) }
 {
-    open(rt, joiner, noop(alloc, Ticket(ticket))?);
+    open(rt, reorder_buffer, noop(alloc, Ticket(ticket))?);
     Ok(())
 }
 
 /// Asserts that there is no space for an `mn`.
-fn is_full(rt: &impl Abort, alloc: Global, joiner: &mut Joiner, ticket: u64) -> Result<(), Fail>
-    requires { ticket ≡ opened_count joiner.old }
-    ensures { opened_count joiner.new ≡ opened_count joiner.old }
+fn is_full(
+    rt: &impl Abort,
+    alloc: Global,
+    reorder_buffer: &mut ReorderBuffer,
+    ticket: u64,
+) -> Result<(), Fail>
+    requires { ticket ≡ opened_count reorder_buffer.old }
+    ensures { opened_count reorder_buffer.new ≡ opened_count reorder_buffer.old }
 {
-    holds(rt, joiner.open(noop(alloc, Ticket(ticket))?).is_err());
+    holds(
+        rt,
+        reorder_buffer.open(noop(alloc, Ticket(ticket))?).is_err(),
+    );
     Ok(())
 }
 
 /// Whether the reply was accepted.
-fn takes(joiner: &mut Joiner, reply: Reply) -> bool
-    ensures { opened_count joiner.new ≡ opened_count joiner.old }
+fn takes(reorder_buffer: &mut ReorderBuffer, reply: Reply) -> bool
+    ensures { opened_count reorder_buffer.new ≡ opened_count reorder_buffer.old }
 {
-    stranger_of(joiner.accept(reply)).is_none()
+    unexpected_reply_of(reorder_buffer.accept(reply)).is_none()
 }
 
 /// Asserts that a miss is accepted.
-fn misses(rt: &impl Abort, joiner: &mut Joiner, ticket: u64, part: usize)
-    ensures { opened_count joiner.new ≡ opened_count joiner.old }
+fn misses(rt: &impl Abort, reorder_buffer: &mut ReorderBuffer, ticket: u64, part: usize)
+    ensures { opened_count reorder_buffer.new ≡ opened_count reorder_buffer.old }
 {
     let miss = reply(rt, ticket, part, Kind::Fetch, Answer::Miss);
-    holds(rt, takes(joiner, miss));
+    holds(rt, takes(reorder_buffer, miss));
 }
 
 /// Asserts that a hit is accepted.
 fn hits(
     rt: &impl Abort,
     alloc: Global,
-    joiner: &mut Joiner,
+    reorder_buffer: &mut ReorderBuffer,
     ticket: u64,
     part: usize,
     value: &[u8],
 ) -> Result<(), Fail>
-    ensures { opened_count joiner.new ≡ opened_count joiner.old }
+    ensures { opened_count reorder_buffer.new ≡ opened_count reorder_buffer.old }
 {
     let found = reply(rt, ticket, part, Kind::Fetch, hit(alloc, value)?);
-    holds(rt, takes(joiner, found));
+    holds(rt, takes(reorder_buffer, found));
     Ok(())
 }
 
 /// Asserts the result and the output of `hand`, and that `ready` returned its length.
-fn hands(rt: &impl Abort, alloc: Global, joiner: &mut Joiner, commands: u64, text: &[u8])
-    ensures { opened_count joiner.new ≡ opened_count joiner.old }
+fn hands(
+    rt: &impl Abort,
+    alloc: Global,
+    reorder_buffer: &mut ReorderBuffer,
+    commands: u64,
+    text: &[u8],
+)
+    ensures { opened_count reorder_buffer.new ≡ opened_count reorder_buffer.old }
 {
-    let mut out = outlet(alloc, usize::MAX);
-    equal(rt, joiner.ready(), text.len() as u64);
-    equal(rt, joiner.hand(&mut out), Ok(commands));
+    let mut out = sink(alloc, usize::MAX);
+    equal(rt, reorder_buffer.ready(), text.len() as u64);
+    equal(rt, reorder_buffer.hand(&mut out), Ok(commands));
     equal(rt, out.taken.as_slice(), text);
-    equal(rt, joiner.ready(), 0);
+    equal(rt, reorder_buffer.ready(), 0);
 }
 
 #[test]
 fn a_get_waits_for_its_first_key(rt: HostRuntime) -> Result<(), Fail> {
     let alloc = rt.alloc();
-    let mut joiner = Joiner::new(alloc, 1)?;
-    open_get(&rt, alloc, &mut joiner, 0, &[b"a", b"b"])?;
-    equal(&rt, joiner.waiting(), 1);
-    misses(&rt, &mut joiner, 0, 1);
-    hands(&rt, alloc, &mut joiner, 0, b"");
+    let mut reorder_buffer = ReorderBuffer::new(alloc, 1)?;
+    open_get(&rt, alloc, &mut reorder_buffer, 0, &[b"a", b"b"])?;
+    equal(&rt, reorder_buffer.waiting(), 1);
+    misses(&rt, &mut reorder_buffer, 0, 1);
+    hands(&rt, alloc, &mut reorder_buffer, 0, b"");
     let again = reply(&rt, 0, 1, Kind::Fetch, Answer::Miss);
-    holds(&rt, !takes(&mut joiner, again));
-    hits(&rt, alloc, &mut joiner, 0, 0, b"x")?;
-    equal(&rt, joiner.ready(), 21);
-    hands(&rt, alloc, &mut joiner, 1, b"VALUE a 0 1\r\nx\r\nEND\r\n");
-    equal(&rt, joiner.waiting(), 0);
+    holds(&rt, !takes(&mut reorder_buffer, again));
+    hits(&rt, alloc, &mut reorder_buffer, 0, 0, b"x")?;
+    equal(&rt, reorder_buffer.ready(), 21);
+    hands(
+        &rt,
+        alloc,
+        &mut reorder_buffer,
+        1,
+        b"VALUE a 0 1\r\nx\r\nEND\r\n",
+    );
+    equal(&rt, reorder_buffer.waiting(), 0);
     Ok(())
 }
 
@@ -190,7 +215,7 @@ fn names_each(code: usize, count: usize) -> bool {
 fn accept_in_order(
     rt: &impl Abort,
     alloc: Global,
-    joiner: &mut Joiner,
+    reorder_buffer: &mut ReorderBuffer,
     code: usize,
     count: usize,
 ) -> Result<(), Fail> {
@@ -208,7 +233,7 @@ fn accept_in_order(
         let fresh = part < count && !seen[part];
         equal(
             rt,
-            takes(joiner, reply(rt, 0, part, Kind::Fetch, answer)),
+            takes(reorder_buffer, reply(rt, 0, part, Kind::Fetch, answer)),
             fresh,
         );
         seen[part] = true;
@@ -219,19 +244,19 @@ fn accept_in_order(
 #[test]
 fn a_get_of_which_a_later_key_found_no_memory_shows_no_value(rt: HostRuntime) -> Result<(), Fail> {
     let alloc = rt.alloc();
-    let mut joiner = Joiner::new(alloc, 1)?;
-    open_get(&rt, alloc, &mut joiner, 0, &[b"a", b"b"])?;
-    hits(&rt, alloc, &mut joiner, 0, 0, b"x")?;
+    let mut reorder_buffer = ReorderBuffer::new(alloc, 1)?;
+    open_get(&rt, alloc, &mut reorder_buffer, 0, &[b"a", b"b"])?;
+    hits(&rt, alloc, &mut reorder_buffer, 0, 0, b"x")?;
     let refused = reply(&rt, 0, 1, Kind::Fetch, Answer::NoMemory);
-    holds(&rt, takes(&mut joiner, refused));
+    holds(&rt, takes(&mut reorder_buffer, refused));
     hands(
         &rt,
         alloc,
-        &mut joiner,
+        &mut reorder_buffer,
         1,
         b"SERVER_ERROR out of memory\r\n",
     );
-    equal(&rt, joiner.waiting(), 0);
+    equal(&rt, reorder_buffer.waiting(), 0);
     Ok(())
 }
 
@@ -247,13 +272,13 @@ fn answers_come_in_every_order(rt: HostRuntime) -> Result<(), Fail> {
     ];
     for count in 1..5 {
         for code in 0..256 {
-            let mut joiner = Joiner::new(alloc, 1)?;
-            open_get(&rt, alloc, &mut joiner, 0, keys.split_at(count).0)?;
-            accept_in_order(&rt, alloc, &mut joiner, code, count)?;
+            let mut reorder_buffer = ReorderBuffer::new(alloc, 1)?;
+            open_get(&rt, alloc, &mut reorder_buffer, 0, keys.split_at(count).0)?;
+            accept_in_order(&rt, alloc, &mut reorder_buffer, code, count)?;
             if names_each(code, count) {
-                hands(&rt, alloc, &mut joiner, 1, texts[count - 1]);
+                hands(&rt, alloc, &mut reorder_buffer, 1, texts[count - 1]);
             } else {
-                hands(&rt, alloc, &mut joiner, 0, b"");
+                hands(&rt, alloc, &mut reorder_buffer, 0, b"");
             }
         }
     }
@@ -263,15 +288,15 @@ fn answers_come_in_every_order(rt: HostRuntime) -> Result<(), Fail> {
 #[test]
 fn a_repeated_key_is_shown_each_time(rt: HostRuntime) -> Result<(), Fail> {
     let alloc = rt.alloc();
-    let mut joiner = Joiner::new(alloc, 1)?;
-    open_get(&rt, alloc, &mut joiner, 0, &[b"a", b"b", b"a"])?;
-    hits(&rt, alloc, &mut joiner, 0, 2, b"2")?;
-    hits(&rt, alloc, &mut joiner, 0, 0, b"1")?;
-    misses(&rt, &mut joiner, 0, 1);
+    let mut reorder_buffer = ReorderBuffer::new(alloc, 1)?;
+    open_get(&rt, alloc, &mut reorder_buffer, 0, &[b"a", b"b", b"a"])?;
+    hits(&rt, alloc, &mut reorder_buffer, 0, 2, b"2")?;
+    hits(&rt, alloc, &mut reorder_buffer, 0, 0, b"1")?;
+    misses(&rt, &mut reorder_buffer, 0, 1);
     hands(
         &rt,
         alloc,
-        &mut joiner,
+        &mut reorder_buffer,
         1,
         b"VALUE a 0 1\r\n1\r\nVALUE a 0 1\r\n2\r\nEND\r\n",
     );
@@ -279,71 +304,87 @@ fn a_repeated_key_is_shown_each_time(rt: HostRuntime) -> Result<(), Fail> {
 }
 
 /// Asserts that the reply is refused and returned unchanged.
-fn is_stranger(
+fn is_unexpected_reply(
     rt: &impl Abort,
-    joiner: &mut Joiner,
+    reorder_buffer: &mut ReorderBuffer,
     ticket: u64,
     part: usize,
     kind: Kind,
     answer: Answer,
 )
-    ensures { opened_count joiner.new ≡ opened_count joiner.old }
+    ensures { opened_count reorder_buffer.new ≡ opened_count reorder_buffer.old }
 {
-    let stranger = stranger_of(joiner.accept(reply(rt, ticket, part, kind, answer)));
-    equal(rt, stranger, Some((Ticket(ticket), part, kind)));
+    let unexpected_reply = unexpected_reply_of(reorder_buffer.accept(reply(
+        rt, ticket, part, kind, answer,
+    )));
+    equal(rt, unexpected_reply, Some((Ticket(ticket), part, kind)));
 }
 
 #[test]
 fn strangers_are_handed_back(rt: HostRuntime) -> Result<(), Fail> {
     let alloc = rt.alloc();
-    let mut joiner = Joiner::new(alloc, 2)?;
+    let mut reorder_buffer = ReorderBuffer::new(alloc, 2)?;
     // No ticket is open.
-    is_stranger(&rt, &mut joiner, 0, 0, Kind::Fetch, Answer::Miss);
-    open_get(&rt, alloc, &mut joiner, 0, &[b"a", b"b"])?;
+    is_unexpected_reply(&rt, &mut reorder_buffer, 0, 0, Kind::Fetch, Answer::Miss);
+    open_get(&rt, alloc, &mut reorder_buffer, 0, &[b"a", b"b"])?;
     // A part that doesn't exist, a ticket that isn't open yet, another kind.
-    is_stranger(&rt, &mut joiner, 0, 2, Kind::Fetch, Answer::Miss);
-    is_stranger(&rt, &mut joiner, 1, 0, Kind::Fetch, Answer::Miss);
-    is_stranger(&rt, &mut joiner, u64::MAX, 0, Kind::Fetch, Answer::Miss);
-    is_stranger(&rt, &mut joiner, 0, 0, Kind::MetaGet, Answer::Miss);
-    misses(&rt, &mut joiner, 0, 0);
+    is_unexpected_reply(&rt, &mut reorder_buffer, 0, 2, Kind::Fetch, Answer::Miss);
+    is_unexpected_reply(&rt, &mut reorder_buffer, 1, 0, Kind::Fetch, Answer::Miss);
+    is_unexpected_reply(
+        &rt,
+        &mut reorder_buffer,
+        u64::MAX,
+        0,
+        Kind::Fetch,
+        Answer::Miss,
+    );
+    is_unexpected_reply(&rt, &mut reorder_buffer, 0, 0, Kind::MetaGet, Answer::Miss);
+    misses(&rt, &mut reorder_buffer, 0, 0);
     // A part that is answered already, whatever the second answer is.
-    is_stranger(&rt, &mut joiner, 0, 0, Kind::Fetch, hit(alloc, b"x")?);
-    misses(&rt, &mut joiner, 0, 1);
-    hands(&rt, alloc, &mut joiner, 1, b"END\r\n");
+    is_unexpected_reply(
+        &rt,
+        &mut reorder_buffer,
+        0,
+        0,
+        Kind::Fetch,
+        hit(alloc, b"x")?,
+    );
+    misses(&rt, &mut reorder_buffer, 0, 1);
+    hands(&rt, alloc, &mut reorder_buffer, 1, b"END\r\n");
     // A ticket that was closed.
-    is_stranger(&rt, &mut joiner, 0, 0, Kind::Fetch, Answer::Miss);
-    equal(&rt, joiner.waiting(), 0);
+    is_unexpected_reply(&rt, &mut reorder_buffer, 0, 0, Kind::Fetch, Answer::Miss);
+    equal(&rt, reorder_buffer.waiting(), 0);
     Ok(())
 }
 
 #[test]
-fn a_failed_outlet_is_written_to_no_more(rt: HostRuntime) -> Result<(), Fail> {
+fn a_failed_sink_is_written_to_no_more(rt: HostRuntime) -> Result<(), Fail> {
     let alloc = rt.alloc();
     let text = b"MN\r\nEND\r\n";
     for left in 0..9 {
-        let mut joiner = Joiner::new(alloc, 4)?;
-        open_noop(&rt, alloc, &mut joiner, 0)?;
-        open_get(&rt, alloc, &mut joiner, 1, &[b"a"])?;
-        open_get(&rt, alloc, &mut joiner, 2, &[b"b"])?;
-        misses(&rt, &mut joiner, 1, 0);
-        let mut out = outlet(alloc, left);
-        equal(&rt, joiner.ready(), 9);
-        holds(&rt, joiner.hand(&mut out).is_err());
+        let mut reorder_buffer = ReorderBuffer::new(alloc, 4)?;
+        open_noop(&rt, alloc, &mut reorder_buffer, 0)?;
+        open_get(&rt, alloc, &mut reorder_buffer, 1, &[b"a"])?;
+        open_get(&rt, alloc, &mut reorder_buffer, 2, &[b"b"])?;
+        misses(&rt, &mut reorder_buffer, 1, 0);
+        let mut out = sink(alloc, left);
+        equal(&rt, reorder_buffer.ready(), 9);
+        holds(&rt, reorder_buffer.hand(&mut out).is_err());
         equal(&rt, out.taken.as_slice(), text.split_at(left).0);
         let writes = out.writes;
-        equal(&rt, joiner.ready(), 0);
+        equal(&rt, reorder_buffer.ready(), 0);
         out.allow(99);
-        equal(&rt, joiner.hand(&mut out), Ok(0));
+        equal(&rt, reorder_buffer.hand(&mut out), Ok(0));
         equal(&rt, out.taken.len(), left);
         equal(&rt, out.writes, writes);
         // Answers are still accepted.
-        misses(&rt, &mut joiner, 2, 0);
-        equal(&rt, joiner.hand(&mut out), Ok(0));
-        equal(&rt, joiner.waiting(), 3);
-        joiner.reset();
-        equal(&rt, joiner.waiting(), 0);
-        open_noop(&rt, alloc, &mut joiner, 0)?;
-        hands(&rt, alloc, &mut joiner, 1, b"MN\r\n");
+        misses(&rt, &mut reorder_buffer, 2, 0);
+        equal(&rt, reorder_buffer.hand(&mut out), Ok(0));
+        equal(&rt, reorder_buffer.waiting(), 3);
+        reorder_buffer.reset();
+        equal(&rt, reorder_buffer.waiting(), 0);
+        open_noop(&rt, alloc, &mut reorder_buffer, 0)?;
+        hands(&rt, alloc, &mut reorder_buffer, 1, b"MN\r\n");
     }
     Ok(())
 }
@@ -352,16 +393,16 @@ fn a_failed_outlet_is_written_to_no_more(rt: HostRuntime) -> Result<(), Fail> {
 fn a_large_value_goes_out_in_its_turn(rt: HostRuntime) -> Result<(), Fail> {
     let alloc = rt.alloc();
     let value = vec![in alloc; 7; 16_384]?;
-    let mut joiner = Joiner::new(alloc, 4)?;
-    open_noop(&rt, alloc, &mut joiner, 0)?;
-    open_get(&rt, alloc, &mut joiner, 1, &[b"a"])?;
-    open_noop(&rt, alloc, &mut joiner, 2)?;
-    hits(&rt, alloc, &mut joiner, 1, 0, value.as_slice())?;
-    let mut out = outlet(alloc, usize::MAX);
+    let mut reorder_buffer = ReorderBuffer::new(alloc, 4)?;
+    open_noop(&rt, alloc, &mut reorder_buffer, 0)?;
+    open_get(&rt, alloc, &mut reorder_buffer, 1, &[b"a"])?;
+    open_noop(&rt, alloc, &mut reorder_buffer, 2)?;
+    hits(&rt, alloc, &mut reorder_buffer, 1, 0, value.as_slice())?;
+    let mut out = sink(alloc, usize::MAX);
     let text = b"MN\r\nVALUE a 0 16384\r\n";
     let len = text.len() + 16_384 + b"\r\nEND\r\nMN\r\n".len();
-    equal(&rt, joiner.ready(), len as u64);
-    equal(&rt, joiner.hand(&mut out), Ok(3));
+    equal(&rt, reorder_buffer.ready(), len as u64);
+    equal(&rt, reorder_buffer.hand(&mut out), Ok(3));
     equal(&rt, out.taken.len(), len);
     holds(&rt, out.taken.as_slice().starts_with(text));
     holds(
@@ -378,35 +419,35 @@ struct Drip {
     failed: bool,
 }
 
-impl Outlet for Drip {
+impl Sink for Drip {
     ghost sight = { λ out. sight_out (Listed out.taken.items) out.failed };
 
-    fn write(&mut self, bytes: &[u8]) -> Result<usize, OutFault> {
+    fn write(&mut self, bytes: &[u8]) -> Result<usize, SinkError> {
         let count = bytes.len().min(1);
         let (front, _) = bytes.split_at(count);
         if self.failed || self.taken.extend_from_slice(front).is_err() {
             self.failed = true;
-            return Err(OutFault);
+            return Err(SinkError);
         }
         Ok(count)
     }
 }
 
 /// A long reply between two short ones: `mn`, a get of a value, and `mn`.
-fn long_between_short(rt: &impl Abort, alloc: Global) -> Result<Joiner, Fail> {
+fn long_between_short(rt: &impl Abort, alloc: Global) -> Result<ReorderBuffer, Fail> {
     let value = vec![in alloc; 7; 1_000]?;
-    let mut joiner = Joiner::new(alloc, 4)?;
-    open_noop(rt, alloc, &mut joiner, 0)?;
-    open_get(rt, alloc, &mut joiner, 1, &[b"a"])?;
-    open_noop(rt, alloc, &mut joiner, 2)?;
-    hits(rt, alloc, &mut joiner, 1, 0, value.as_slice())?;
-    Ok(joiner)
+    let mut reorder_buffer = ReorderBuffer::new(alloc, 4)?;
+    open_noop(rt, alloc, &mut reorder_buffer, 0)?;
+    open_get(rt, alloc, &mut reorder_buffer, 1, &[b"a"])?;
+    open_noop(rt, alloc, &mut reorder_buffer, 2)?;
+    hits(rt, alloc, &mut reorder_buffer, 1, 0, value.as_slice())?;
+    Ok(reorder_buffer)
 }
 
 #[test]
 fn replies_may_break_off_at_each_byte(rt: HostRuntime) -> Result<(), Fail> {
     let alloc = rt.alloc();
-    let mut whole = outlet(alloc, usize::MAX);
+    let mut whole = sink(alloc, usize::MAX);
     equal(&rt, long_between_short(&rt, alloc)?.hand(&mut whole), Ok(3));
     let text = whole.taken.as_slice();
     equal(&rt, text.len(), 4 + 16 + 1_000 + 7 + 4);
@@ -417,7 +458,7 @@ fn replies_may_break_off_at_each_byte(rt: HostRuntime) -> Result<(), Fail> {
     equal(&rt, long_between_short(&rt, alloc)?.hand(&mut drip), Ok(3));
     equal(&rt, drip.taken.as_slice(), text);
     for left in 0..text.len() {
-        let mut out = outlet(alloc, left);
+        let mut out = sink(alloc, left);
         holds(&rt, long_between_short(&rt, alloc)?.hand(&mut out).is_err());
         equal(&rt, out.taken.as_slice(), text.split_at(left).0);
     }
@@ -438,10 +479,10 @@ struct WriteTally {
     bytes: u64,
 }
 
-impl Outlet for WriteTally {
+impl Sink for WriteTally {
     ghost sight = { λ _. sight_out Untold false };
 
-    fn write(&mut self, bytes: &[u8]) -> Result<usize, OutFault> {
+    fn write(&mut self, bytes: &[u8]) -> Result<usize, SinkError> {
         let (small, large) = if bytes.len() < LARGE { (1, 0) } else { (0, 1) };
         self.small = self.small.wrapping_add(small);
         self.large = self.large.wrapping_add(large);
@@ -452,7 +493,7 @@ impl Outlet for WriteTally {
 
 /// A large value, as an item holds it, and the form of a get of one key that needs an allocation;
 /// `None` if memory was refused.
-fn large_value(alloc: Global) -> Option<(Value, Form)>
+fn large_value(alloc: Global) -> Option<(Value, PendingReply)>
     ensures { IfSome result (λ made. made.1.ticket.0 ≡ 0) }
 {
     let bytes = vec![in alloc; 7; LARGE].ok()?;
@@ -464,7 +505,7 @@ fn large_value(alloc: Global) -> Option<(Value, Form)>
         with_unique: false,
     });
     let plan = split(alloc, command, Ticket(0), 1000, 2).ok()?;
-    Some((value, plan.form))
+    Some((value, plan.pending_reply))
 }
 
 /// A hit shares the value of its item: the value is written by one call, beside a few for the text
@@ -473,13 +514,13 @@ fn large_value(alloc: Global) -> Option<(Value, Form)>
 #[test]
 fn a_hit_copies_no_value(rt: HostRuntime) {
     let alloc = rt.alloc();
-    let Ok(mut joiner) = Joiner::new(alloc, 1) else {
+    let Ok(mut reorder_buffer) = ReorderBuffer::new(alloc, 1) else {
         return;
     };
-    let Some((item, form)) = large_value(alloc) else {
+    let Some((item, pending_reply)) = large_value(alloc) else {
         return;
     };
-    open(&rt, &mut joiner, form);
+    open(&rt, &mut reorder_buffer, pending_reply);
     let Ok(value) = item.clone() else {
         panic!(&rt; "the clone of a value takes memory")
     };
@@ -489,7 +530,7 @@ fn a_hit_copies_no_value(rt: HostRuntime) {
         value,
     };
     let found = reply(&rt, 0, 0, Kind::Fetch, found);
-    holds(&rt, takes(&mut joiner, found));
+    holds(&rt, takes(&mut reorder_buffer, found));
     let mut out = WriteTally {
         small: 0,
         large: 0,
@@ -498,8 +539,8 @@ fn a_hit_copies_no_value(rt: HostRuntime) {
     let len = b"VALUE a:key:of:39:bytes:lies:in:its:own:block 0 100000\r\n".len()
         + LARGE
         + b"\r\nEND\r\n".len();
-    equal(&rt, joiner.ready(), len as u64);
-    equal(&rt, joiner.hand(&mut out), Ok(1));
+    equal(&rt, reorder_buffer.ready(), len as u64);
+    equal(&rt, reorder_buffer.hand(&mut out), Ok(1));
     equal(&rt, out.bytes, len as u64);
     equal(&rt, out.large, 1);
     // The header of the value, the end of its block, and the end of the reply.
@@ -509,51 +550,51 @@ fn a_hit_copies_no_value(rt: HostRuntime) {
 #[test]
 fn a_window_of_one_is_full_with_one(rt: HostRuntime) -> Result<(), Fail> {
     let alloc = rt.alloc();
-    let mut joiner = Joiner::new(alloc, 1)?;
-    open_noop(&rt, alloc, &mut joiner, 0)?;
-    is_full(&rt, alloc, &mut joiner, 1)?;
-    hands(&rt, alloc, &mut joiner, 1, b"MN\r\n");
-    open_get(&rt, alloc, &mut joiner, 1, &[b"a"])?;
-    hands(&rt, alloc, &mut joiner, 0, b"");
-    misses(&rt, &mut joiner, 1, 0);
-    hands(&rt, alloc, &mut joiner, 1, b"END\r\n");
+    let mut reorder_buffer = ReorderBuffer::new(alloc, 1)?;
+    open_noop(&rt, alloc, &mut reorder_buffer, 0)?;
+    is_full(&rt, alloc, &mut reorder_buffer, 1)?;
+    hands(&rt, alloc, &mut reorder_buffer, 1, b"MN\r\n");
+    open_get(&rt, alloc, &mut reorder_buffer, 1, &[b"a"])?;
+    hands(&rt, alloc, &mut reorder_buffer, 0, b"");
+    misses(&rt, &mut reorder_buffer, 1, 0);
+    hands(&rt, alloc, &mut reorder_buffer, 1, b"END\r\n");
     Ok(())
 }
 
 #[test]
 fn a_window_of_four_goes_round(rt: HostRuntime) -> Result<(), Fail> {
     let alloc = rt.alloc();
-    let mut joiner = Joiner::new(alloc, 4)?;
-    open_get(&rt, alloc, &mut joiner, 0, &[b"a"])?;
-    open_get(&rt, alloc, &mut joiner, 1, &[b"b"])?;
-    open_noop(&rt, alloc, &mut joiner, 2)?;
-    open_get(&rt, alloc, &mut joiner, 3, &[b"c"])?;
-    is_full(&rt, alloc, &mut joiner, 4)?;
+    let mut reorder_buffer = ReorderBuffer::new(alloc, 4)?;
+    open_get(&rt, alloc, &mut reorder_buffer, 0, &[b"a"])?;
+    open_get(&rt, alloc, &mut reorder_buffer, 1, &[b"b"])?;
+    open_noop(&rt, alloc, &mut reorder_buffer, 2)?;
+    open_get(&rt, alloc, &mut reorder_buffer, 3, &[b"c"])?;
+    is_full(&rt, alloc, &mut reorder_buffer, 4)?;
     // A later, complete reply waits for the first.
-    hits(&rt, alloc, &mut joiner, 1, 0, b"1")?;
-    hands(&rt, alloc, &mut joiner, 0, b"");
-    misses(&rt, &mut joiner, 0, 0);
+    hits(&rt, alloc, &mut reorder_buffer, 1, 0, b"1")?;
+    hands(&rt, alloc, &mut reorder_buffer, 0, b"");
+    misses(&rt, &mut reorder_buffer, 0, 0);
     hands(
         &rt,
         alloc,
-        &mut joiner,
+        &mut reorder_buffer,
         3,
         b"END\r\nVALUE b 0 1\r\n1\r\nEND\r\nMN\r\n",
     );
-    equal(&rt, joiner.waiting(), 1);
-    open_noop(&rt, alloc, &mut joiner, 4)?;
-    open_get(&rt, alloc, &mut joiner, 5, &[b"d"])?;
-    open_noop(&rt, alloc, &mut joiner, 6)?;
-    is_full(&rt, alloc, &mut joiner, 7)?;
-    hits(&rt, alloc, &mut joiner, 5, 0, b"5")?;
-    hits(&rt, alloc, &mut joiner, 3, 0, b"3")?;
+    equal(&rt, reorder_buffer.waiting(), 1);
+    open_noop(&rt, alloc, &mut reorder_buffer, 4)?;
+    open_get(&rt, alloc, &mut reorder_buffer, 5, &[b"d"])?;
+    open_noop(&rt, alloc, &mut reorder_buffer, 6)?;
+    is_full(&rt, alloc, &mut reorder_buffer, 7)?;
+    hits(&rt, alloc, &mut reorder_buffer, 5, 0, b"5")?;
+    hits(&rt, alloc, &mut reorder_buffer, 3, 0, b"3")?;
     hands(
         &rt,
         alloc,
-        &mut joiner,
+        &mut reorder_buffer,
         4,
         b"VALUE c 0 1\r\n3\r\nEND\r\nMN\r\nVALUE d 0 1\r\n5\r\nEND\r\nMN\r\n",
     );
-    equal(&rt, joiner.waiting(), 0);
+    equal(&rt, reorder_buffer.waiting(), 0);
     Ok(())
 }

@@ -9,12 +9,12 @@ mod conn;
 #[cfg(test)]
 mod join;
 #[cfg(test)]
-mod outlet;
-#[cfg(test)]
 mod ring;
+#[cfg(test)]
+mod sink;
 #[cfg(test)]
 mod split;
 #[cfg(test)]
 mod stats;
 #[cfg(test)]
-mod stranger;
+mod unexpected_reply;

@@ -6,7 +6,7 @@ use crate::asserting::{equal, holds};
 use mc_command::Profile;
 use mc_item::{Answer, Kind, Op};
 use mc_reply::Ticket;
-use mc_ring::{Parcel, Reply, RingRefusal, SeatEnds, ShardEnds, beside, lanes};
+use mc_ring::{Reply, Request, RingError, SeatEnds, ShardEnds, beside, channels};
 use mc_sizes::Sizes;
 use mc_split::Piece;
 use std::test::Fail;
@@ -21,11 +21,12 @@ const SIZES: Sizes = Sizes {
     value: 1_048_576,
     line: 65_536,
     window: 256,
+    shutdown: false,
 };
 
 /// A piece of command number `number`.
-fn piece(number: u64) -> Parcel {
-    Parcel::Piece(Piece {
+fn piece(number: u64) -> Request {
+    Request::Piece(Piece {
         ticket: Ticket(number),
         part: 0,
         op: Op::Flush { delay: 0 },
@@ -39,18 +40,18 @@ fn reply(number: u64) -> Reply {
     Reply::new(Ticket(number), 0, Kind::Flush, Answer::Done)
 }
 
-/// The content of a parcel, if there is one: the number of its piece's command, or the end.
-fn content(parcel: &Option<Parcel>) -> Option<Option<u64>> {
-    match parcel {
-        Some(Parcel::Piece(piece)) => Some(Some(piece.ticket.0)),
-        Some(Parcel::End) => Some(None),
+/// The content of a request, if there is one: the number of its piece's command, or the end.
+fn content(request: &Option<Request>) -> Option<Option<u64>> {
+    match request {
+        Some(Request::Piece(piece)) => Some(Some(piece.ticket.0)),
+        Some(Request::End) => Some(None),
         None => None,
     }
 }
 
-/// The content of a parcel, which is dropped.
-fn parcel_of(parcel: Option<Parcel>) -> Option<Option<u64>> {
-    content(&parcel)
+/// The content of a request, which is dropped.
+fn request_of(request: Option<Request>) -> Option<Option<u64>> {
+    content(&request)
 }
 
 /// The number of a reply's command, if there is a reply.
@@ -67,21 +68,21 @@ fn reply_of(reply: Option<Reply>) -> Option<u64> {
 }
 
 #[test]
-fn a_ring_of_one_holds_one_parcel(rt: HostRuntime) -> Result<(), Fail> {
-    let (mut seats, mut shards) = lanes(rt.alloc(), SIZES)?;
+fn a_ring_of_one_holds_one_request(rt: HostRuntime) -> Result<(), Fail> {
+    let (mut seats, mut shards) = channels(rt.alloc(), SIZES)?;
     let (seat, shard) = (&mut seats[1], &mut shards[2]);
-    equal(&rt, parcel_of(shard.take(1)), None);
-    equal(&rt, parcel_of(seat.send(2, piece(7)).err()), None);
-    equal(&rt, parcel_of(seat.send(2, piece(8)).err()), Some(Some(8)));
-    equal(&rt, parcel_of(shard.take(1)), Some(Some(7)));
-    equal(&rt, parcel_of(seat.send(2, Parcel::End).err()), None);
-    equal(&rt, parcel_of(shard.take(1)), Some(None));
+    equal(&rt, request_of(shard.take(1)), None);
+    equal(&rt, request_of(seat.send(2, piece(7)).err()), None);
+    equal(&rt, request_of(seat.send(2, piece(8)).err()), Some(Some(8)));
+    equal(&rt, request_of(shard.take(1)), Some(Some(7)));
+    equal(&rt, request_of(seat.send(2, Request::End).err()), None);
+    equal(&rt, request_of(shard.take(1)), Some(None));
     Ok(())
 }
 
 #[test]
 fn a_ring_of_one_holds_one_reply(rt: HostRuntime) -> Result<(), Fail> {
-    let (mut seats, mut shards) = lanes(rt.alloc(), SIZES)?;
+    let (mut seats, mut shards) = channels(rt.alloc(), SIZES)?;
     let (seat, shard) = (&mut seats[1], &mut shards[2]);
     equal(&rt, reply_of(seat.receive(2)), None);
     equal(&rt, reply_of(shard.give(1, reply(7)).err()), None);
@@ -92,14 +93,14 @@ fn a_ring_of_one_holds_one_reply(rt: HostRuntime) -> Result<(), Fail> {
 }
 
 #[test]
-fn what_waits_is_seen_on_its_lane_alone(rt: HostRuntime) -> Result<(), Fail> {
-    let (mut seats, mut shards) = lanes(rt.alloc(), SIZES)?;
+fn what_waits_is_seen_on_its_channel_alone(rt: HostRuntime) -> Result<(), Fail> {
+    let (mut seats, mut shards) = channels(rt.alloc(), SIZES)?;
     let (seat, shard) = (&mut seats[1], &mut shards[2]);
     equal(&rt, (seat.number(), seat.shards()), (1, 3));
     equal(&rt, (shard.number(), shard.seats()), (2, 2));
-    equal(&rt, parcel_of(seat.send(2, piece(7)).err()), None);
-    holds(&rt, shard.has_parcel(1));
-    holds(&rt, !shard.has_parcel(0));
+    equal(&rt, request_of(seat.send(2, piece(7)).err()), None);
+    holds(&rt, shard.has_request(1));
+    holds(&rt, !shard.has_request(0));
     equal(&rt, reply_of(shard.give(1, reply(7)).err()), None);
     holds(&rt, seat.has_reply(2));
     holds(&rt, !seat.has_reply(0));
@@ -108,26 +109,26 @@ fn what_waits_is_seen_on_its_lane_alone(rt: HostRuntime) -> Result<(), Fail> {
 
 /// Sends a piece of this command to the first shard. Returns whether it was sent.
 fn sends(seat: &mut SeatEnds, number: u64) -> bool
-    requires { 0 < length seat.old.lanes }
+    requires { 0 < length seat.old.channels }
     ensures { AreSameEnds seat.old seat.new }
 {
-    parcel_of(seat.send(0, piece(number)).err()).is_none()
+    request_of(seat.send(0, piece(number)).err()).is_none()
 }
 
 /// Sends the reply to this piece to the first slot. Returns whether it was sent.
 fn gives(shard: &mut ShardEnds, number: u64) -> bool
-    requires { 0 < length shard.old.lanes }
+    requires { 0 < length shard.old.channels }
     ensures { AreSameEnds shard.old shard.new }
 {
     reply_of(shard.give(0, reply(number)).err()).is_none()
 }
 
-/// Takes the first slot's next parcel, if there is one.
+/// Takes the first slot's next request, if there is one.
 fn takes(shard: &mut ShardEnds) -> Option<Option<u64>>
-    requires { 0 < length shard.old.lanes }
+    requires { 0 < length shard.old.channels }
     ensures { AreSameEnds shard.old shard.new }
 {
-    parcel_of(shard.take(0))
+    request_of(shard.take(0))
 }
 
 #[test]
@@ -138,7 +139,7 @@ fn what_waits_is_counted(rt: HostRuntime) -> Result<(), Fail> {
         ring: 3,
         ..SIZES
     };
-    let (mut seats, mut shards) = lanes(rt.alloc(), sizes)?;
+    let (mut seats, mut shards) = channels(rt.alloc(), sizes)?;
     let (seat, shard) = (&mut seats[0], &mut shards[0]);
     equal(&rt, beside(seat, shard), (0, 0));
     holds(&rt, sends(seat, 0));
@@ -170,11 +171,11 @@ fn numbers_out_of_range_are_refused(rt: HostRuntime) {
             ring: *ring,
             ..SIZES
         };
-        let refusal = lanes(rt.alloc(), sizes).err();
+        let refusal = channels(rt.alloc(), sizes).err();
         let want = if *are_made {
             None
         } else {
-            Some(RingRefusal::Size)
+            Some(RingError::Size)
         };
         equal(&rt, refusal, want);
     }
@@ -189,5 +190,5 @@ fn a_lawful_answer_makes_a_reply(rt: HostRuntime) {
     equal(&rt, reply.part, 1);
     equal(&rt, reply.kind, Kind::Flush);
     holds(&rt, matches!(&reply.answer, Answer::Done));
-    holds(&rt, matches!(&Parcel::End, Parcel::End));
+    holds(&rt, matches!(&Request::End, Request::End));
 }

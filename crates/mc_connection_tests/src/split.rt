@@ -3,11 +3,11 @@ ghost use Rattle.std.specs.Prelude.{◌<◌};
 
 use crate::asserting::{equal, holds};
 use mc_command::{
-    Block, Command, Keys, MetaFetch, MetaFlags, MetaGet, Opaque, Profile, Refusal, Retrieval,
+    Block, Command, CommandError, Keys, MetaFetch, MetaFlags, MetaGet, Opaque, Profile, Retrieval,
     ReturnFlag, Returned, Storage, StoreMode, StoreRequest,
 };
 use mc_item::{Answer, Kind, NoMemory, Op};
-use mc_reply::{Form, Shape, Ticket};
+use mc_reply::{PendingReply, ReplyKind, Ticket};
 use mc_split::{Piece, Plan, split};
 use mc_wire::{Key, words};
 use std::alloc::Global;
@@ -30,7 +30,7 @@ const OTHER_KEYS: &[u8] = b"\
     a:key:of:39:bytes:lies:in:its:own:block \
     c:key:of:39:bytes:lies:in:its:own:block";
 
-fn get(alloc: Global) -> Result<Command, Refusal> {
+fn get(alloc: Global) -> Result<Command, CommandError> {
     Ok(Command::Get(Retrieval {
         keys: Keys::read(alloc, KEY_A, words(OTHER_KEYS))?,
         touch: Some(10),
@@ -38,7 +38,7 @@ fn get(alloc: Global) -> Result<Command, Refusal> {
     }))
 }
 
-fn set(alloc: Global) -> Result<Command, Refusal> {
+fn set(alloc: Global) -> Result<Command, CommandError> {
     Ok(Command::Store(Storage {
         asked: StoreRequest {
             key: Key::from_word(alloc, KEY_B)?,
@@ -54,7 +54,7 @@ fn set(alloc: Global) -> Result<Command, Refusal> {
     }))
 }
 
-fn meta_get(alloc: Global, shows_key: bool) -> Result<Command, Refusal> {
+fn meta_get(alloc: Global, shows_key: bool) -> Result<Command, CommandError> {
     let mut returned = Returned::new();
     if shows_key {
         returned.push(ReturnFlag::Key);
@@ -100,36 +100,42 @@ fn planned(alloc: Global, command: Command, shards: usize) -> Result<PlanOf, NoM
 }
 
 /// Asserts the shards of a plan's pieces, that the pieces are numbered, and that each has a slot.
-fn has_shards(rt: &impl Abort, plan: &Plan, shards: &[usize]) {
-    equal(rt, plan.form.ticket, TICKET);
-    equal(rt, plan.form.slots.answers().len(), shards.len());
-    equal(rt, plan.pieces.len(), shards.len());
-    for (part, (shard, piece)) in plan.pieces.iter().enumerate() {
-        equal(rt, (part, Some(shard)), (part, shards.get(part)));
-        equal(rt, piece.part, part);
-        equal(rt, piece.ticket, TICKET);
-        equal(rt, piece.moment, MOMENT);
-        equal(rt, piece.op.kind(), plan.form.kind);
+/// Takes the pieces out, and returns the last one.
+fn has_shards(rt: &impl Abort, plan: &mut Plan, shards: &[usize]) -> Option<(usize, Piece)> {
+    equal(rt, plan.pending_reply.ticket, TICKET);
+    equal(rt, plan.pending_reply.slots.answers().len(), shards.len());
+    let mut last = None;
+    for (part, shard) in shards.iter().enumerate() {
+        holds(rt, !plan.pieces.is_empty());
+        if let Some((found, piece)) = plan.pieces.pop() {
+            equal(rt, (part, found), (piece.part, *shard));
+            equal(rt, piece.ticket, TICKET);
+            equal(rt, piece.moment, MOMENT);
+            equal(rt, piece.op.kind(), plan.pending_reply.kind);
+            last = Some((found, piece));
+        }
     }
+    holds(rt, plan.pieces.is_empty() && plan.pieces.pop().is_none());
+    last
 }
 
 #[test]
 fn a_get_asks_its_keys_in_order(rt: HostRuntime) -> Result<(), Fail> {
     let alloc = rt.alloc();
     let mut get = planned(alloc, get(alloc)?, 2)?;
-    has_shards(&rt, &get.plan, &[0, 1, 0, 0]);
-    fills(&rt, &mut get.plan.form, &[2, 0, 3, 1]);
+    has_shards(&rt, &mut get.plan, &[0, 1, 0, 0]);
+    fills(&rt, &mut get.plan.pending_reply, &[2, 0, 3, 1]);
     Ok(())
 }
 
 /// Fills the slots in this order, and asserts that the last one completes the form.
-fn fills(rt: &impl Abort, form: &mut Form, parts: &[usize]) {
+fn fills(rt: &impl Abort, pending_reply: &mut PendingReply, parts: &[usize]) {
     for part in parts {
-        holds(rt, !form.slots.is_filled());
-        holds(rt, *part < form.slots.answers().len());
-        form.fill(*part, Answer::Miss);
+        holds(rt, !pending_reply.slots.is_filled());
+        holds(rt, *part < pending_reply.slots.answers().len());
+        pending_reply.fill(*part, Answer::Miss);
     }
-    holds(rt, form.slots.is_filled());
+    holds(rt, pending_reply.slots.is_filled());
 }
 
 /// Whether a piece, with its shard, stores three bytes with flags 5.
@@ -147,13 +153,16 @@ fn stores_three(piece: Option<&(usize, Piece)>) -> bool {
 fn one_key_is_one_piece(rt: HostRuntime) -> Result<(), Fail> {
     let alloc = rt.alloc();
     let mut set = planned(alloc, set(alloc)?, 2)?;
-    has_shards(&rt, &set.plan, &[1]);
+    let piece = has_shards(&rt, &mut set.plan, &[1]);
     holds(
         &rt,
-        matches!(&set.plan.form.shape, Shape::Line { noreply: true, .. }),
+        matches!(
+            &set.plan.pending_reply.reply_kind,
+            ReplyKind::Line { noreply: true, .. }
+        ),
     );
-    holds(&rt, stores_three(set.plan.pieces.front()));
-    fills(&rt, &mut set.plan.form, &[0]);
+    holds(&rt, stores_three(piece.as_ref()));
+    fills(&rt, &mut set.plan.pending_reply, &[0]);
     Ok(())
 }
 
@@ -164,9 +173,9 @@ fn a_flush_asks_every_shard(rt: HostRuntime) -> Result<(), Fail> {
         delay: -1,
         noreply: false,
     };
-    let flush = planned(alloc, flush, 3)?;
-    has_shards(&rt, &flush.plan, &[0, 1, 2]);
-    equal(&rt, flush.plan.form.kind, Kind::Flush);
+    let mut flush = planned(alloc, flush, 3)?;
+    has_shards(&rt, &mut flush.plan, &[0, 1, 2]);
+    equal(&rt, flush.plan.pending_reply.kind, Kind::Flush);
     Ok(())
 }
 
@@ -174,19 +183,19 @@ fn a_flush_asks_every_shard(rt: HostRuntime) -> Result<(), Fail> {
 fn some_commands_ask_no_shard(rt: HostRuntime) -> Result<(), Fail> {
     let alloc = rt.alloc();
     for noreply in [false, true] {
-        let verbosity = planned(alloc, Command::Verbosity { noreply }, 2)?;
-        has_shards(&rt, &verbosity.plan, &[]);
-        holds(&rt, verbosity.plan.form.slots.is_filled());
+        let mut verbosity = planned(alloc, Command::Verbosity { noreply }, 2)?;
+        has_shards(&rt, &mut verbosity.plan, &[]);
+        holds(&rt, verbosity.plan.pending_reply.slots.is_filled());
     }
-    let noop = planned(alloc, Command::MetaNoop, 2)?;
-    has_shards(&rt, &noop.plan, &[]);
+    let mut noop = planned(alloc, Command::MetaNoop, 2)?;
+    has_shards(&rt, &mut noop.plan, &[]);
     Ok(())
 }
 
 /// Whether the reply to an `mg` returns its value, and whether it then keeps its key.
-fn keeps_key(shape: &Shape) -> Option<bool> {
-    match shape {
-        Shape::Meta { key, value, .. } if *value => Some(key.is_some()),
+fn keeps_key(reply_kind: &ReplyKind) -> Option<bool> {
+    match reply_kind {
+        ReplyKind::Meta { key, value, .. } if *value => Some(key.is_some()),
         _ => None,
     }
 }
@@ -195,9 +204,13 @@ fn keeps_key(shape: &Shape) -> Option<bool> {
 fn a_meta_reply_keeps_the_key_where_it_shows_it(rt: HostRuntime) -> Result<(), Fail> {
     let alloc = rt.alloc();
     for shows_key in [false, true] {
-        let get = planned(alloc, meta_get(alloc, shows_key)?, 2)?;
-        has_shards(&rt, &get.plan, &[0]);
-        equal(&rt, keeps_key(&get.plan.form.shape), Some(shows_key));
+        let mut get = planned(alloc, meta_get(alloc, shows_key)?, 2)?;
+        has_shards(&rt, &mut get.plan, &[0]);
+        equal(
+            &rt,
+            keeps_key(&get.plan.pending_reply.reply_kind),
+            Some(shows_key),
+        );
     }
     Ok(())
 }
@@ -218,11 +231,15 @@ fn longest_get(alloc: Global) -> Result<Command, Fail> {
 #[test]
 fn a_get_of_32766_keys(rt: HostRuntime) -> Result<(), Fail> {
     let alloc = rt.alloc();
-    let get = planned(alloc, longest_get(alloc)?, 2)?;
-    equal(&rt, get.plan.pieces.len(), 32_766);
-    equal(&rt, get.plan.form.slots.answers().len(), 32_766);
-    let last = match get.plan.pieces.back() {
-        Some((shard, piece)) => Some((*shard, piece.part)),
+    let mut get = planned(alloc, longest_get(alloc)?, 2)?;
+    equal(&rt, get.plan.pending_reply.slots.answers().len(), 32_766);
+    let mut last = None;
+    for _ in 0..32_766u32 {
+        last = get.plan.pieces.pop();
+    }
+    holds(&rt, get.plan.pieces.is_empty());
+    let last = match last {
+        Some((shard, piece)) => Some((shard, piece.part)),
         None => None,
     };
     equal(&rt, last, Some((0, 32_765)));
@@ -233,16 +250,16 @@ fn a_get_of_32766_keys(rt: HostRuntime) -> Result<(), Fail> {
 fn is_split(
     rt: &impl Abort,
     alloc: Global,
-    command: Result<Command, Refusal>,
+    command: Result<Command, CommandError>,
     shards: &[usize],
 ) -> bool {
     let Ok(command) = command else {
         return false;
     };
-    let Ok(planned) = planned(alloc, command, 2) else {
+    let Ok(mut planned) = planned(alloc, command, 2) else {
         return false;
     };
-    has_shards(rt, &planned.plan, shards);
+    has_shards(rt, &mut planned.plan, shards);
     true
 }
 

@@ -2,12 +2,12 @@
 ghost use Rattle.std.specs.Prelude.{◌≡◌, IfOk};
 
 use crate::asserting::{equal, holds};
-use crate::outlet::outlet;
-use crate::stranger::stranger_of;
+use crate::sink::sink;
+use crate::unexpected_reply::unexpected_reply_of;
 use mc_command::{Command, StatsRequest};
-use mc_item::{Answer, BoxedStats, CountedAs, Kind, Stats, Status, Tally};
-use mc_join::Joiner;
-use mc_reply::{Form, Ticket};
+use mc_item::{Answer, BoxedStats, Kind, OpStats, StatClass, Stats, Status};
+use mc_join::ReorderBuffer;
+use mc_reply::{PendingReply, Ticket};
 use mc_ring::Reply;
 use mc_split::split;
 use std::alloc::Global;
@@ -42,6 +42,7 @@ const STATS: &[u8] = b"\
     STAT cas_badval 0\r\n\
     STAT touch_hits 0\r\n\
     STAT touch_misses 0\r\n\
+    STAT store_too_large 0\r\n\
     STAT bytes_read 0\r\n\
     STAT bytes_written 0\r\n\
     STAT limit_maxbytes 3145728\r\n\
@@ -49,28 +50,30 @@ const STATS: &[u8] = b"\
     STAT bytes 192\r\n\
     STAT curr_items 3\r\n\
     STAT total_items 3\r\n\
+    STAT expired_unfetched 0\r\n\
     STAT evictions 3\r\n\
+    STAT reclaimed 0\r\n\
     END\r\n";
 
 /// The form of `stats`.
-fn stats(alloc: Global) -> Result<Form, Fail>
-    ensures { IfOk result (λ form. form.ticket.0 ≡ 0) }
+fn stats(alloc: Global) -> Result<PendingReply, Fail>
+    ensures { IfOk result (λ pending_reply. pending_reply.ticket.0 ≡ 0) }
 {
     let asked = Command::Stats(StatsRequest::General);
-    Ok(split(alloc, asked, Ticket(0), 1000, 3)?.form)
+    Ok(split(alloc, asked, Ticket(0), 1000, 3)?.pending_reply)
 }
 
 /// The statistics of a shard: as many hits, misses and stores with a unique as its number.
 fn counts(alloc: Global, shard: usize) -> Result<Answer, Fail> {
-    let mut tally = Tally::new();
+    let mut op_stats = OpStats::new();
     for _ in 0..shard {
-        tally.note(CountedAs::Get, Status::Hit);
-        tally.note(CountedAs::Get, Status::Miss);
-        tally.note(CountedAs::Cas, Status::Hit);
+        op_stats.note(StatClass::Get, Status::Hit);
+        op_stats.note(StatClass::Get, Status::Miss);
+        op_stats.note(StatClass::Cas, Status::Hit);
     }
     let number = shard as u64;
     let stats = Stats {
-        tally,
+        op_stats,
         evicted: number,
         items: number,
         bytes: number.wrapping_mul(64),
@@ -88,15 +91,15 @@ fn reply(rt: &impl Abort, shard: usize, answer: Answer) -> Reply {
 #[test]
 fn the_shards_are_counted_together(rt: HostRuntime) -> Result<(), Fail> {
     let alloc = rt.alloc();
-    let mut joiner = Joiner::new(alloc, 1)?;
-    holds(&rt, joiner.open(stats(alloc)?).is_ok());
+    let mut reorder_buffer = ReorderBuffer::new(alloc, 1)?;
+    holds(&rt, reorder_buffer.open(stats(alloc)?).is_ok());
     for shard in [2, 0, 1] {
-        equal(&rt, joiner.ready(), 0);
+        equal(&rt, reorder_buffer.ready(), 0);
         let told = reply(&rt, shard, counts(alloc, shard)?);
-        equal(&rt, stranger_of(joiner.accept(told)), None);
+        equal(&rt, unexpected_reply_of(reorder_buffer.accept(told)), None);
     }
-    let mut out = outlet(alloc, usize::MAX);
-    equal(&rt, joiner.hand(&mut out), Ok(1));
+    let mut out = sink(alloc, usize::MAX);
+    equal(&rt, reorder_buffer.hand(&mut out), Ok(1));
     equal(&rt, out.taken.as_slice(), STATS);
     Ok(())
 }

@@ -1,12 +1,15 @@
 -- The first bytes of connections that speak other protocols.
-use Rattle.std.specs.Prelude.{ℕ, ◌≡◌, ◌==◌, ◌&&◌, ◌||◌, ⊤, Bool, List, [], ◌∷◌, Option, Some, None, codes, length, nat_eq, take, if◌then◌else◌}
+use Rattle.std.specs.Prelude.{ℕ, ◌≡◌, ◌==◌, ◌&&◌, ◌||◌, ⊤, Bool, List, [], ◌∷◌, Option, Some, None, codes, length}
+use Rattle.std.specs.Prelude.{nat_eq, take, if◌then◌else◌}
 use Rattle.std.specs.List.{list_any, starts_with}
 use Rattle.mc_watch.specs.declared.event.Manner.{Manner}
 use Rattle.mc_watch.specs.declared.event.Manner.TheVariants.{Binary, Http, Tls}
 
 -- HTTP requests: a method, a space and the start of a path (RFC 9112, section 3)
 abbrev pub http_begins : List (List ℕ)
-http_begins = codes "GET /" ∷ codes "HEAD /" ∷ codes "POST /" ∷ codes "PUT /" ∷ codes "DELETE /" ∷ codes "OPTIONS /" ∷ codes "PATCH /" ∷ codes "TRACE /" ∷ []
+http_begins =
+    codes "GET /" ∷ codes "HEAD /" ∷ codes "POST /" ∷ codes "PUT /" ∷ codes "DELETE /" ∷ codes "OPTIONS /" ∷ codes
+    "PATCH /" ∷ codes "TRACE /" ∷ []
 
 -- a request of memcached's binary protocol: its magic byte
 abbrev pub binary_begin : List ℕ
@@ -41,5 +44,6 @@ ShowsNext (Some bytes) room count = take count room ≡ take (length room) bytes
 -- A read returns no byte exactly if the first bytes are another protocol's, and detection is on, or if
 -- nothing is left.
 abbrev pub EndsWhere : Bool → Option (List ℕ) → ℕ → Type 0
-EndsWhere wary None count = ⊤
-EndsWhere wary (Some bytes) count = (count == 0) ≡ ((wary && is_foreign (take first_bytes bytes)) || length bytes == 0)
+EndsWhere sniff_protocol None count = ⊤
+EndsWhere sniff_protocol (Some bytes) count =
+    (count == 0) ≡ ((sniff_protocol && is_foreign (take first_bytes bytes)) || length bytes == 0)

@@ -1,11 +1,12 @@
--- The history of a connection over a stream, and of the door that accepts connections.
-use Rattle.std.specs.Prelude.{ℕ, ◌≡◌, ◌+◌, Bool, false, List, [], ◌∷◌, Option, Some, None, Result, Ok, Err, length, map, take}
-use Rattle.mc_wire.specs.Outlet.{Listed, Read, Sight, Trace, Untold}
+-- The history of a connection over a stream, and of the source that accepts connections.
+use Rattle.std.specs.Prelude.{ℕ, ◌≡◌, ◌+◌, Bool, false, List, [], ◌∷◌, Option, Some, None, Result, Ok, Err, length, map}
+use Rattle.std.specs.Prelude.{take}
+use Rattle.mc_wire.specs.Sink.{Listed, Read, Sight, Trace, Untold}
 use Rattle.mc_seat.specs.Explains.{LineTold}
-use Rattle.mc_doors.specs.Told.{DoorTold, TellsLines, TellsNothing}
+use Rattle.mc_doors.specs.Told.{SourceTold, TellsLines, TellsNothing}
 use Rattle.mc_doors.specs.declared.stream.Stream.{Ghosts}
-use Rattle.mc_doors.specs.declared.stream_door.ClosedConnection.{ClosedConnection}
-use Rattle.mc_doors.specs.declared.tcp_line.TcpLine.{TcpLine}
+use Rattle.mc_doors.specs.declared.stream_source.ClosedConnection.{ClosedConnection}
+use Rattle.mc_doors.specs.declared.tcp_connection.TcpConnection.{TcpConnection}
 use Rattle.std.specs.declared.snapshot.Snapshot.{Snapshot}
 use Rattle.std.specs.Io.KnownBytes.{Appends, Consumes, Keeps}
 
@@ -26,14 +27,23 @@ note_of remaining contents = record { given = trace_of remaining; taken = trace_
 -- a connection over a new stream, with these bytes to read and those written, if they are known: nothing was
 -- read or written by the connection
 abbrev pub new_line : Option (List ℕ) → Option (List ℕ) → Sight
-new_line remaining contents = record { given = Listed []; ended = false; reads = Some (note_of remaining contents ∷ []); taken = Listed []; failed = false }
+new_line remaining contents =
+    record {
+      given = Listed [];
+      ended = false;
+      reads = Some (note_of remaining contents ∷ []);
+      taken = Listed [];
+      failed = false;
+    }
 
 -- the history of a connection
-abbrev pub sight_of : {S : Type 0} {g : Ghosts S} → TcpLine S g → Sight
+abbrev pub sight_of : {S : Type 0} {g : Ghosts S} → TcpConnection S g → Sight
 sight_of {g = g} line = record {
   given = Listed line.tap.given;
   ended = line.ended;
-  reads = Some (note_of (g.remaining line.tap.begin.value) (g.contents line.tap.begin.value) ∷ map read_of line.reads.items);
+  reads =
+      Some (note_of (g.remaining line.tap.begin.value) (g.contents line.tap.begin.value) ∷ map read_of
+      line.reads.items);
   taken = Listed line.tap.taken;
   failed = line.failed;
 }
@@ -70,23 +80,27 @@ abbrev pub gone_lines : {S : Type 0} {g : Ghosts S} → List (ClosedConnection S
 gone_lines gone = map (λ one. gone_line one.0) gone
 
 -- the connection being served, in the state in which it was accepted
-abbrev pub out_line : {S : Type 0} {g : Ghosts S} → Option (Snapshot (TcpLine S g)) → Option Sight
+abbrev pub out_line : {S : Type 0} {g : Ghosts S} → Option (Snapshot (TcpConnection S g)) → Option Sight
 out_line None = None
 out_line (Some begin) = Some (sight_of begin.value)
 
 -- the streams to come, if they are known, as connections
-abbrev pub new_lines : {S : Type 0} → (S → Option (List ℕ)) → (S → Option (List ℕ)) → Option (List S) → Option (List Sight)
+abbrev pub new_lines : {S : Type 0} → (S → Option (List ℕ)) → (S → Option (List ℕ)) → Option (List S)
+    → Option (List Sight)
 new_lines remaining contents None = None
-new_lines remaining contents (Some streams) = Some (map (λ stream. new_line (remaining stream) (contents stream)) streams)
+new_lines remaining contents (Some streams) =
+    Some (map (λ stream. new_line (remaining stream) (contents stream)) streams)
 
--- a door that has accepted nothing yet
-abbrev pub new_door : {S : Type 0} → (S → Option (List ℕ)) → (S → Option (List ℕ)) → Option (List S) → DoorTold
-new_door remaining contents coming = TellsLines (new_lines remaining contents coming) None [] false
+-- a source that has accepted nothing yet
+abbrev pub new_source : {S : Type 0} → (S → Option (List ℕ)) → (S → Option (List ℕ)) → Option (List S) → SourceTold
+new_source remaining contents coming = TellsLines (new_lines remaining contents coming) None [] false
 
--- the history of a slot's door: the streams to come, if they are known, the connection being served, the
+-- the history of a slot's source: the streams to come, if they are known, the connection being served, the
 -- closed ones, and whether it returned that no more will come
-abbrev pub told_door : {S : Type 0} {g : Ghosts S} → Option (List S) → Option (Snapshot (TcpLine S g)) → List (ClosedConnection S g × Unit {0}) → Bool → DoorTold
-told_door {g = g} coming out gone over = TellsLines (new_lines g.remaining g.contents coming) (out_line out) (gone_lines gone) over
+abbrev pub told_source : {S : Type 0} {g : Ghosts S} → Option (List S) → Option (Snapshot (TcpConnection S g))
+    → List (ClosedConnection S g × Unit {0}) → Bool → SourceTold
+told_source {g = g} coming out gone over =
+    TellsLines (new_lines g.remaining g.contents coming) (out_line out) (gone_lines gone) over
 
 -- The stream of this connection, which was in this state when it was accepted, was read for exactly the bytes
 -- of the connection's input. It took exactly the connection's output, until the connection ended.
@@ -94,8 +108,8 @@ pub record IsServed {S : Type 0} {g : Ghosts S} (stream : S) (one : ClosedConnec
   pub gave : Consumes (g.remaining stream) (g.remaining one.line.value.tap.stream) one.line.value.tap.given
   pub took : Appends (g.contents stream) (g.contents one.line.value.tap.stream) one.line.value.tap.taken
 
--- the number of lines returned to the doors, all together
-abbrev pub gone_count : List DoorTold → ℕ
+-- the number of lines returned to the sources, all together
+abbrev pub gone_count : List SourceTold → ℕ
 gone_count [] = 0
-gone_count (TellsNothing ∷ doors) = gone_count doors
-gone_count (TellsLines coming out back over ∷ doors) = length back + gone_count doors
+gone_count (TellsNothing ∷ sources) = gone_count sources
+gone_count (TellsLines coming out back over ∷ sources) = length back + gone_count sources

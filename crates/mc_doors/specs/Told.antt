@@ -1,15 +1,15 @@
--- The history of a door: the lines that it accepts and takes back.
+-- The history of a source: the lines that it accepts and takes back.
 use Rattle.std.specs.Prelude.{ℕ, ◌≡◌, Bool, true, List, [], ◌∷◌, ◌++◌, Option, Some, None, map}
-use Rattle.mc_wire.specs.Outlet.{Sight}
+use Rattle.mc_wire.specs.Sink.{Sight}
 use Rattle.mc_seat.specs.Explains.{LineTold}
-use Rattle.mc_doors.specs.declared.door.Arrival.{Arrival}
-use Rattle.mc_doors.specs.declared.door.Arrival.TheVariants as arrival
+use Rattle.mc_doors.specs.declared.connection_source.Accept.{Accept}
+use Rattle.mc_doors.specs.declared.connection_source.Accept.TheVariants as arrival
 
--- the history of a door: unknown; or the lines to come, if they are known, the one being served, the returned
+-- the history of a source: unknown; or the lines to come, if they are known, the one being served, the returned
 -- ones in order, and whether it returned that no more will come
-pub data DoorTold : Type 0 where
-  TellsNothing : DoorTold
-  TellsLines : Option (List Sight) → Option Sight → List LineTold → Bool → DoorTold
+pub data SourceTold : Type 0 where
+  TellsNothing : SourceTold
+  TellsLines : Option (List Sight) → Option Sight → List LineTold → Bool → SourceTold
 
 -- the lines to come after the next one
 abbrev pub later : Option (List Sight) → Option (List Sight)
@@ -18,41 +18,42 @@ later (Some []) = Some []
 later (Some (line ∷ lines)) = Some lines
 
 -- This line is the next one to come, if that is known.
-abbrev pub IsNext : Sight → DoorTold → Type 0
+abbrev pub IsNext : Sight → SourceTold → Type 0
 IsNext line TellsNothing = Unit {0}
 IsNext line (TellsLines None out back over) = Unit {0}
 IsNext line (TellsLines (Some []) out back over) = ⊥
 IsNext line (TellsLines (Some (next ∷ lines)) out back over) = next ≡ line
 
 -- a line was accepted
-abbrev pub let_in : Sight → DoorTold → DoorTold
+abbrev pub let_in : Sight → SourceTold → SourceTold
 let_in line TellsNothing = TellsNothing
 let_in line (TellsLines coming out back over) = TellsLines (later coming) (Some line) back over
 
 -- the line being served was returned
-abbrev pub took_back : Sight → ℕ → Bool → DoorTold → DoorTold
+abbrev pub took_back : Sight → ℕ → Bool → SourceTold → SourceTold
 took_back now commands broke TellsNothing = TellsNothing
 took_back now commands broke (TellsLines coming None back over) = TellsLines coming None back over
-took_back now commands broke (TellsLines coming (Some begin) back over) = TellsLines coming None (back ++ record { begin = begin; now = now; commands = commands; broke = broke } ∷ []) over
+took_back now commands broke (TellsLines coming (Some begin) back over) =
+    TellsLines coming None (back ++ record { begin = begin; now = now; commands = commands; broke = broke } ∷ []) over
 
 -- it returned that no more will come
-abbrev pub closed : DoorTold → DoorTold
+abbrev pub closed : SourceTold → SourceTold
 closed TellsNothing = TellsNothing
 closed (TellsLines coming out back over) = TellsLines coming out back true
 
 -- No line is being served.
-abbrev pub IsFree : DoorTold → Type 0
+abbrev pub IsFree : SourceTold → Type 0
 IsFree TellsNothing = Unit {0}
 IsFree (TellsLines coming out back over) = out ≡ None
 
 -- No further line comes, if that is known.
-abbrev pub IsDone : DoorTold → Type 0
+abbrev pub IsDone : SourceTold → Type 0
 IsDone TellsNothing = Unit {0}
 IsDone (TellsLines None out back over) = Unit {0}
 IsDone (TellsLines (Some lines) out back over) = lines ≡ []
 
--- The result of `accept`, and the history of the door then.
-abbrev pub Arrives : {L : Type 0} → (L → Sight) → Arrival L → DoorTold → DoorTold → Type 0
+-- The result of `accept`, and the history of the source then.
+abbrev pub Arrives : {L : Type 0} → (L → Sight) → Accept L → SourceTold → SourceTold → Type 0
 Arrives sight (arrival.Came line) old new = IsNext (sight line) old × (new ≡ let_in (sight line) old)
 Arrives sight arrival.NotYet old new = new ≡ old
 Arrives sight arrival.Over old new = (new ≡ closed old) × IsDone old
@@ -63,6 +64,8 @@ Comes None lines after = after ≡ None
 Comes (Some before) lines after = (left : List Sight) × (before ≡ lines ++ left) × (after ≡ Some left)
 
 -- Exactly these lines were accepted and returned.
-abbrev pub Passes : DoorTold → List LineTold → DoorTold → Type 0
+abbrev pub Passes : SourceTold → List LineTold → SourceTold → Type 0
 Passes TellsNothing lines after = after ≡ TellsNothing
-Passes (TellsLines coming out back over) lines after = (rest : Option (List Sight)) × Comes coming (map (λ line. line.begin) lines) rest × (after ≡ TellsLines rest out (back ++ lines) over)
+Passes (TellsLines coming out back over) lines after =
+    (rest : Option (List Sight)) × Comes coming (map (λ line. line.begin) lines) rest
+    × (after ≡ TellsLines rest out (back ++ lines) over)

@@ -2,8 +2,8 @@
 ghost use Rattle.std.specs.Prelude.{◌≡◌, None};
 ghost use Rattle.mc_doors.specs.Arrivals.{StreamArrives};
 
-use crate::door::Arrival;
-use crate::entrance::{NewConnection, Way};
+use crate::acceptor::{Handoff, NewConnection};
+use crate::connection_source::Accept;
 use crate::socket::Socket;
 use crate::stream::Stream;
 use mc_watch::Meter;
@@ -17,7 +17,7 @@ pub struct NewStream<S> {
     pub is_polled: bool,
 }
 
-/// The source of one slot's streams, one at a time.
+/// The source of one slot's streams, one at a time. See docs/DECISIONS.md, N14.
 pub trait Arrivals {
     ghost use Rattle.std.specs.Prelude.{List, Option};
 
@@ -28,7 +28,7 @@ pub trait Arrivals {
     ghost coming: { Self → Option (List Self.Stream) };
 
     /// Returns the next stream, if there is one. Never blocks.
-    fn next(&mut self) -> Arrival<NewStream<Self::Stream>>
+    fn next(&mut self) -> Accept<NewStream<Self::Stream>>
         ensures { StreamArrives result (coming self.old) (coming self.new) };
 
     /// Records the end of the last stream's connection: the number of commands, and whether it
@@ -45,26 +45,26 @@ pub trait Arrivals {
 
 /// The accepting thread hands each connection to a free slot. Contracts don't know which
 /// connections come.
-impl Arrivals for Way {
+impl Arrivals for Handoff {
     type Stream = Socket;
 
     ghost coming = { λ _. None };
 
-    fn next(&mut self) -> Arrival<NewStream<Socket>> {
+    fn next(&mut self) -> Accept<NewStream<Socket>> {
         // Read first: a connection that was handed over before the end is then found below.
-        let is_last = self.bell.is_over();
+        let is_last = self.handle.is_over();
         if let Some(new) = self.take() {
-            return Arrival::Came(new);
+            return Accept::Came(new);
         }
         if is_last {
-            return Arrival::Over;
+            return Accept::Over;
         }
         self.tell_free();
-        Arrival::NotYet
+        Accept::NotYet
     }
 
     fn close(&mut self, meter: &Meter, commands: u64, broke: bool) {
-        self.watch.close(meter, commands, broke);
+        self.telemetry.close(meter, commands, broke);
     }
 
     fn call_again(&self, at_once: bool) {
@@ -76,21 +76,21 @@ impl Arrivals for Way {
     }
 
     fn has_failed(&self) -> bool {
-        self.bell.has_failed()
+        self.handle.has_failed()
     }
 }
 
-impl Way {
+impl Handoff {
     /// Takes the connection that was handed to the slot, if there is one.
     fn take(&mut self) -> Option<NewStream<Socket>> {
         let NewConnection { mut stream, peer } = self.come.pop().ok()?;
         self.told_free = false;
         if stream.register(&self.seats, self.seat).is_err() {
             // It could never be read from, so it is closed at once.
-            self.watch.turn_away();
+            self.telemetry.turn_away();
             return None;
         }
-        let meter = self.watch.open(peer);
+        let meter = self.telemetry.open(peer);
         Some(NewStream {
             stream,
             meter,
@@ -102,7 +102,7 @@ impl Way {
     fn tell_free(&mut self) {
         if !self.told_free {
             self.told_free = true;
-            self.bell.tell_free(self.seat);
+            self.handle.tell_free(self.seat);
         }
     }
 }

@@ -1,5 +1,5 @@
 //! Free slots, by the threads that serve them.
-use mc_wake::Sleeper;
+use mc_wake::Poller;
 use std::alloc::{AllocError, Global};
 
 /// The free slots of each thread.
@@ -12,13 +12,13 @@ pub(crate) struct FreeSeats {
 }
 
 impl FreeSeats {
-    /// No slot is free at first. The sleepers are those of the threads; slots are numbered from 0,
+    /// No slot is free at first. The pollers are those of the threads; slots are numbered from 0,
     /// in the order of their threads.
-    pub(crate) fn new(alloc: Global, sleepers: &[Sleeper]) -> Result<FreeSeats, AllocError> {
-        let mut free = Vec::with_capacity(alloc, sleepers.len())?;
+    pub(crate) fn new(alloc: Global, pollers: &[Poller]) -> Result<FreeSeats, AllocError> {
+        let mut free = Vec::with_capacity(alloc, pollers.len())?;
         let mut threads = Vec::new(alloc);
-        for (thread, sleeper) in sleepers.iter().enumerate() {
-            let count = sleeper.places();
+        for (thread, poller) in pollers.iter().enumerate() {
+            let count = poller.places();
             free.push(Vec::with_capacity(alloc, count)?)?;
             for _ in 0..count {
                 threads.push(thread)?;

@@ -1,30 +1,30 @@
-//! Sources of connections for the slots. A door accepts one line at a time and takes it back once
-//! it was served. `OneDoor` has a single line in memory; `StreamDoor` has the streams of its slot,
-//! such as sockets from the accepting thread.
+//! Sources of connections for the slots. A source accepts one line at a time and takes it back once
+//! it was served. `SingleSource` has a single line in memory; `StreamSource` has the streams of its
+//! slot, such as sockets from the accepting thread.
 #![tactic(auto)]
 
+mod acceptor;
 mod arrivals;
-mod door;
-mod entrance;
+mod connection_source;
 mod foreign;
 mod free_seats;
 mod lingering;
 mod listener;
-mod one_door;
+mod single_source;
 mod socket;
 mod stream;
-mod stream_door;
+mod stream_source;
 mod tap;
-mod tcp_line;
+mod tcp_connection;
 mod trail;
 
+pub use acceptor::{Acceptor, AcceptorHandle, Handoff};
 pub use arrivals::{Arrivals, NewStream};
-pub use door::{Arrival, Door};
-pub use entrance::{Bell, Entrance, Way};
+pub use connection_source::{Accept, ConnectionSource};
 pub use listener::Listener;
-pub use one_door::{OneDoor, ReturnedLine, ServedLine};
+pub use single_source::{ReturnedLine, ServedLine, SingleSource};
 pub use socket::Socket;
 pub use stream::Stream;
-pub use stream_door::{ClosedConnection, StreamDoor};
-pub use tcp_line::TcpLine;
+pub use stream_source::{ClosedConnection, StreamSource};
+pub use tcp_connection::TcpConnection;
 pub use trail::Trail;

@@ -33,7 +33,7 @@ pub(crate) enum Lingers {
 
 /// A connection with its output shut down, whose input is discarded for a while. Closing with
 /// unread bytes would reset it, and the peer could lose the last reply (RFC 1122, section
-/// 4.2.2.13). Nothing is written to it.
+/// 4.2.2.13). Nothing is written to it. See docs/DECISIONS.md, N3.
 pub(crate) struct Lingering<S> {
     stream: S,
     /// Number of reads that may still be discarded.

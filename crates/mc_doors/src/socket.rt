@@ -37,7 +37,7 @@ impl Socket {
 }
 
 /// Sets SO_KEEPALIVE (socket(7); intervals in tcp(7)), so that vanished clients are detected. If
-/// this fails, such a connection stays open.
+/// this fails, such a connection stays open. See docs/DECISIONS.md, N15.
 fn keep_alive(stream: &TcpStream) {
     let on = [1u8, 0, 0, 0, 0, 0, 0, 0, 0, 0, 0, 0, 0, 0, 0, 0];
     let _ = unsafe { setsockopt(stream.as_raw_fd(), SOL_SOCKET, SO_KEEPALIVE, &on, 4) };

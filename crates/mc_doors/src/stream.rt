@@ -9,7 +9,8 @@ use std::io;
 use std::io::IoSlice;
 
 /// A bidirectional byte stream, such as a TCP connection. Reading and writing are independent. It
-/// can't be copied, so its owner has exclusive access.
+/// can't be copied, so its owner has exclusive access. std's `Read` and `Write` can't state this
+/// (docs/DECISIONS.md, N12).
 pub trait Stream {
     ghost use Rattle.std.specs.Prelude.{ℕ, List, Option, None};
 

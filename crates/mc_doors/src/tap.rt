@@ -15,7 +15,7 @@ use std::io::{ErrorKind, IoSlice};
 use std::snapshot::Snapshot;
 
 /// A stream, and the bytes read from and written to it since it was accepted, which only contracts
-/// see. The stream is reachable by these methods alone.
+/// see. The stream is reachable by these methods alone. See docs/DECISIONS.md, N12.
 #[derive(Drop)]
 pub(crate) struct Tap<S: Stream> {
     stream: S,
@@ -43,12 +43,12 @@ impl<S: Stream> Tap<S> {
         }
     }
 
-    /// Reads, and retries if a signal interrupts (EINTR). With `wary`, if the first bytes are
-    /// another protocol's, it reads nothing and sets `manner` to the reason to end.
+    /// Reads, and retries if a signal interrupts (EINTR). With `sniff_protocol`, if the first bytes
+    /// are another protocol's, it reads nothing and sets `manner` to the reason to end.
     pub(crate) fn read(
         &mut self,
         room: &mut [u8],
-        is_wary: bool,
+        sniffs_protocol: bool,
         manner: &mut Manner,
     ) -> io::Result<usize>
         ensures bound { ReadsAtMost result room.new }
@@ -59,14 +59,14 @@ impl<S: Stream> Tap<S> {
             self.new.given ≡ self.old.given ++ take count room.new) }
         ensures none { OnErr result (self.new.given ≡ self.old.given) }
         ensures end { 0 < length room.old →
-            IfOk result (EndsWhere is_wary (S.remaining self.old.stream)) }
+            IfOk result (EndsWhere sniffs_protocol (S.remaining self.old.stream)) }
         ensures stream { IfOk result (λ count.
             Consumes (S.remaining self.old.stream) (S.remaining self.new.stream)
             (take count room.new)) }
         ensures fault { OnErr result
             (Keeps (S.remaining self.old.stream) (S.remaining self.new.stream)) }
     {
-        let done = if is_wary {
+        let done = if sniffs_protocol {
             read_first(&mut self.stream, room, manner)
         } else {
             read_some(&mut self.stream, room)
@@ -112,6 +112,17 @@ impl<S: Stream> Tap<S> {
         let count = write_some_of(&mut self.stream, bufs)?;
         self.taken.add_first(bufs, count);
         Ok(count)
+    }
+}
+
+impl<S: Stream> Tap<S> {
+    /// Shuts down the output of the stream. If that fails, its client sees no end.
+    pub(crate) fn end_output(&mut self)
+        ensures begin { self.new.begin ≡ self.old.begin }
+        ensures given { self.new.given ≡ self.old.given }
+        ensures taken { self.new.taken ≡ self.old.taken }
+    {
+        let _ = self.stream.end_output();
     }
 }
 

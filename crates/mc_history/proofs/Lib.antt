@@ -2,8 +2,17 @@ pub mod Lists
 pub mod Worlds
 pub mod Roles
 pub mod Follows
+pub mod Placed
+pub mod Channels
 pub mod Holds
+pub mod Later
+pub mod Turns
 pub mod Views
 pub mod Seeing
+pub mod Seats
 pub mod Steps
+pub mod Answering
+pub mod Replying
+pub mod Writing
+pub mod Ending
 pub mod Rows

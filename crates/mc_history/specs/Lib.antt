@@ -3,3 +3,5 @@ pub mod Lawful
 pub mod Roles
 pub mod Rule
 pub mod Tokens
+pub mod Allowed
+pub mod Writes

@@ -1,20 +1,24 @@
-//! An actor: a connection's thread or a shard's worker, with everything that it has seen of the
-//! history. Each step is a load of a word that is never written.
-ghost use Rattle.std.specs.Prelude.{◌≡◌, ◌<◌, [], true};
+//! An actor: a slot's thread or a shard's worker, with everything that it has seen of the history.
+//! Each step is a load of a word that is never written.
+ghost use Rattle.std.specs.Prelude.{◌≡◌, ◌<◌, ℕ, List, [], true};
+ghost use Rattle.std.specs.List.{AllByRecursion};
+ghost use Rattle.mc_conn.specs.History.{MayBeTaken, Taken};
 ghost use Rattle.mc_history.specs.declared.event.Event.{Event};
+ghost use Rattle.mc_history.specs.declared.knowledge.Role.TheVariants.{Seat as OfSeat};
+ghost use Rattle.mc_history.specs.Worlds.{IsLastOn};
 ghost use Rattle.mc_history.specs.Lawful.{IsHistory, MayFollow};
-ghost use Rattle.mc_history.specs.Roles.{is_own};
-ghost use Rattle.mc_history.specs.Rule.{Extends};
-ghost use Rattle.mc_history.specs.Tokens.{Adds, Sees};
+ghost use Rattle.mc_history.specs.Roles.{is_own, seat_of};
+ghost use Rattle.mc_history.specs.Rule.{Extends, MayJoin};
+ghost use Rattle.mc_history.specs.Tokens.{Adds, Sees, TakesAll};
 
 use crate::evidence::Evidence;
 use crate::history::{History, Steps};
 use crate::knowledge::Knowledge;
-use crate::rule::{AddsEvent, Hears, Looks, Occurrence, Shows};
+use crate::rule::{AddsEvents, Hears, Looks, Occurrence, Shows};
 use atomic_table::Seat;
 use std::marker::{Brand, Model};
 
-/// The right to append the events of one connection or shard to the history. It has a size of 0
+/// The right to append the events of one slot's connections or of one shard. It has a size of 0
 /// bytes.
 #[derive(Drop)]
 pub struct Actor {
@@ -64,6 +68,21 @@ impl Actor {
         note::<Brand>(&history.table.shared, &mut self.seat);
     }
 
+    /// Appends, in one step, the commands that the last connection on the actor's slot parsed, in
+    /// order. The proof of the caller names them by what `about` has.
+    pub fn take_all<T>(&mut self, history: &History, about: &T)
+        ghost takes: { ℕ × List Taken }
+        requires same { self.old.name ≡ history.now }
+        requires role { self.old.role ≡ OfSeat (seat_of self.old.role) }
+        requires last { IsLastOn (seat_of self.old.role) takes.0 self.old.events }
+        requires may { AllByRecursion MayBeTaken takes.1 }
+        ensures takes { TakesAll takes.0 takes.1 self.old self.new }
+        ensures lawful { IsHistory self.new.name.sizes self.new.events }
+    {
+        let _ = about;
+        note::<Brand>(&history.table.shared, &mut self.seat);
+    }
+
     /// Evidence of everything that the actor has seen, for another thread.
     pub fn show(&mut self, history: &History) -> Evidence
         requires same { self.old.name ≡ history.now }
@@ -91,16 +110,16 @@ impl Actor {
     }
 }
 
-/// Appends the event by one step.
+/// Appends the events in one step.
 fn note<E: Occurrence>(table: &Steps, seat: &mut Seat<u64, Knowledge>)
     requires table { seat.old.table_id ≡ table.now.table_id }
     requires word { 0 < table.now.table_id.words }
     requires sizes { seat.old.me.0.sizes ≡ table.now.key }
-    requires own { is_own seat.old.me.0.role E.event ≡ true }
-    requires may { MayFollow seat.old.me.0.sizes seat.old.me.0.seen E.event }
+    requires own { AllByRecursion (λ event. is_own seat.old.me.0.role event ≡ true) E.events }
+    requires may { MayJoin seat.old.me.0.sizes seat.old.me.0.role seat.old.me.0.seen E.events }
     ensures table { seat.new.table_id ≡ seat.old.table_id }
     ensures slots { seat.new.me.1 ≡ seat.old.me.1 }
-    ensures added { Extends E.event seat.old.me.0 seat.new.me.0 }
+    ensures added { Extends E.events seat.old.me.0 seat.new.me.0 }
 {
-    table.load::<AddsEvent<E>>(seat, 0);
+    table.load::<AddsEvents<E>>(seat, 0);
 }

@@ -10,9 +10,11 @@ pub enum Event {
     Opened {
         seat: usize,
     },
-    /// The connection of this number took a command, at this moment in seconds since 1970, when this was known of the server. It was given up where memory ran
-    /// out before a shard was asked.
+    /// The connection of this number, the last opened on this slot, parsed a command at this time,
+    /// in seconds since 1970. `stats` shows this server. The command was given up if memory ran out
+    /// before a shard was asked.
     Took {
+        seat: usize,
         connection: usize,
         command: Command,
         moment: u64,

@@ -7,6 +7,7 @@ use crate::history::History;
 use crate::knowledge::Knowledge;
 use crate::rule::{Hears, Looks};
 use atomic_table::Seat;
+use mc_ring::Token;
 use std::marker::Model;
 
 /// Evidence that these events happened first, in this order. It has a size of 0 bytes.
@@ -28,6 +29,18 @@ impl Model for Evidence {
     } };
 
     ghost invariant = { λ e. (e.seat.me.1 ≡ []) × IsHistory e.seat.me.0.sizes e.seat.me.0.seen };
+}
+
+/// On a channel each piece sent is the next that is due there in the history shown, and each reply
+/// answers the piece in its place.
+impl Token for Evidence {
+    ghost use Rattle.mc_history.specs.Allowed.{MayGive, MaySend};
+
+    ghost name = { λ e. e.name };
+
+    ghost may_send = { λ route before request e. MaySend route before request e };
+
+    ghost may_give = { λ route before reply e. MayGive route before reply e };
 }
 
 impl Evidence {

@@ -1,18 +1,13 @@
-//! A history, and opening connections in it.
-ghost use Rattle.std.specs.Prelude.{◌≡◌, ◌<◌, [], IfOk};
-ghost use Rattle.mc_history.specs.declared.event.Event.TheVariants.{Opened};
-ghost use Rattle.mc_history.specs.Lawful.{IsHistory};
-ghost use Rattle.mc_history.specs.Rule.{IsNew, opening};
-ghost use Rattle.mc_history.specs.Tokens.{Opens};
+//! A history, visible to proofs alone.
+ghost use Rattle.std.specs.Prelude.{◌≡◌, IfOk};
 
-use crate::actor::Actor;
+use crate::actors::Actors;
 use crate::knowledge::Knowledge;
-use crate::rule::{Occurrence, OpensConnection, Rule};
-use crate::shards::Shards;
-use atomic_table::{Seat, Shared, Table};
+use crate::rule::Rule;
+use atomic_table::{Shared, Table};
 use mc_sizes::Sizes;
 use std::alloc::{AllocError, Global};
-use std::marker::{Brand, Model};
+use std::marker::Model;
 
 /// The table of tokens. Its one word is loaded at each step of a token, and never written.
 pub(crate) type Steps = Shared<u64, Knowledge, Sizes, Rule>;
@@ -25,7 +20,7 @@ pub struct History {
 
 impl Model for History {
     ghost use Rattle.std.specs.Prelude.{◌<◌};
-    ghost use Rattle.mc_history.specs.Tokens.{Name};
+    ghost use Rattle.mc_ring.specs.Route.{Name};
 
     ghost Value = { Name };
 
@@ -35,37 +30,14 @@ impl Model for History {
 }
 
 impl History {
-    /// An empty history, and the right to act for each of its shards. It takes one word of memory,
-    /// and fails if that is refused.
-    pub fn new(alloc: Global, sizes: Sizes) -> Result<(History, Shards), AllocError>
+    /// An empty history, and the right to act for each of its slots and shards. It takes one word
+    /// of memory, and fails if that is refused.
+    pub fn new(alloc: Global, sizes: Sizes) -> Result<(History, Actors), AllocError>
         ensures sizes { IfOk result (λ made. made.0.sizes ≡ sizes) }
-        ensures shards { IfOk result (λ made. made.1 ≡ record { name = made.0; from = 0 }) }
+        ensures actors { IfOk result
+            (λ made. made.1 ≡ record { name = made.0; seats = 0; shards = 0 }) }
     {
         let (table, seat) = Table::of_words(alloc, &[0], &sizes)?;
-        Ok((History { table }, Shards::new(seat)))
+        Ok((History { table }, Actors::new(seat)))
     }
-
-    /// Opens a connection on a slot, and returns the actor that may append its events. The
-    /// connection's number is the number of connections opened before, by any thread.
-    pub fn connect(&self, seat: usize) -> Actor
-        requires seat { seat < self.now.sizes.seats }
-        ensures opens { Opens self.now seat result }
-        ensures lawful { IsHistory self.now.sizes result.events }
-    {
-        Actor::new(enter::<Brand>(&self.table.shared, seat))
-    }
-}
-
-/// The token of a new connection.
-fn enter<E: Occurrence>(table: &Steps, seat: usize) -> Seat<u64, Knowledge>
-    requires event { E.event ≡ Opened seat }
-    requires word { 0 < table.now.table_id.words }
-    requires seat { seat < table.now.key.seats }
-    ensures table { result.table_id ≡ table.now.table_id }
-    ensures slots { result.me.1 ≡ [] }
-    ensures new { IsNew (Opened seat) (opening table.now.key) result.me.0 }
-{
-    let _ = seat;
-    let (_, token) = table.load_new_seat::<OpensConnection<E>>(0);
-    token
 }

@@ -7,12 +7,12 @@ use std::collections::LinkedList;
 pub enum Role {
     /// Nobody's.
     Reader,
-    /// Those of the connection of this number.
-    Connection { number: usize },
+    /// Those of the connections on this slot.
+    Seat { number: usize },
     /// Those of this shard.
     Shard { index: usize },
-    /// Those of this shard and of all behind it.
-    Shards { from: usize },
+    /// Those of the slots from number `seats` on, and of the shards from number `shards` on.
+    Rest { seats: usize, shards: usize },
 }
 
 /// A token's knowledge of the history.

@@ -16,37 +16,28 @@ impl TableRule<u64, Knowledge, Sizes> for Rule {
     ghost first = { λ sizes. opening sizes };
 }
 
-/// The event that a step appends.
+/// The events that a step appends.
 pub(crate) trait Occurrence {
+    ghost use Rattle.std.specs.Prelude.{List};
     ghost use Rattle.mc_history.specs.declared.event.Event.{Event};
 
-    ghost event: { Event };
+    ghost events: { List Event };
 }
 
 impl Occurrence for Brand {
-    ghost use Rattle.mc_history.specs.declared.event.Event.TheVariants.{Opened};
+    ghost use Rattle.std.specs.Prelude.{[]};
 
-    ghost event = { Opened 0 };
+    ghost events = { [] };
 }
 
-/// An actor's event is appended to all that has happened.
-pub(crate) struct AddsEvent<E: Occurrence>(PhantomData<E>);
+/// An actor's events are appended to all that has happened.
+pub(crate) struct AddsEvents<E: Occurrence>(PhantomData<E>);
 
-impl<E: Occurrence> Play<u64, Knowledge> for AddsEvent<E> {
+impl<E: Occurrence> Play<u64, Knowledge> for AddsEvents<E> {
     ghost use Rattle.std.specs.Prelude.{◌≡◌};
     ghost use Rattle.mc_history.specs.Rule.{Extends};
 
-    ghost then = { λ s me found new. (new.1 ≡ me.1) × Extends E.event me.0 new.0 };
-}
-
-/// A connection is opened, and a new token may append its events.
-pub(crate) struct OpensConnection<E: Occurrence>(PhantomData<E>);
-
-impl<E: Occurrence> Play<u64, Knowledge> for OpensConnection<E> {
-    ghost use Rattle.std.specs.Prelude.{◌≡◌, []};
-    ghost use Rattle.mc_history.specs.Rule.{IsNew};
-
-    ghost then = { λ s me found new. (new.1 ≡ []) × IsNew E.event me.0 new.0 };
+    ghost then = { λ s me found new. (new.1 ≡ me.1) × Extends E.events me.0 new.0 };
 }
 
 /// A token looks at all that has happened.
@@ -70,10 +61,21 @@ impl Split<Knowledge> for Shows {
     ghost right = { λ v. reader v.sizes v.seen };
 }
 
-/// A new token gets the right to append the events of the first of this token's shards.
-pub(crate) struct Deals;
+/// A new token gets the right to append the events of the first of this token's slots.
+pub(crate) struct DealsSeat;
 
-impl Split<Knowledge> for Deals {
+impl Split<Knowledge> for DealsSeat {
+    ghost use Rattle.mc_history.specs.Rule.{first_seat, later_seats};
+
+    ghost left = { later_seats };
+
+    ghost right = { first_seat };
+}
+
+/// A new token gets the right to append the events of the first of this token's shards.
+pub(crate) struct DealsShard;
+
+impl Split<Knowledge> for DealsShard {
     ghost use Rattle.mc_history.specs.Rule.{first_shard, later_shards};
 
     ghost left = { later_shards };

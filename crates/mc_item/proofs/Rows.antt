@@ -6,20 +6,24 @@ use Rattle.mc_wire.specs.Number.{number_of}
 use Rattle.mc_item.specs.Expiry.{expiry_of, is_dead, seconds_left}
 use Rattle.mc_item.specs.Value.{number_in, number_text, joined}
 use Rattle.mc_item.specs.Kind.{is_lawful}
-use Rattle.mc_item.specs.Tally.{no_counts}
+use Rattle.mc_item.specs.OpStats.{no_counts}
 use Rattle.mc_item.specs.declared.item.Expiry.TheVariants.{Never, At}
 use Rattle.mc_item.specs.declared.answer.Kind.{Kind}
 use Rattle.mc_item.specs.declared.answer.Kind.TheVariants as kind
 use Rattle.mc_item.specs.declared.answer.Answer.{Answer}
-use Rattle.mc_item.specs.declared.answer.Answer.TheVariants.{Stored, NotStored, Exists, NotFound, TooLarge, NoCas, NoMemory, Hit, Miss, Number, NonNumeric, Deleted, Touched, Done, MetaHit, MetaDone, Reset}
+use Rattle.mc_item.specs.declared.answer.Answer.TheVariants.{Stored, NotStored, Exists, NotFound, TooLarge, NoCas}
+use Rattle.mc_item.specs.declared.answer.Answer.TheVariants.{NoMemory, Hit, Miss, Number, NonNumeric, Deleted, Touched}
+use Rattle.mc_item.specs.declared.answer.Answer.TheVariants.{Done, MetaHit, MetaDone, Reset}
 use Rattle.mc_item.specs.declared.answer.Answer.TheVariants as answer
 
 -- 0 is never, up to 30 days count from now, and a longer one is a second since 1970
-expiries : map (λ exptime. expiry_of exptime 1000) (pos 0 ∷ pos 2592000 ∷ pos 2592001 ∷ []) ≡ Never ∷ At 2593000 ∷ At 2592001 ∷ []
+expiries : map (λ exptime. expiry_of exptime 1000) (pos 0 ∷ pos 2592000 ∷ pos 2592001 ∷ [])
+    ≡ Never ∷ At 2593000 ∷ At 2592001 ∷ []
 unfolding expiry_of
 expiries = refl
 
--- a negative exptime is dead at once, at the second 0 too; one second is over at the next one; a second since 1970 may be past
+-- a negative exptime is dead at once, at the second 0 too; one second is over at the next one; a second since 1970 may
+-- be past
 deaths : (is_dead (expiry_of (negsuc 0) 1000) 1000 ≡ true)
     × (is_dead (expiry_of (negsuc 0) 0) 0 ≡ true)
     × (is_dead (expiry_of (pos 1) 1000) 1000 ≡ false)
@@ -39,12 +43,15 @@ unfolding expiry_of seconds_left
 lefts = (refl, refl, refl, refl)
 
 -- digits, 20 at most, and after them spaces
-numbers : map number_in (codes "7  " ∷ codes "00000000000000000009" ∷ codes "18446744073709551615" ∷ []) ≡ Some 7 ∷ Some 9 ∷ Some 18446744073709551615 ∷ []
+numbers : map number_in (codes "7  " ∷ codes "00000000000000000009" ∷ codes "18446744073709551615" ∷ [])
+    ≡ Some 7 ∷ Some 9 ∷ Some 18446744073709551615 ∷ []
 unfolding number_in number_of
 numbers = refl
 
 -- no numbers: 21 digits, a space in front, nothing, 2 ^ 64, a space inside, a sign, a tab behind
-no_numbers : map number_in (codes "000000000000000000009" ∷ codes " 9" ∷ [] ∷ codes "18446744073709551616" ∷ codes "5 5" ∷ codes "-1" ∷ codes "5\t" ∷ [])
+no_numbers : map number_in
+    (codes "000000000000000000009" ∷ codes " 9" ∷ [] ∷ codes "18446744073709551616" ∷ codes "5 5" ∷ codes "-1" ∷ codes
+    "5\t" ∷ [])
     ≡ None ∷ None ∷ None ∷ None ∷ None ∷ None ∷ None ∷ []
 unfolding number_in number_of
 no_numbers = refl
@@ -55,22 +62,33 @@ unfolding digits
 number_texts = refl
 
 -- append and prepend
-joined_values : (joined (codes "bc") (codes "d") true ≡ codes "bcd") × (joined (codes "bc") (codes "a") false ≡ codes "abc")
+joined_values : (joined (codes "bc") (codes "d") true ≡ codes "bcd")
+    × (joined (codes "bc") (codes "a") false ≡ codes "abc")
 joined_values = (refl, refl)
 
 abbrev meta_hit : Answer
-meta_hit = MetaHit (record { value = []; flags = 0; unique = 0; fetched = false; idle = 0; left = None; marks = record { won = false; stale = false; sent = false } })
+meta_hit =
+    MetaHit (record {
+      value = [];
+      flags = 0;
+      unique = 0;
+      fetched = false;
+      idle = 0;
+      left = None;
+      marks = record { won = false; stale = false; sent = false };
+    })
 
 abbrev meta_done : Answer
 meta_done = MetaDone (record { unique = 0; size = 0; left = None; number = 0 })
 
 abbrev stats : Answer
-stats = answer.Stats (record { tally = no_counts; evicted = 0; items = 0; bytes = 0; budget = 0 })
+stats = answer.Stats (record { op_stats = no_counts; evicted = 0; items = 0; bytes = 0; budget = 0 })
 
 -- one answer of each name
 all_answers : List Answer
 all_answers =
-    Stored ∷ NotStored ∷ Exists ∷ NotFound ∷ TooLarge ∷ NoCas ∷ NoMemory ∷ Hit 0 0 [] ∷ Miss ∷ Number 0 ∷ NonNumeric ∷ Deleted ∷ Touched ∷ Done ∷ meta_hit ∷ meta_done ∷ stats ∷ Reset ∷ []
+    Stored ∷ NotStored ∷ Exists ∷ NotFound ∷ TooLarge ∷ NoCas ∷ NoMemory ∷ Hit 0 0 [] ∷ Miss ∷ Number 0 ∷ NonNumeric ∷
+    Deleted ∷ Touched ∷ Done ∷ meta_hit ∷ meta_done ∷ stats ∷ Reset ∷ []
 
 lawful_answers : Kind → List Answer
 lawful_answers asked = filter (is_lawful asked) all_answers

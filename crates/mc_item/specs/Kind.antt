@@ -3,9 +3,12 @@ use Rattle.std.specs.Prelude.{ℕ, Bool, true, false, List, Option, Some, None}
 use Rattle.mc_item.specs.declared.op.Op.{Op}
 use Rattle.mc_item.specs.declared.op.Op.TheVariants as op
 use Rattle.mc_item.specs.declared.answer.Kind.{Kind}
-use Rattle.mc_item.specs.declared.answer.Kind.TheVariants.{Store, Fetch, Count, Delete, Touch, Flush, Stats, ResetStats, MetaGet, MetaStore, MetaDelete, MetaCount}
+use Rattle.mc_item.specs.declared.answer.Kind.TheVariants.{Store, Fetch, Count, Delete, Touch, Flush, Stats, ResetStats}
+use Rattle.mc_item.specs.declared.answer.Kind.TheVariants.{MetaGet, MetaStore, MetaDelete, MetaCount}
 use Rattle.mc_item.specs.declared.answer.Answer.{Answer}
-use Rattle.mc_item.specs.declared.answer.Answer.TheVariants.{Stored, NotStored, Exists, NotFound, TooLarge, NoCas, NoMemory, Hit, Miss, Number, NonNumeric, Deleted, Touched, Done, MetaHit, MetaDone, Reset}
+use Rattle.mc_item.specs.declared.answer.Answer.TheVariants.{Stored, NotStored, Exists, NotFound, TooLarge, NoCas}
+use Rattle.mc_item.specs.declared.answer.Answer.TheVariants.{NoMemory, Hit, Miss, Number, NonNumeric, Deleted, Touched}
+use Rattle.mc_item.specs.declared.answer.Answer.TheVariants.{Done, MetaHit, MetaDone, Reset}
 use Rattle.mc_item.specs.declared.answer.Answer.TheVariants as answer
 
 unfoldable pub kind_of : Op → Kind

@@ -8,7 +8,7 @@ use crate::memory::NoMemory;
 use crate::packed::PackedExpiry;
 use crate::reserve::Reserve;
 use crate::value::Value;
-use mc_wire::GREATEST_VALUE_LIMIT;
+use mc_wire::MAX_VALUE_LIMIT;
 use std::alloc::{AllocError, Global};
 
 /// When an item dies (protocol.txt, "Expiration times").
@@ -77,7 +77,8 @@ impl Item {
         self.value.number()
     }
 
-    /// The item once more, with the same value: shared, or else a copy for which the reserve is used up.
+    /// The item once more, with the same value: shared, or else a copy for which the reserve is
+    /// used up.
     pub fn shared(&self, reserve: &mut Option<Reserve>) -> Item
         requires { IsSome reserve.old }
         ensures item { result ≡ self.now }
@@ -97,7 +98,7 @@ impl Item {
 
     /// The item's value with the block after it or before it. The item stays as it is.
     pub fn joined(&self, alloc: Global, block: &Value, after: bool) -> Result<Value, NoMemory>
-        requires { length self.now.value + length block.now ≤ GREATEST_VALUE_LIMIT }
+        requires { length self.now.value + length block.now ≤ MAX_VALUE_LIMIT }
         ensures { IfOk result (λ value. value ≡ joined self.now.value block.now after) }
     {
         self.value.joined(alloc, block, after)

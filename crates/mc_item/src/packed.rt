@@ -12,7 +12,8 @@ const LONGEST_DELAY: u64 = 2_592_000;
 /// Stands for never. No exptime means so late a second.
 const NEVER: u64 = u64::MAX;
 
-/// An expiry that an exptime can mean, in the eight bytes that an item has for it. Contracts see the `Expiry`.
+/// An expiry that an exptime can mean, in the eight bytes that an item has for it. Contracts see
+/// the `Expiry`.
 #[derive(Clone, Copy)]
 pub struct PackedExpiry {
     second: u64,

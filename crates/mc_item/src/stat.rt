@@ -2,8 +2,8 @@
 ghost use Rattle.std.specs.Prelude.{◌≡◌, ◌%◌, ◌^◌};
 ghost use Rattle.mc_item.specs.Stat.{all_stats, row_of, total};
 
+use crate::op_stats::{StatClass, Status};
 use crate::stats::Stats;
-use crate::tally::{CountedAs, Status};
 
 /// One of the numbers that `stats` shows.
 #[derive(Clone, Copy)]
@@ -25,11 +25,14 @@ pub enum Stat {
     CasBadval,
     TouchHits,
     TouchMisses,
+    StoreTooLarge,
     LimitMaxbytes,
     Bytes,
     CurrItems,
     TotalItems,
+    ExpiredUnfetched,
     Evictions,
+    Reclaimed,
 }
 
 impl Stat {
@@ -55,11 +58,14 @@ impl Stat {
             Stat::CasBadval,
             Stat::TouchHits,
             Stat::TouchMisses,
+            Stat::StoreTooLarge,
             Stat::LimitMaxbytes,
             Stat::Bytes,
             Stat::CurrItems,
             Stat::TotalItems,
+            Stat::ExpiredUnfetched,
             Stat::Evictions,
+            Stat::Reclaimed,
         ]
     }
 
@@ -85,11 +91,14 @@ impl Stat {
             Stat::CasBadval => b"cas_badval",
             Stat::TouchHits => b"touch_hits",
             Stat::TouchMisses => b"touch_misses",
+            Stat::StoreTooLarge => b"store_too_large",
             Stat::LimitMaxbytes => b"limit_maxbytes",
             Stat::Bytes => b"bytes",
             Stat::CurrItems => b"curr_items",
             Stat::TotalItems => b"total_items",
+            Stat::ExpiredUnfetched => b"expired_unfetched",
             Stat::Evictions => b"evictions",
+            Stat::Reclaimed => b"reclaimed",
         }
     }
 
@@ -106,58 +115,61 @@ impl Stat {
             ..
         } = *stats;
         match self {
-            Stat::CmdGet => total(stats, CountedAs::Get),
-            Stat::CmdSet => total(stats, CountedAs::Set).wrapping_add(total(stats, CountedAs::Cas)),
-            Stat::CmdFlush => total(stats, CountedAs::Flush),
-            Stat::CmdTouch => total(stats, CountedAs::Touch),
-            Stat::GetHits => stats.tally.count(CountedAs::Get, Status::Hit),
-            Stat::GetMisses => stats.tally.count(CountedAs::Get, Status::Miss),
+            Stat::CmdGet => total(stats, StatClass::Get),
+            Stat::CmdSet => total(stats, StatClass::Set).wrapping_add(total(stats, StatClass::Cas)),
+            Stat::CmdFlush => total(stats, StatClass::Flush),
+            Stat::CmdTouch => total(stats, StatClass::Touch),
+            Stat::GetHits => stats.op_stats.count(StatClass::Get, Status::Hit),
+            Stat::GetMisses => stats.op_stats.count(StatClass::Get, Status::Miss),
             Stat::DeleteMisses => not_deleted(stats),
-            Stat::DeleteHits => stats.tally.count(CountedAs::Delete, Status::Hit),
-            Stat::IncrMisses => stats.tally.count(CountedAs::Incr, Status::Miss),
-            Stat::IncrHits => stats.tally.count(CountedAs::Incr, Status::Hit),
-            Stat::DecrMisses => stats.tally.count(CountedAs::Decr, Status::Miss),
-            Stat::DecrHits => stats.tally.count(CountedAs::Decr, Status::Hit),
-            Stat::CasMisses => stats.tally.count(CountedAs::Cas, Status::Miss),
-            Stat::CasHits => stats.tally.count(CountedAs::Cas, Status::Hit),
-            Stat::CasBadval => stats.tally.count(CountedAs::Cas, Status::BadValue),
-            Stat::TouchHits => stats.tally.count(CountedAs::Touch, Status::Hit),
-            Stat::TouchMisses => stats.tally.count(CountedAs::Touch, Status::Miss),
+            Stat::DeleteHits => stats.op_stats.count(StatClass::Delete, Status::Hit),
+            Stat::IncrMisses => stats.op_stats.count(StatClass::Incr, Status::Miss),
+            Stat::IncrHits => stats.op_stats.count(StatClass::Incr, Status::Hit),
+            Stat::DecrMisses => stats.op_stats.count(StatClass::Decr, Status::Miss),
+            Stat::DecrHits => stats.op_stats.count(StatClass::Decr, Status::Hit),
+            Stat::CasMisses => stats.op_stats.count(StatClass::Cas, Status::Miss),
+            Stat::CasHits => stats.op_stats.count(StatClass::Cas, Status::Hit),
+            Stat::CasBadval => stats.op_stats.count(StatClass::Cas, Status::BadValue),
+            Stat::TouchHits => stats.op_stats.count(StatClass::Touch, Status::Hit),
+            Stat::TouchMisses => stats.op_stats.count(StatClass::Touch, Status::Miss),
+            Stat::StoreTooLarge => total(stats, StatClass::TooLarge),
             Stat::LimitMaxbytes => budget,
             Stat::Bytes => bytes,
             Stat::CurrItems => items,
             Stat::TotalItems => stored(stats),
+            Stat::ExpiredUnfetched => stats.op_stats.count(StatClass::Reclaimed, Status::Miss),
             Stat::Evictions => evicted,
+            Stat::Reclaimed => total(stats, StatClass::Reclaimed),
         }
     }
 }
 
 /// How often this was asked, whatever came of it.
-fn total(stats: &Stats, asked: CountedAs) -> u64
+fn total(stats: &Stats, asked: StatClass) -> u64
     ensures { result ≡ total asked stats.now % 2 ^ 64 }
 {
-    let tally = &stats.tally;
-    let told = tally
+    let op_stats = &stats.op_stats;
+    let told = op_stats
         .count(asked, Status::Hit)
-        .wrapping_add(tally.count(asked, Status::Miss))
-        .wrapping_add(tally.count(asked, Status::BadValue));
-    told.wrapping_add(tally.count(asked, Status::NoMemory))
-        .wrapping_add(tally.count(asked, Status::Refused))
+        .wrapping_add(op_stats.count(asked, Status::Miss))
+        .wrapping_add(op_stats.count(asked, Status::BadValue));
+    told.wrapping_add(op_stats.count(asked, Status::NoMemory))
+        .wrapping_add(op_stats.count(asked, Status::Refused))
 }
 
 /// How many items were stored.
 fn stored(stats: &Stats) -> u64
     ensures { result ≡ (row_of Stat.TotalItems).1 stats.now % 2 ^ 64 }
 {
-    let set = stats.tally.count(CountedAs::Set, Status::Hit);
-    set.wrapping_add(stats.tally.count(CountedAs::Cas, Status::Hit))
-        .wrapping_add(stats.tally.count(CountedAs::Made, Status::Hit))
+    let set = stats.op_stats.count(StatClass::Set, Status::Hit);
+    set.wrapping_add(stats.op_stats.count(StatClass::Cas, Status::Hit))
+        .wrapping_add(stats.op_stats.count(StatClass::Made, Status::Hit))
 }
 
 /// How often no item was there to delete, or one with another unique.
 fn not_deleted(stats: &Stats) -> u64
     ensures { result ≡ (row_of Stat.DeleteMisses).1 stats.now % 2 ^ 64 }
 {
-    let misses = stats.tally.count(CountedAs::Delete, Status::Miss);
-    misses.wrapping_add(stats.tally.count(CountedAs::Delete, Status::BadValue))
+    let misses = stats.op_stats.count(StatClass::Delete, Status::Miss);
+    misses.wrapping_add(stats.op_stats.count(StatClass::Delete, Status::BadValue))
 }

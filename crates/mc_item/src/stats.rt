@@ -1,8 +1,9 @@
-//! What a shard tells of itself: its counts, and what it holds (protocol.txt, "General-purpose statistics").
+//! The statistics of a shard: its counts, and what it holds (protocol.txt, "General-purpose
+//! statistics").
 ghost use Rattle.std.specs.Prelude.{◌≡◌, IfOk};
 
 use crate::memory::NoMemory;
-use crate::tally::Tally;
+use crate::op_stats::OpStats;
 use std::alloc::Global;
 use std::marker::Model;
 
@@ -10,7 +11,7 @@ use std::marker::Model;
 #[derive(Clone, Copy)]
 pub struct Stats {
     /// What it was asked, and what came of it.
-    pub tally: Tally,
+    pub op_stats: OpStats,
     /// How many items went to make room for others.
     pub evicted: u64,
     /// How many items it holds.

@@ -3,29 +3,19 @@ ghost use Rattle.std.specs.Prelude.{◌≡◌, ◌+◌, ◌≤◌, ◌==◌, ◌
 ghost use Rattle.std.specs.Option.{IsSome};
 ghost use Rattle.std.specs.List.{list_all, position};
 ghost use Rattle.mc_item.specs.Value.{number_in, number_text, joined};
-ghost use Rattle.mc_wire.specs.Outlet.{Writes};
+ghost use Rattle.mc_wire.specs.Sink.{Writes};
 ghost use Rattle.mc_wire.specs.Words.{is_space};
 
+use crate::held::{BLOCK_LIMIT, Held};
 use crate::memory::NoMemory;
 use crate::reserve::Reserve;
 use itoa::Buffer;
-use mc_wire::{DIGIT_LIMIT, GREATEST_VALUE_LIMIT, OutFault, Outlet, number_u64, put_all};
+use mc_wire::{DIGIT_LIMIT, MAX_VALUE_LIMIT, Sink, SinkError, number_u64, write_all};
 use std::alloc::{AllocError, Global};
 use std::marker::Model;
 use std::sync::ArcSlice;
 
-/// How a value holds its bytes.
-#[derive(Drop)]
-enum Held {
-    /// No bytes, which take no memory.
-    Empty,
-    /// Bytes that are shared with every clone.
-    Shared(ArcSlice<u8>),
-    /// A copy of its own, in memory that was put aside.
-    Copied(Box<Vec<u8>>),
-}
-
-/// The bytes that a client stored: at most `GREATEST_VALUE_LIMIT`.
+/// The bytes that a client stored: at most `MAX_VALUE_LIMIT`.
 pub struct Value {
     held: Held,
 }
@@ -42,27 +32,42 @@ impl Drop for Value {
 const _: () = prove!(size_of::<Value>() == 16);
 
 impl Model for Value {
-    ghost use Rattle.std.specs.Prelude.{ℕ, List, ◌≤◌, length};
-    ghost use Rattle.mc_wire.specs.declared.TheConstants.{GREATEST_VALUE_LIMIT};
-    ghost use Rattle.mc_item.specs.internal.Held.{bytes_of};
+    ghost use Rattle.std.specs.Prelude.{ℕ, List, ◌≤◌};
+    ghost use Rattle.mc_item.specs.internal.Held.{bytes_of, len_of, room_of};
 
     ghost Value = { List ℕ };
 
     ghost view = { λ value. bytes_of value.held };
 
-    ghost invariant = { λ value. length (bytes_of value.held) ≤ GREATEST_VALUE_LIMIT };
+    ghost invariant = { λ value. len_of value.held ≤ room_of value.held };
 }
 
 impl Value {
-    /// The value with these bytes, without a copy. It takes memory for the count of its owners.
+    /// The value with these bytes. More than 512 of them are kept without a copy. It takes memory
+    /// for the count of their owners.
     pub fn new(bytes: Vec<u8>) -> Result<Value, NoMemory>
-        requires { length bytes.items ≤ GREATEST_VALUE_LIMIT }
+        requires { length bytes.items ≤ MAX_VALUE_LIMIT }
         ensures { IfOk result (λ value. value ≡ bytes.items) }
     {
-        if bytes.is_empty() {
-            return Ok(Value::empty());
+        if bytes.len() <= BLOCK_LIMIT {
+            return Value::of_slice(*bytes.allocator(), bytes.as_slice());
         }
         let shared = ArcSlice::from_vec(bytes)?;
+        Ok(Value {
+            held: Held::Shared(shared),
+        })
+    }
+
+    /// The value with a copy of these bytes. A few of them take no memory.
+    pub fn of_slice(alloc: Global, bytes: &[u8]) -> Result<Value, NoMemory>
+        requires { length bytes.now ≤ MAX_VALUE_LIMIT }
+        ensures { IfOk result (λ value. value ≡ bytes.now) }
+    {
+        if bytes.len() <= BLOCK_LIMIT {
+            let held = Held::of_slice(alloc, bytes)?;
+            return Ok(Value { held });
+        }
+        let shared = ArcSlice::from_slice(alloc, bytes)?;
         Ok(Value {
             held: Held::Shared(shared),
         })
@@ -72,7 +77,9 @@ impl Value {
     pub fn empty() -> Value
         ensures { result ≡ [] }
     {
-        Value { held: Held::Empty }
+        Value {
+            held: Held::empty(),
+        }
     }
 
     /// The text of a number: its decimal digits, without padding.
@@ -81,37 +88,31 @@ impl Value {
         ensures short { IfOk result (λ value. length value ≤ DIGIT_LIMIT) }
     {
         let mut buffer = Buffer::new();
-        let bytes = Vec::from_slice(alloc, buffer.format(number).as_bytes())?;
-        Value::new(bytes)
+        Value::of_slice(alloc, buffer.format(number).as_bytes())
     }
 
     /// The bytes of the value.
     pub fn bytes(&self) -> &[u8]
         ensures value { result.now ≡ self.now }
-        ensures within { length self.now ≤ GREATEST_VALUE_LIMIT }
+        ensures within { length self.now ≤ MAX_VALUE_LIMIT }
     {
-        match &self.held {
-            Held::Empty => &[],
-            Held::Shared(bytes) => bytes.as_slice(),
-            Held::Copied(bytes) => bytes.as_slice(),
-        }
+        self.held.bytes()
     }
 
-    /// Writes the value. An outlet that keeps what it is given may share it.
-    pub fn put_to<O: Outlet>(&self, out: &mut O) -> Result<(), OutFault>
+    /// Writes the value. A sink that keeps what it is given may share it.
+    pub fn put_to<O: Sink>(&self, out: &mut O) -> Result<(), SinkError>
         ensures { Writes self.now result (O.sight out.old) (O.sight out.new) }
     {
         match &self.held {
-            Held::Empty => put_all(out, &[]),
             Held::Shared(block) => out.put_shared(block),
-            Held::Copied(block) => put_all(out, block.as_slice()),
+            _ => write_all(out, self.bytes()),
         }
     }
 
     /// How many bytes the value has.
     pub fn len(&self) -> usize
         ensures value { result ≡ length self.now }
-        ensures within { result ≤ GREATEST_VALUE_LIMIT }
+        ensures within { result ≤ MAX_VALUE_LIMIT }
     {
         self.bytes().len()
     }
@@ -123,8 +124,8 @@ impl Value {
         self.bytes().is_empty()
     }
 
-    /// The number that the value holds (protocol.txt, "Increment/Decrement"): 1 to 20 digits, and after them spaces
-    /// alone.
+    /// The number that the value holds (protocol.txt, "Increment/Decrement"): 1 to 20 digits, and
+    /// after them spaces alone.
     #[tactic(auto, unfolding(crate::specs::Value::number_in))]
     pub fn number(&self) -> Option<u64>
         ensures { result ≡ number_in self.now }
@@ -139,23 +140,16 @@ impl Value {
         number_u64(&bytes[..space]).ok()
     }
 
-    /// The value once more, which shares the bytes. Where they can have no further owner, or are a copy themselves, it has a
-    /// copy of them, for which the reserve is used up.
+    /// The value once more, which shares the bytes. Where they can have no further owner, or are a
+    /// copy themselves, it has a copy of them, for which the reserve is used up.
     pub fn shared(&self, reserve: &mut Option<Reserve>) -> Value
         requires { IsSome reserve.old }
         ensures value { result ≡ self.now }
         ensures reserve { (reserve.new ≡ reserve.old) ⊎ (reserve.new ≡ None) }
     {
-        let bytes = match &self.held {
-            Held::Empty => return Value::empty(),
-            Held::Shared(bytes) => bytes,
-            Held::Copied(_) => return self.copied(reserve),
-        };
-        let Ok(bytes) = bytes.clone() else {
-            return self.copied(reserve);
-        };
-        Value {
-            held: Held::Shared(bytes),
+        match self.held.share() {
+            Ok(held) => Value { held },
+            Err(_refused) => self.copied(reserve),
         }
     }
 
@@ -173,9 +167,10 @@ impl Value {
         }
     }
 
-    /// The value with the block after it, as by `append`, or before it, as by `prepend`. Both stay as they are.
+    /// The value with the block after it, as by `append`, or before it, as by `prepend`. Both stay
+    /// as they are.
     pub fn joined(&self, alloc: Global, block: &Value, after: bool) -> Result<Value, NoMemory>
-        requires { length self.now + length block.now ≤ GREATEST_VALUE_LIMIT }
+        requires { length self.now + length block.now ≤ MAX_VALUE_LIMIT }
         ensures { IfOk result (λ value. value ≡ joined self.now block.now after) }
     {
         let (front, back) = if after { (self, block) } else { (block, self) };
@@ -205,9 +200,8 @@ impl Clone for Value {
 
     fn clone(&self) -> Result<Value, AllocError> {
         let held = match &self.held {
-            Held::Empty => Held::Empty,
-            Held::Shared(bytes) => Held::Shared(bytes.clone()?),
             Held::Copied(bytes) => Held::Copied(bytes.clone()?),
+            _ => self.held.share()?,
         };
         Ok(Value { held })
     }

@@ -1,10 +1,10 @@
-//! Lengths of replies: they are written to an outlet that counts bytes.
+//! Lengths of replies: they are written to a sink that counts bytes.
 ghost use Rattle.std.specs.Prelude.{◌≡◌, ◌-◌, ◌^◌, ◌<◌, IsTrue, false};
-ghost use Rattle.mc_wire.specs.Outlet.{Counted, sight_out};
+ghost use Rattle.mc_wire.specs.Sink.{Counted, sight_out};
 
-use mc_wire::{OutFault, Outlet};
+use mc_wire::{Sink, SinkError};
 
-/// An outlet that counts bytes and stores none. It fails beyond `u64::MAX`.
+/// A sink that counts bytes and stores none. It fails beyond `u64::MAX`.
 #[derive(Drop)]
 pub(crate) struct ByteCounter {
     pub(crate) count: u64,
@@ -16,7 +16,7 @@ pub(crate) struct ByteCounter {
 impl ByteCounter {
     /// A counter at 0.
     pub(crate) fn new() -> ByteCounter
-        ensures sight { ⟦<ByteCounter as Outlet>⟧.sight result ≡ sight_out (Counted 0) false }
+        ensures sight { ⟦<ByteCounter as Sink>⟧.sight result ≡ sight_out (Counted 0) false }
     {
         ByteCounter {
             count: 0,
@@ -25,14 +25,14 @@ impl ByteCounter {
     }
 }
 
-impl Outlet for ByteCounter {
+impl Sink for ByteCounter {
     ghost sight = { λ counter. sight_out (Counted counter.count) counter.full };
 
-    fn write(&mut self, bytes: &[u8]) -> Result<usize, OutFault> {
+    fn write(&mut self, bytes: &[u8]) -> Result<usize, SinkError> {
         let room = u64::MAX - self.count;
         if room == 0 && !bytes.is_empty() {
             self.full = true;
-            return Err(OutFault);
+            return Err(SinkError);
         }
         let count = room.min(bytes.len() as u64);
         self.count += count;

@@ -1,9 +1,9 @@
-//! Reordering of replies: the forms of open commands, and the answers held until all earlier
-//! replies are written.
+//! Reordering of replies: the pending replies of open commands, and the answers held until all
+//! earlier replies are written.
 #![tactic(auto)]
 
-mod joiner;
 mod length;
 mod queue;
+mod reorder_buffer;
 
-pub use joiner::{Full, Gone, Joiner, Stranger};
+pub use reorder_buffer::{Full, Gone, ReorderBuffer, UnexpectedReply};

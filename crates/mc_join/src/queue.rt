@@ -1,59 +1,64 @@
-//! The queue of the open tickets' forms.
+//! The queue of the open tickets' pending replies.
 ghost use Rattle.std.specs.Prelude.{◌≡◌, ◌<◌, ◌≤◌, [], ◌∷◌, ◌++◌, IsTrue, false, Some, None, drop, length, map, ◌↔◌};
 ghost use Rattle.std.specs.List.{concat, prefix_len};
 ghost use Rattle.mc_ring.specs.Reply.{shown};
-ghost use Rattle.mc_reply.specs.declared.form.Form.{Form};
-ghost use Rattle.mc_wire.specs.Outlet.{Writes};
+ghost use Rattle.mc_reply.specs.declared.pending_reply.PendingReply.{PendingReply};
+ghost use Rattle.mc_wire.specs.Sink.{Writes};
 ghost use Rattle.mc_join.specs.Held.{Awaits, Fills, HasPart, IsDue};
 ghost use Rattle.mc_join.specs.Length.{capped};
-ghost use Rattle.mc_join.specs.Replies.{complete, form_text, is_answered};
+ghost use Rattle.mc_join.specs.Replies.{complete, pending_reply_text, is_answered};
 
 use crate::length::ByteCounter;
 use circular_buffer::HeapCircularBuffer;
 use mc_item::Answer;
-use mc_reply::{Form, put_reply};
+use mc_reply::{PendingReply, put_reply};
 use mc_ring::Reply;
-use mc_wire::{OutFault, Outlet};
+use mc_wire::{Sink, SinkError};
 
-/// Appends a form. If the queue is full, the form is dropped.
-pub(crate) fn add(forms: &mut HeapCircularBuffer<Form>, form: Form) -> bool
-    ensures added { IsTrue result → forms.new.items ≡ forms.old.items ++ form ∷ [] }
-    ensures room { length forms.old.items < forms.old.capacity → IsTrue result }
+/// Appends a pending reply. If the queue is full, the pending reply is dropped.
+pub(crate) fn add(
+    pending_replies: &mut HeapCircularBuffer<PendingReply>,
+    pending_reply: PendingReply,
+) -> bool
+    ensures added { IsTrue result → pending_replies.new.items ≡ pending_replies.old.items ++
+        pending_reply ∷ [] }
+    ensures room { length pending_replies.old.items < pending_replies.old.capacity → IsTrue result }
     ensures full { result ≡ false →
-        (forms.new ≡ forms.old) × (length forms.old.items ≡ forms.old.capacity) }
-    ensures capacity { forms.new.capacity ≡ forms.old.capacity }
+        (pending_replies.new ≡ pending_replies.old) ×
+        (length pending_replies.old.items ≡ pending_replies.old.capacity) }
+    ensures capacity { pending_replies.new.capacity ≡ pending_replies.old.capacity }
 {
-    if forms.len() >= forms.capacity() {
-        let_go(form);
+    if pending_replies.len() >= pending_replies.capacity() {
+        drop_cold(pending_reply);
         return false;
     }
-    match forms.try_push_back(form) {
+    match pending_replies.try_push_back(pending_reply) {
         Ok(()) => true,
-        // Never reached, since there is space. Dropping the form in this arm would move it field by
-        // field.
-        Err(form) => {
-            let_go(form);
+        // Never reached, since there is space. Dropping the pending reply in this arm would move it
+        // field by field.
+        Err(pending_reply) => {
+            drop_cold(pending_reply);
             false
         }
     }
 }
 
-/// Drops a form. Out of line, so that the form appended on the hot path is moved as a whole
-/// (docs/DECISIONS.md, F20).
+/// Drops a pending reply. Out of line, so that the pending reply appended on the hot path is moved
+/// as a whole (docs/DECISIONS.md, F20).
 #[cold]
 #[inline(never)]
-fn let_go(_form: Form) {}
+fn drop_cold(_pending_reply: PendingReply) {}
 
-/// Number of leading forms that are completely answered.
-pub(crate) fn count_complete(forms: &HeapCircularBuffer<Form>) -> usize
-    ensures count { result ≡ prefix_len is_answered forms.now.items }
-    ensures within { result ≤ length forms.now.items }
+/// Number of leading pending replies that are completely answered.
+pub(crate) fn count_complete(pending_replies: &HeapCircularBuffer<PendingReply>) -> usize
+    ensures count { result ≡ prefix_len is_answered pending_replies.now.items }
+    ensures within { result ≤ length pending_replies.now.items }
 {
     // Read so that the count is known to fit.
-    let _len = forms.len();
+    let _len = pending_replies.len();
     let mut count = 0;
-    for form in forms.iter() {
-        if !is_complete(form) {
+    for pending_reply in pending_replies.iter() {
+        if !is_complete(pending_reply) {
             return count;
         }
         count += 1;
@@ -61,82 +66,91 @@ pub(crate) fn count_complete(forms: &HeapCircularBuffer<Form>) -> usize
     count
 }
 
-/// Whether each part of a form is answered.
-fn is_complete(form: &Form) -> bool
-    ensures { result ≡ is_answered form.now }
+/// Whether each part of a pending reply is answered.
+fn is_complete(pending_reply: &PendingReply) -> bool
+    ensures { result ≡ is_answered pending_reply.now }
 {
-    form.slots.is_filled()
+    pending_reply.slots.is_filled()
 }
 
-/// Writes the replies of the leading answered forms. On an error, a prefix was written.
-pub(crate) fn put_first<O: Outlet>(
+/// Writes the replies of the leading answered pending replies. On an error, a prefix was written.
+pub(crate) fn put_first<O: Sink>(
     out: &mut O,
-    forms: &HeapCircularBuffer<Form>,
-) -> Result<(), OutFault>
-    ensures { Writes (concat (map form_text (complete forms.now.items))) result (O.sight out.old)
+    pending_replies: &HeapCircularBuffer<PendingReply>,
+) -> Result<(), SinkError>
+    ensures { Writes (concat (map pending_reply_text (complete pending_replies.now.items))) result
+        (O.sight out.old)
         (O.sight out.new) }
 {
-    for form in forms.iter() {
-        if !is_complete(form) {
+    for pending_reply in pending_replies.iter() {
+        if !is_complete(pending_reply) {
             return Ok(());
         }
-        put_due(out, form)?;
+        put_due(out, pending_reply)?;
     }
     Ok(())
 }
 
 /// Writes the reply of a completely answered form.
-fn put_due<O: Outlet>(out: &mut O, form: &Form) -> Result<(), OutFault>
-    requires { IsDue form.now }
-    ensures { Writes (form_text form.now) result (O.sight out.old) (O.sight out.new) }
+fn put_due<O: Sink>(out: &mut O, pending_reply: &PendingReply) -> Result<(), SinkError>
+    requires { IsDue pending_reply.now }
+    ensures { Writes (pending_reply_text pending_reply.now) result (O.sight out.old)
+        (O.sight out.new) }
 {
-    put_reply(out, form)
+    put_reply(out, pending_reply)
 }
 
-/// Drops the first `count` forms. If none is left, the queue restarts at its first place, so that a
-/// connection that waits for each reply touches few cache lines.
-pub(crate) fn drop_first(forms: &mut HeapCircularBuffer<Form>, count: usize)
-    requires { count ≤ length forms.old.items }
-    ensures items { forms.new.items ≡ drop count forms.old.items }
-    ensures capacity { forms.new.capacity ≡ forms.old.capacity }
+/// Drops the first `count` pending replies. If none is left, the queue restarts at its first place,
+/// so that a connection that waits for each reply touches few cache lines. See docs/DECISIONS.md,
+/// F19.
+pub(crate) fn drop_first(pending_replies: &mut HeapCircularBuffer<PendingReply>, count: usize)
+    requires { count ≤ length pending_replies.old.items }
+    ensures items { pending_replies.new.items ≡ drop count pending_replies.old.items }
+    ensures capacity { pending_replies.new.capacity ≡ pending_replies.old.capacity }
 {
-    let left = forms.len() - count;
+    let left = pending_replies.len() - count;
     if left == 0 {
-        forms.clear();
+        pending_replies.clear();
         return;
     }
-    forms.truncate_front(left);
+    pending_replies.truncate_front(left);
 }
 
 /// Total length of these replies in bytes.
-pub(crate) fn texts_len(forms: &HeapCircularBuffer<Form>) -> u64
-    ensures { result ≡ capped (length (concat (map form_text (complete forms.now.items)))) }
+pub(crate) fn texts_len(pending_replies: &HeapCircularBuffer<PendingReply>) -> u64
+    ensures { result ≡ capped
+        (length (concat (map pending_reply_text (complete pending_replies.now.items)))) }
 {
     let mut counter = ByteCounter::new();
     // A full counter reports the maximum.
-    let _ = put_first(&mut counter, forms);
+    let _ = put_first(&mut counter, pending_replies);
     counter.count
 }
 
-/// Whether a form expects the reply: the part exists, has no answer yet, and is of the reply's
-/// kind.
-pub(crate) fn awaits(form: &Form, reply: &Reply) -> bool
-    ensures { IsTrue result ↔ Awaits form.now (shown reply.now) }
+/// Whether a pending reply expects the reply: the part exists, has no answer yet, and is of the
+/// reply's kind.
+pub(crate) fn awaits(pending_reply: &PendingReply, reply: &Reply) -> bool
+    ensures { IsTrue result ↔ Awaits pending_reply.now (shown reply.now) }
 {
-    match form.slots.answers().get(reply.part) {
-        Some(None) => form.kind == reply.kind,
+    match pending_reply.slots.answers().get(reply.part) {
+        Some(None) => pending_reply.kind == reply.kind,
         Some(Some(_)) | None => false,
     }
 }
 
-/// Stores an answer in the slot of a part of the form at this index.
-pub(crate) fn fill(forms: &mut HeapCircularBuffer<Form>, place: usize, part: usize, answer: Answer)
-    requires { HasPart forms.old.items place part }
-    ensures items { Fills forms.old.items forms.new.items place part answer }
-    ensures capacity { forms.new.capacity ≡ forms.old.capacity }
+/// Stores an answer in the slot of a part of the pending reply at this index.
+pub(crate) fn fill(
+    pending_replies: &mut HeapCircularBuffer<PendingReply>,
+    place: usize,
+    part: usize,
+    answer: Answer,
+)
+    requires { HasPart pending_replies.old.items place part }
+    ensures items { Fills pending_replies.old.items pending_replies.new.items place part answer }
+    ensures capacity { pending_replies.new.capacity ≡ pending_replies.old.capacity }
 {
-    let Some(form) = forms.get_mut(place) else {
+    let Some(pending_reply) = pending_replies.get_mut(place) else {
         unreachable!()
     };
-    form.fill(part, answer);
+    pending_reply.fill(part, answer);
 }

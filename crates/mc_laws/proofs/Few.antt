@@ -1,5 +1,7 @@
 -- How much the bytes of a connection ask for at most: 2 ^ 63 commands, and 8,388,608 pieces each.
-use Rattle.std.proofs.Common.{◌≡◌, ◌==◌, ℕ, zero, suc, ◌+◌, ◌-◌, ◌*◌, ◌<◌, ◌≤◌, true, false, List, [], ◌∷◌, length, map, take, sym, ap, ◌∙◌, subst, arith, inl, inr, length-append, slice_index, Option, Some, None}
+use Rattle.std.proofs.Common.{◌≡◌, ◌==◌, ℕ, zero, suc, ◌+◌, ◌-◌, ◌*◌, ◌<◌, ◌≤◌, true, false, List, [], ◌∷◌, length, map}
+use Rattle.std.proofs.Common.{take, sym, ap, ◌∙◌, subst, arith, inl, inr, length-append, slice_index, Option, Some}
+use Rattle.std.proofs.Common.{None}
 use Rattle.std.specs.List.{slice_split}
 use Rattle.std.proofs.lemmas.Bool.{cases_Bool, cases_lt, or_parts}
 use Rattle.std.proofs.lemmas.Bool.Decides.{eqb_tells}
@@ -12,12 +14,14 @@ use Rattle.mc_command.specs.declared.command.Command.{Command}
 use Rattle.mc_command.specs.declared.command.Command.TheVariants as command
 use Rattle.mc_command.specs.declared.command.StatsRequest.TheVariants as request
 use Rattle.mc_command.specs.Command.{with_block}
-use Rattle.mc_command.specs.declared.refusal.Refusal.{Refusal}
+use Rattle.mc_command.specs.declared.error.CommandError.{CommandError}
 use Rattle.mc_command.proofs.Few.{AsksFew, FewLine, few_line}
 use Rattle.mc_sizes.specs.Sizes.{rules_of}
 use Rattle.mc_sizes.specs.declared.sizes.Sizes.{Sizes}
-use Rattle.mc_reader.specs.Spelling.{IsLine, Spells, SpellsFront, closes, is_last, line_says, most_commands, skip_entry, without_return}
-use Rattle.mc_reader.specs.Spelling.Spells.{line as of_line, refused as of_refused, block as of_block, bad_block as of_bad_block, skipped as of_skipped, long as of_long}
+use Rattle.mc_reader.specs.Spelling.{IsLine, Spells, SpellsFront, closes, is_last, line_says, most_commands, skip_entry}
+use Rattle.mc_reader.specs.Spelling.{without_return}
+use Rattle.mc_reader.specs.Spelling.Spells.{line as of_line, refused as of_refused, block as of_block}
+use Rattle.mc_reader.specs.Spelling.Spells.{bad_block as of_bad_block, skipped as of_skipped, long as of_long}
 use Rattle.mc_reader.proofs.Fronts.{every_input}
 use Rattle.mc_item.specs.declared.op.Op.{Op}
 use Rattle.mc_item.specs.declared.op.Op.TheVariants as op
@@ -49,7 +53,8 @@ shorter line = elim (cases_Bool (slice_index line (length line - 1) == 13)) [
 ]
 
 -- the command of a line has few keys
-says_few : (rules : Rules) (text line : List ℕ) → IsLine rules text line → FewLine rules.line_limit (line_says rules line)
+says_few : (rules : Rules) (text line : List ℕ) → IsLine rules text line
+    → FewLine rules.line_limit (line_says rules line)
 says_few rules text line is =
     let words = words_few (without_return line) in
     let cut = shorter line in
@@ -57,24 +62,31 @@ says_few rules text line is =
     let short : length text ≤ rules.line_limit = is.short in
     few_line rules.line_limit rules (words_of (without_return line)) (omega (arith, words, cut, long, short))
 
-with_few : (most : ℕ) (asked : Command) (data_block : List ℕ) → AsksFew most asked → AsksFew most (with_block asked data_block)
+with_few : (most : ℕ) (asked : Command) (data_block : List ℕ) → AsksFew most asked
+    → AsksFew most (with_block asked data_block)
 with_few most (command.Store storage) data_block few = tt
 with_few most (command.MetaSet set) data_block few = tt
 with_few most (command.Get retrieval) data_block few = few
 with_few most other data_block few = tt
 
-skip_few : (most : ℕ) (discarded : Option (List ℕ)) (refusal : Refusal) → AsksFew most (skip_entry discarded refusal)
+skip_few : (most : ℕ) (discarded : Option (List ℕ)) (refusal : CommandError)
+    → AsksFew most (skip_entry discarded refusal)
 skip_few most None refusal = tt
 skip_few most (Some key) refusal = tt
 
 -- What is spelled asks for few keys.
-spells_few : (rules : Rules) (text : List ℕ) (entry : Command) → Spells rules text entry → AsksFew rules.line_limit entry
+spells_few : (rules : Rules) (text : List ℕ) (entry : Command) → Spells rules text entry
+    → AsksFew rules.line_limit entry
 spells_few rules text entry (of_line line is said) = subst (FewLine rules.line_limit) said (says_few rules text line is)
-spells_few rules text entry (of_refused line refusal is said entry_is) = subst (AsksFew rules.line_limit) (sym entry_is) tt
+spells_few rules text entry (of_refused line refusal is said entry_is) =
+    subst (AsksFew rules.line_limit) (sym entry_is) tt
 spells_few rules text entry (of_block head line data_block asked is text_is said entry_is) =
-    subst (AsksFew rules.line_limit) (sym entry_is) (with_few rules.line_limit asked data_block (subst (FewLine rules.line_limit) said (says_few rules head line is)))
-spells_few rules text entry (of_bad_block head line chunk ends asked is text_is two bad said entry_is) = subst (AsksFew rules.line_limit) (sym entry_is) tt
-spells_few rules text entry (of_skipped head line skipped discarded refusal is text_is said entry_is) = subst (AsksFew rules.line_limit) (sym entry_is) (skip_few rules.line_limit discarded refusal)
+    subst (AsksFew rules.line_limit) (sym entry_is)
+    (with_few rules.line_limit asked data_block (subst (FewLine rules.line_limit) said (says_few rules head line is)))
+spells_few rules text entry (of_bad_block head line chunk ends asked is text_is two bad said entry_is) =
+    subst (AsksFew rules.line_limit) (sym entry_is) tt
+spells_few rules text entry (of_skipped head line skipped discarded refusal is text_is said entry_is) =
+    subst (AsksFew rules.line_limit) (sym entry_is) (skip_few rules.line_limit discarded refusal)
 spells_few rules text entry (of_long is no_end entry_is) = subst (AsksFew rules.line_limit) (sym entry_is) tt
 
 shards_few : (shards : ℕ) (op : Op) → shards ≤ 64 → length (asked_of_all shards op) ≤ 8388608
@@ -83,18 +95,24 @@ shards_few shards op small =
     omega (arith, long, small)
 
 -- So it has few pieces: one a key, or one a shard.
-pieces_few : (most shards : ℕ) (asked : Command) → shards ≤ 64 → most ≤ 8388608 → AsksFew most asked → length (pieces_of shards asked) ≤ 8388608
+pieces_few : (most shards : ℕ) (asked : Command) → shards ≤ 64 → most ≤ 8388608 → AsksFew most asked
+    → length (pieces_of shards asked) ≤ 8388608
 unfolding pieces_of
-pieces_few most shards (command.Get retrieval) small room few = let long : length (pieces_of shards (command.Get retrieval)) ≡ length retrieval.keys = length-map retrieval.keys _ in omega (arith, long, few, room)
+pieces_few most shards (command.Get retrieval) small room few =
+    let long : length (pieces_of shards (command.Get retrieval)) ≡ length retrieval.keys =
+    length-map retrieval.keys _ in omega (arith, long, few, room)
 pieces_few most shards (command.FlushAll delay noreply) small room few = shards_few shards (op.Flush delay) small
 pieces_few most shards (command.Stats request.General) small room few = shards_few shards op.Stats small
 pieces_few most shards (command.Stats request.Reset) small room few = shards_few shards op.ResetStats small
 pieces_few most shards other small room few = omega arith
 
 -- Behind a command that isn't a last one there is room for another.
-not_yet : (before : ℕ) (entry : Command) → before < most_commands → is_last before entry ≡ false → before + 1 < most_commands
+not_yet : (before : ℕ) (entry : Command) → before < most_commands → is_last before entry ≡ false
+    → before + 1 < most_commands
 not_yet before entry room goes = elim (eqb_tells (before + 1) most_commands) [
-  | inl here ↦ let never = (or_parts (closes entry) (before + 1 == most_commands) goes).1 in absurd (let e : true ≡ false = sym here.0 ∙ never in cc)
+  | inl here ↦ let never =
+      (or_parts (closes entry) (before + 1 == most_commands) goes).1 in
+      absurd (let e : true ≡ false = sym here.0 ∙ never in cc)
   | inr other ↦ elim (cases_lt (before + 1) most_commands) [
     | inl less ↦ less
     | inr past ↦ absurd (other.1 (omega (arith, room, past)))
@@ -102,7 +120,8 @@ not_yet before entry room goes = elim (eqb_tells (before + 1) most_commands) [
 ]
 
 -- The commands of a stream have few steps, and they are not more than a connection takes.
-pub front_few : (rules : Rules) (shards before : ℕ) (input : List ℕ) (commands : List Command) (rest : List ℕ) → shards ≤ 64 → rules.line_limit ≤ 8388608 → before < most_commands → SpellsFront rules before input commands rest →
+pub front_few : (rules : Rules) (shards before : ℕ) (input : List ℕ) (commands : List Command) (rest : List ℕ)
+    → shards ≤ 64 → rules.line_limit ≤ 8388608 → before < most_commands → SpellsFront rules before input commands rest →
     (steps_of shards commands ≤ length commands * 33554434) × (before + length commands ≤ most_commands)
 front_few rules shards before input [] rest small short room front = (omega arith, omega (arith, room))
 front_few rules shards before input (entry ∷ commands) rest small short room front =
@@ -122,7 +141,8 @@ front_few rules shards before input (entry ∷ commands) rest small short room f
 
 -- The connections have at most 2 ^ 88 + 2 ^ 64 + 2 steps each: no more than 2 ^ 63 commands, of no more than
 -- 8,388,608 pieces.
-pub all_few : (sizes : Sizes) (links : List Link) → sizes.shards ≤ 64 → sizes.line ≤ 8388608 → steps_of_all sizes.shards (map (spelled_by sizes) links) ≤ length links * 309485028268089142434332674
+pub all_few : (sizes : Sizes) (links : List Link) → sizes.shards ≤ 64 → sizes.line ≤ 8388608
+    → steps_of_all sizes.shards (map (spelled_by sizes) links) ≤ length links * 309485028268089142434332674
 all_few sizes [] small short = omega arith
 all_few sizes (link ∷ links) small short =
     let all = every_input (rules_of sizes) link.fed in

@@ -15,7 +15,7 @@ use Rattle.mc_item.specs.declared.op.Op.{Op}
 use Rattle.mc_item.specs.declared.op.Op.TheVariants as op
 use Rattle.mc_item.specs.Expiry.{expiry_of, is_dead}
 use Rattle.mc_item.specs.Kind.{key_of}
-use Rattle.mc_item.specs.Tally.{counting_of}
+use Rattle.mc_item.specs.OpStats.{counting_of}
 use Rattle.mc_store.specs.State.{State, Used, items_after, turns_after, entered, first}
 use Rattle.mc_store.specs.Step.{Answers, IsStep, noted_in, step_of}
 use Rattle.mc_store.specs.Rows.{fetched_item}
@@ -26,7 +26,18 @@ use Rattle.mc_model.specs.Sized.{empty_shard}
 use Rattle.mc_model.specs.Log.{Entry, IsLawful}
 
 abbrev two : Sizes
-two = record { profile = Own; seats = 2; shards = 2; bytes = 1024; ring = 1; value = 1024; line = 65536; window = 1 }
+two =
+    record {
+      profile = Own;
+      seats = 2;
+      shards = 2;
+      bytes = 1024;
+      ring = 1;
+      value = 1024;
+      line = 65536;
+      window = 1;
+      shutdown = false;
+    }
 
 -- keys of the first and of the second shard
 abbrev a : List ℕ
@@ -36,7 +47,16 @@ abbrev b : List ℕ
 b = codes "b"
 
 abbrev store : List ℕ → Op
-store key = op.Store (record { key = key; mode = mode.Set; compare = None; unique = None; flags = 0; exptime = pos 0; value = codes "2" })
+store key =
+    op.Store (record {
+      key = key;
+      mode = mode.Set;
+      compare = None;
+      unique = None;
+      flags = 0;
+      exptime = pos 0;
+      value = codes "2";
+    })
 
 -- a shard at the second 1000, which holds nothing
 abbrev old : ℕ → State
@@ -47,7 +67,17 @@ abbrev missed : State
 missed = noted_in (old 1) (old 1) (op.Fetch b None) Miss
 
 abbrev item : ℕ → Item
-item unique = record { value = codes "2"; flags = 0; expiry = Never; unique = unique; last_access = 1000; fetched = false; stale = false; sent = false }
+item unique =
+    record {
+      value = codes "2";
+      flags = 0;
+      expiry = Never;
+      unique = unique;
+      last_access = 1000;
+      fetched = false;
+      stale = false;
+      sent = false;
+    }
 
 -- a shard in which the key was stored
 abbrev holding : State → List ℕ → ℕ → State
@@ -78,7 +108,9 @@ stored = new (old 0) a 1
 
 found : get stored.items a ≡ Some (record { item = item 1; number = 1 })
 unfolding items_after turns_after
-found = fitting_key (insert empty a (record { item = item 1; number = 1 })) 1024 a ∙ get_here empty a (record { item = item 1; number = 1 })
+found =
+    fitting_key (insert empty a (record { item = item 1; number = 1 })) 1024 a
+    ∙ get_here empty a (record { item = item 1; number = 1 })
 
 -- and was got
 abbrev got : State
@@ -93,11 +125,19 @@ hits = (got, inr (rw (found, found)), refl)
 
 -- what a connection asks of a shard for its command of that number
 abbrev entry : ℕ → ℕ → ℕ → ℕ → Op → Answer → Entry
-entry shard asker ticket part asked answer = record { shard = shard; asker = asker; piece = record { ticket = ticket_at ticket; part = part; op = asked; moment = 1000 }; answer = answer }
+entry shard asker ticket part asked answer =
+    record {
+      shard = shard;
+      asker = asker;
+      piece = record { ticket = ticket_at ticket; part = part; op = asked; moment = 1000 };
+      answer = answer;
+    }
 
 -- The first connection gets both keys; the second one stores b, and then a. The get misses b, though it hits a.
 abbrev log : List Entry
-log = entry 1 0 0 1 (op.Fetch b None) Miss ∷ entry 1 1 0 0 (store b) Stored ∷ entry 0 1 1 0 (store a) Stored ∷ entry 0 0 0 0 (op.Fetch a None) (Hit 0 1 (codes "2")) ∷ []
+log =
+    entry 1 0 0 1 (op.Fetch b None) Miss ∷ entry 1 1 0 0 (store b) Stored ∷ entry 0 1 1 0 (store a) Stored ∷ entry 0 0 0
+    0 (op.Fetch a None) (Hit 0 1 (codes "2")) ∷ []
 
 pub lawful : IsLawful two log
 lawful zero below = (last, (stored, stores_a, (last, hits, refl)))

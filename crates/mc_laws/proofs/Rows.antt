@@ -1,6 +1,7 @@
 -- Worked rows: in each the premises of a law hold, and something is done. One connection after another
 -- flushes one shard.
-use Rattle.std.proofs.Common.{◌≡◌, ◌≢◌, ℕ, zero, suc, ◌+◌, ◌*◌, ◌<◌, ◌≤◌, inl, inr, List, [], ◌∷◌, length, Some, None, refl, sym, ap, ◌∙◌, arith, lit<, subst}
+use Rattle.std.proofs.Common.{◌≡◌, ◌≢◌, ℕ, zero, suc, ◌+◌, ◌*◌, ◌<◌, ◌≤◌, inl, inr, List, [], ◌∷◌, length, Some, None}
+use Rattle.std.proofs.Common.{refl, sym, ap, ◌∙◌, arith, lit<, subst}
 use Rattle.std.specs.List.{slice_get}
 use Rattle.std.proofs.lemmas.Bool.Decides.{eqb_tells}
 use Rattle.std.proofs.lemmas.Option.{same_Some}
@@ -25,10 +26,20 @@ use Rattle.mc_laws.specs.Fair.{EndlessRun, Eventually, HasNoInput, IsFairToSeats
 use Rattle.mc_laws.specs.Order.{HappensBefore, IsPieceOf}
 use Rattle.mc_laws.proofs.Measure.{work_inside}
 use Rattle.mc_sim.proofs.AtSeat.{not_one_more}
-use Rattle.mc_model.proofs.Rows.{one_each, line, flush, one, piece, fed, taken, sent, given, received, handed, ended, alone, only, only_two, begins, all_taken, come, at_rest}
+use Rattle.mc_model.proofs.Rows.{one_each, line, flush, one, piece, fed, taken, sent, given, received, handed, ended}
+use Rattle.mc_model.proofs.Rows.{alone, only, only_two, begins, all_taken, come, at_rest}
 
 within : AreWithin one_each
-within = record { seats = (lit< tt, lit< tt); shards = (lit< tt, lit< tt); bytes = (lit< tt, lit< tt); ring = (lit< tt, lit< tt); value = (lit< tt, lit< tt); line = (lit< tt, lit< tt); window = (lit< tt, lit< tt) }
+within =
+    record {
+      seats = (lit< tt, lit< tt);
+      shards = (lit< tt, lit< tt);
+      bytes = (lit< tt, lit< tt);
+      ring = (lit< tt, lit< tt);
+      value = (lit< tt, lit< tt);
+      line = (lit< tt, lit< tt);
+      window = (lit< tt, lit< tt);
+    }
 
 -- the connection of this number has its piece run
 abbrev ran_for : ℕ → Entry
@@ -39,10 +50,12 @@ abbrev both : List Entry → Link → World
 both log link = record { log = log; links = ended ∷ link ∷ [] }
 
 first_at : (log : List Entry) (link : Link) → link.seat ≡ 0 → IsAt (alone log link) 0 0 link
-first_at log link seat = record { here = refl; seat_is = seat; last = λ j other less here same. only link other j less here }
+first_at log link seat =
+    record { here = refl; seat_is = seat; last = λ j other less here same. only link other j less here }
 
 second_at : (log : List Entry) (link : Link) → link.seat ≡ 0 → IsAt (both log link) 0 1 link
-second_at log link seat = record { here = refl; seat_is = seat; last = λ j other less here same. only_two ended link other j less here }
+second_at log link seat =
+    record { here = refl; seat_is = seat; last = λ j other less here same. only_two ended link other j less here }
 
 abbrev before : State
 before = empty_state 0 1 1024 0 1024
@@ -60,15 +73,38 @@ after = once at_flush
 
 runs : RunsNext one_each (alone [] sent) 0 0 sent (ran_for 0)
 unfolding IsStep Answers step_of pieces_of expiry_of kind_of key_of
-runs = record { shard_is = refl; asker_is = refl; next = refl; before = before; after = after; left = refl; step = (at_flush, inr refl, refl) }
+runs =
+    record {
+      shard_is = refl;
+      asker_is = refl;
+      next = refl;
+      before = before;
+      after = after;
+      left = refl;
+      step = (at_flush, inr refl, refl);
+    }
 
 runs_again : RunsNext one_each (both (ran_for 0 ∷ []) sent) 0 1 sent (ran_for 1)
 unfolding IsStep Answers step_of pieces_of expiry_of kind_of key_of
-runs_again = record { shard_is = refl; asker_is = refl; next = refl; before = after; after = once after; left = (after, (at_flush, inr refl, refl), refl); step = (after, inr refl, refl) }
+runs_again =
+    record {
+      shard_is = refl;
+      asker_is = refl;
+      next = refl;
+      before = after;
+      after = once after;
+      left = (after, (at_flush, inr refl, refl), refl);
+      step = (after, inr refl, refl);
+    }
 
 -- the steps of the server for the first connection
 took : Happens one_each (alone [] fed) (Take 0 1000) Done (alone [] taken)
-took = (0, fed, (first_at [] fed refl, (flush, begins), lit< tt, refl), (one, record { next = begins; moment_is = refl; may = λ gone. absurd (cc) }, refl))
+took = (
+  0,
+  fed,
+  (first_at [] fed refl, (flush, begins), lit< tt, refl),
+  (one, record { next = begins; moment_is = refl; may = λ gone. absurd (cc) }, refl),
+)
 
 sends : Happens one_each (alone [] taken) (Send 0) Done (alone [] sent)
 unfolding pieces_of
@@ -85,36 +121,72 @@ got : Happens one_each (alone (ran_for 0 ∷ []) given) (Receive 0 0) Done (alon
 got = (0, given, (first_at (ran_for 0 ∷ []) given refl, lit< tt), refl)
 
 gone_out : Happens one_each (alone (ran_for 0 ∷ []) received) (Hand 0) Done (alone (ran_for 0 ∷ []) handed)
-gone_out = (0, received, (first_at (ran_for 0 ∷ []) received refl, lit< tt, come, refl), (1, record { within = omega arith; come = come; most = λ more within has. within }, refl))
+gone_out = (
+  0,
+  received,
+  (first_at (ran_for 0 ∷ []) received refl, lit< tt, come, refl),
+  (1, record { within = omega arith; come = come; most = λ more within has. within }, refl),
+)
 
 opened : Happens one_each (record { log = []; links = [] }) (Open 0) Done (alone [] (new_link 0))
 opened = (0, new_link 0, (refl, refl, lit< tt, inl (λ k link here same. absurd (cc))), refl)
 
 came : Happens one_each (alone [] (new_link 0)) (Feed 0 line) Done (alone [] fed)
-came = (0, new_link 0, (first_at [] (new_link 0) refl, refl, refl, lit< tt), (11, record { within = omega arith; whole = λ used short. refl; some = λ all room some. lit< tt }, lit< tt, refl))
+came = (
+  0,
+  new_link 0,
+  (first_at [] (new_link 0) refl, refl, refl, lit< tt),
+  (11, record { within = omega arith; whole = λ used short. refl; some = λ all room some. lit< tt }, lit< tt, refl),
+)
 
 has_ended : Happens one_each (alone (ran_for 0 ∷ []) handed) (End 0) Done (alone (ran_for 0 ∷ []) ended)
 has_ended = (0, handed, (first_at (ran_for 0 ∷ []) handed refl, refl), refl)
 
 -- and for the second, on the same seat
 opened_again : Happens one_each (alone (ran_for 0 ∷ []) ended) (Open 0) Done (both (ran_for 0 ∷ []) (new_link 0))
-opened_again = (1, new_link 0, (refl, refl, lit< tt, inr (0, ended, first_at (ran_for 0 ∷ []) ended refl, (at_rest, inl (inr (refl, all_taken))))), refl)
+opened_again = (
+  1,
+  new_link 0,
+  (
+    refl,
+    refl,
+    lit< tt,
+    inr (0, ended, first_at (ran_for 0 ∷ []) ended refl, (at_rest, inl (inr (refl, all_taken)))),
+  ),
+  refl,
+)
 
 came_again : Happens one_each (both (ran_for 0 ∷ []) (new_link 0)) (Feed 0 line) Done (both (ran_for 0 ∷ []) fed)
-came_again = (1, new_link 0, (second_at (ran_for 0 ∷ []) (new_link 0) refl, refl, refl, lit< tt), (11, record { within = omega arith; whole = λ used short. refl; some = λ all room some. lit< tt }, lit< tt, refl))
+came_again = (
+  1,
+  new_link 0,
+  (second_at (ran_for 0 ∷ []) (new_link 0) refl, refl, refl, lit< tt),
+  (11, record { within = omega arith; whole = λ used short. refl; some = λ all room some. lit< tt }, lit< tt, refl),
+)
 
 took_again : Happens one_each (both (ran_for 0 ∷ []) fed) (Take 0 1000) Done (both (ran_for 0 ∷ []) taken)
-took_again = (1, fed, (second_at (ran_for 0 ∷ []) fed refl, (flush, begins), lit< tt, refl), (one, record { next = begins; moment_is = refl; may = λ gone. absurd (cc) }, refl))
+took_again = (
+  1,
+  fed,
+  (second_at (ran_for 0 ∷ []) fed refl, (flush, begins), lit< tt, refl),
+  (one, record { next = begins; moment_is = refl; may = λ gone. absurd (cc) }, refl),
+)
 
 sends_again : Happens one_each (both (ran_for 0 ∷ []) taken) (Send 0) Done (both (ran_for 0 ∷ []) sent)
 unfolding pieces_of
-sends_again = (1, taken, (second_at (ran_for 0 ∷ []) taken refl, record { piece = (0, piece); next = refl; room = lit< tt }), refl)
+sends_again = (
+  1,
+  taken,
+  (second_at (ran_for 0 ∷ []) taken refl, record { piece = (0, piece); next = refl; room = lit< tt }),
+  refl,
+)
 
 popped_again : Happens one_each (both (ran_for 0 ∷ []) sent) (Pop 0 0) Done (both (ran_for 0 ∷ ran_for 1 ∷ []) sent)
 unfolding pieces_of
 popped_again = (1, sent, (second_at (ran_for 0 ∷ []) sent refl, empty_hand, lit< tt), (ran_for 1, runs_again, refl))
   where
-    empty_hand : (k : ℕ) (link : Link) → slice_get (ended ∷ sent ∷ []) k ≡ Some link → ran (both (ran_for 0 ∷ []) sent) k 0 ≤ link.given 0
+    empty_hand : (k : ℕ) (link : Link) → slice_get (ended ∷ sent ∷ []) k ≡ Some link
+        → ran (both (ran_for 0 ∷ []) sent) k 0 ≤ link.given 0
     empty_hand zero link here = subst (λ (x : Link). 1 ≤ x.given 0) (same_Some ended link here) (omega arith)
     empty_hand (suc k) link here = elim (eqb_tells 0 (suc k)) [
       | inl first ↦ let e = first.1 in absurd (omega (arith, e))
@@ -122,17 +194,58 @@ popped_again = (1, sent, (second_at (ran_for 0 ∷ []) sent refl, empty_hand, li
     ]
 
 -- The first connection's reply is out before the second is opened. Both flushes are run.
-abbrev goes : Schedule one_each (Open 0 ∷ Feed 0 line ∷ Take 0 1000 ∷ Send 0 ∷ Pop 0 0 ∷ Give 0 ∷ Receive 0 0 ∷ Hand 0 ∷ End 0 ∷ Open 0 ∷ Feed 0 line ∷ Take 0 1000 ∷ Send 0 ∷ Pop 0 0 ∷ []) (both (ran_for 0 ∷ ran_for 1 ∷ []) sent)
+abbrev goes : Schedule one_each
+    (Open 0 ∷ Feed 0 line ∷ Take 0 1000 ∷ Send 0 ∷ Pop 0 0 ∷ Give 0 ∷ Receive 0 0 ∷ Hand 0 ∷ End 0 ∷ Open 0 ∷ Feed 0
+    line ∷ Take 0 1000 ∷ Send 0 ∷ Pop 0 0 ∷ []) (both (ran_for 0 ∷ ran_for 1 ∷ []) sent)
 goes =
     let log = ran_for 0 ∷ [] in
-    let second : Leads one_each (alone log handed) (End 0 ∷ Open 0 ∷ Feed 0 line ∷ Take 0 1000 ∷ Send 0 ∷ Pop 0 0 ∷ []) (both (ran_for 0 ∷ ran_for 1 ∷ []) sent) =
-    (Done, alone log ended, has_ended, (Done, both log (new_link 0), opened_again, (Done, both log fed, came_again, (Done, both log taken, took_again, (Done, both log sent, sends_again, (Done, both (ran_for 0 ∷ ran_for 1 ∷ []) sent, popped_again, refl)))))) in
-    let served : Leads one_each (alone [] sent) (Pop 0 0 ∷ Give 0 ∷ Receive 0 0 ∷ Hand 0 ∷ End 0 ∷ Open 0 ∷ Feed 0 line ∷ Take 0 1000 ∷ Send 0 ∷ Pop 0 0 ∷ []) (both (ran_for 0 ∷ ran_for 1 ∷ []) sent) =
-    (Done, alone log sent, popped, (Done, alone log given, gave, (Done, alone log received, got, (Done, alone log handed, gone_out, second)))) in
-    (Done, alone [] (new_link 0), opened, (Done, alone [] fed, came, (Done, alone [] taken, took, (Done, alone [] sent, sends, served))))
+    let second : Leads one_each (alone log handed) (End 0 ∷ Open 0 ∷ Feed 0 line ∷ Take 0 1000 ∷ Send 0 ∷ Pop 0 0 ∷ [])
+    (both (ran_for 0 ∷ ran_for 1 ∷ []) sent) = (
+      Done,
+      alone log ended,
+      has_ended,
+      (
+        Done,
+        both log (new_link 0),
+        opened_again,
+        (
+          Done,
+          both log fed,
+          came_again,
+          (
+            Done,
+            both log taken,
+            took_again,
+            (Done, both log sent, sends_again, (Done, both (ran_for 0 ∷ ran_for 1 ∷ []) sent, popped_again, refl)),
+          ),
+        ),
+      ),
+    ) in
+    let served : Leads one_each (alone [] sent)
+    (Pop 0 0 ∷ Give 0 ∷ Receive 0 0 ∷ Hand 0 ∷ End 0 ∷ Open 0 ∷ Feed 0 line ∷ Take 0 1000 ∷ Send 0 ∷ Pop 0 0 ∷ [])
+    (both (ran_for 0 ∷ ran_for 1 ∷ []) sent) = (
+      Done,
+      alone log sent,
+      popped,
+      (Done, alone log given, gave, (Done, alone log received, got, (Done, alone log handed, gone_out, second))),
+    ) in (
+      Done,
+      alone [] (new_link 0),
+      opened,
+      (Done, alone [] fed, came, (Done, alone [] taken, took, (Done, alone [] sent, sends, served))),
+    )
 
-happens_before : HappensBefore one_each (Open 0 ∷ Feed 0 line ∷ Take 0 1000 ∷ Send 0 ∷ Pop 0 0 ∷ Give 0 ∷ Receive 0 0 ∷ Hand 0 ∷ End 0 ∷ Open 0 ∷ Feed 0 line ∷ Take 0 1000 ∷ Send 0 ∷ Pop 0 0 ∷ []) (both (ran_for 0 ∷ ran_for 1 ∷ []) sent) goes 0 0 1 0
-happens_before = record { p = 8; q = 8; order = omega arith; out = record { link = handed; here = refl; handed = lit< tt }; not_yet = λ link commands here spelled. absurd (cc) }
+happens_before : HappensBefore one_each
+    (Open 0 ∷ Feed 0 line ∷ Take 0 1000 ∷ Send 0 ∷ Pop 0 0 ∷ Give 0 ∷ Receive 0 0 ∷ Hand 0 ∷ End 0 ∷ Open 0 ∷ Feed 0
+    line ∷ Take 0 1000 ∷ Send 0 ∷ Pop 0 0 ∷ []) (both (ran_for 0 ∷ ran_for 1 ∷ []) sent) goes 0 0 1 0
+happens_before =
+    record {
+      p = 8;
+      q = 8;
+      order = omega arith;
+      out = record { link = handed; here = refl; handed = lit< tt };
+      not_yet = λ link commands here spelled. absurd (cc);
+    }
 
 -- Before it ended the first connection was at rest.
 rests_open : AtRest one_each handed
@@ -204,15 +317,19 @@ none_more : (link : Link) → handed ≡ link → slice_get (pieces 1 link.taken
 unfolding pieces_of
 none_more link same = subst (λ (x : Link). slice_get (pieces 1 x.taken) x.sent ≡ None) same refl
 
-all_run : (k shard : ℕ) (link : Link) → k ≡ 0 → handed ≡ link → (sent_to one_each shard link ≤ ran resting k shard) × (ran resting k shard ≤ link.given shard)
+all_run : (k shard : ℕ) (link : Link) → k ≡ 0 → handed ≡ link → (sent_to one_each shard link ≤ ran resting k shard)
+    × (ran resting k shard ≤ link.given shard)
 unfolding pieces_of
 all_run k shard link here same =
-    subst (λ j. (sent_to one_each shard link ≤ ran resting j shard) × (ran resting j shard ≤ link.given shard)) (sym here) (
-    subst (λ (x : Link). (sent_to one_each shard x ≤ ran resting 0 shard) × (ran resting 0 shard ≤ x.given shard)) same (at_shard shard))
+    subst (λ j. (sent_to one_each shard link ≤ ran resting j shard) × (ran resting j shard ≤ link.given shard))
+    (sym here) (
+    subst (λ (x : Link). (sent_to one_each shard x ≤ ran resting 0 shard) × (ran resting 0 shard ≤ x.given shard)) same
+    (at_shard shard))
   where
     at_shard : (s : ℕ) → (sent_to one_each s handed ≤ ran resting 0 s) × (ran resting 0 s ≤ handed.given s)
     at_shard s = elim (eqb_tells 0 s) [
-      | inl first ↦ subst (λ t. (sent_to one_each t handed ≤ ran resting 0 t) × (ran resting 0 t ≤ handed.given t)) first.1 (omega arith, omega arith)
+      | inl first ↦ subst (λ t. (sent_to one_each t handed ≤ ran resting 0 t) × (ran resting 0 t ≤ handed.given t))
+          first.1 (omega arith, omega arith)
       | inr other ↦ rw other.0 (omega arith, omega arith)
     ]
 
@@ -220,7 +337,8 @@ all_run k shard link here same =
 none_enabled : (event : Event) → IsWork event → Enabled one_each resting event → ⊥
 none_enabled (Open seat) work e = work
 none_enabled (Feed seat bytes) work e = work
-none_enabled (Take seat moment) work e = not_one_more one_each e.1 e.2.1.0 (subst (λ x. IsAllTaken one_each x) (sole e.0 e.1 e.2.0.here).1 all_taken) e.2.1.1
+none_enabled (Take seat moment) work e =
+    not_one_more one_each e.1 e.2.1.0 (subst (λ x. IsAllTaken one_each x) (sole e.0 e.1 e.2.0.here).1 all_taken) e.2.1.1
 none_enabled (Send seat) work e = let none = none_more e.1 (sole e.0 e.1 e.2.0.here).1 in let some = e.2.1.next in cc
 none_enabled (Pop shard seat) work e =
     let same = sole e.0 e.1 e.2.0.here in
@@ -259,34 +377,40 @@ run = record { events = cycle; replies = told; worlds = world_of; begins = refl;
 
 cycle_at : (n i : ℕ) → cycle (6 * n + i) ≡ cycle i
 cycle_at zero i = let at : 6 * 0 + i ≡ i = omega arith in ap cycle at
-cycle_at (suc n) i = let at : 6 * suc n + i ≡ suc (suc (suc (suc (suc (suc (6 * n + i)))))) = omega arith in ap cycle at ∙ cycle_at n i
+cycle_at (suc n) i = let at : 6 * suc n + i ≡ suc (suc (suc (suc (suc (suc (6 * n + i)))))) =
+    omega arith in ap cycle at ∙ cycle_at n i
 
 no_input : HasNoInput run
 no_input n = work_inside (cycle n) (cycle_work n)
 
 -- the event at a place of some later round
-tried_at : (n i : ℕ) (event : Event) → IsSameStep event (cycle (6 * n + i)) → Eventually n (λ m. IsSameStep event (cycle m) × (told m ≢ NoMemory))
+tried_at : (n i : ℕ) (event : Event) → IsSameStep event (cycle (6 * n + i))
+    → Eventually n (λ m. IsSameStep event (cycle m) × (told m ≢ NoMemory))
 tried_at n i event same = record { later = 6 * n + i; after = omega arith; holds = (same, has_memory (6 * n + i)) }
 
 tries_all : TriesAll run
 tries_all n (Open seat) there = absurd there
 tries_all n (Feed seat bytes) there = absurd there
-tries_all n (Take seat moment) there = let at : 0 ≡ seat = omega (arith, there) in tried_at n 0 (Take seat moment) (1000, cycle_at n 0 ∙ ap (λ s. Take s 1000) at)
-tries_all n (Send seat) there = let at : 0 ≡ seat = omega (arith, there) in tried_at n 1 (Send seat) (cycle_at n 1 ∙ ap (λ s. Send s) at)
+tries_all n (Take seat moment) there = let at : 0 ≡ seat =
+    omega (arith, there) in tried_at n 0 (Take seat moment) (1000, cycle_at n 0 ∙ ap (λ s. Take s 1000) at)
+tries_all n (Send seat) there = let at : 0 ≡ seat =
+    omega (arith, there) in tried_at n 1 (Send seat) (cycle_at n 1 ∙ ap (λ s. Send s) at)
 tries_all n (Pop shard seat) there =
     let on = there.0 in
     let of = there.1 in
     let at : 0 ≡ seat = omega (arith, of) in
     let by : 0 ≡ shard = omega (arith, on) in
     tried_at n 2 (Pop shard seat) (cycle_at n 2 ∙ (ap (λ s. Pop 0 s) at ∙ ap (λ s. Pop s seat) by))
-tries_all n (Give shard) there = let by : 0 ≡ shard = omega (arith, there) in tried_at n 3 (Give shard) (cycle_at n 3 ∙ ap (λ s. Give s) by)
+tries_all n (Give shard) there = let by : 0 ≡ shard =
+    omega (arith, there) in tried_at n 3 (Give shard) (cycle_at n 3 ∙ ap (λ s. Give s) by)
 tries_all n (Receive seat shard) there =
     let of = there.0 in
     let on = there.1 in
     let at : 0 ≡ seat = omega (arith, of) in
     let by : 0 ≡ shard = omega (arith, on) in
     tried_at n 4 (Receive seat shard) (cycle_at n 4 ∙ (ap (λ s. Receive 0 s) by ∙ ap (λ s. Receive s shard) at))
-tries_all n (Hand seat) there = let at : 0 ≡ seat = omega (arith, there) in tried_at n 5 (Hand seat) (cycle_at n 5 ∙ ap (λ s. Hand s) at)
+tries_all n (Hand seat) there = let at : 0 ≡ seat =
+    omega (arith, there) in tried_at n 5 (Hand seat) (cycle_at n 5 ∙ ap (λ s. Hand s) at)
 tries_all n (End seat) there = absurd there
 tries_all n (Break seat) there = absurd there
 
@@ -301,4 +425,10 @@ rests_from (suc (suc (suc (suc (suc (suc n)))))) from = refl
 
 fair_to_seats : IsFairToSeats run
 fair_to_seats n shard seat by of =
-    inr (record { later = n + 6; after = omega arith; holds = λ m from e. none_enabled (Pop shard seat) tt (subst (λ v. Enabled one_each v (Pop shard seat)) (rests_from m (omega (arith, from))) e) })
+    inr (record {
+      later = n + 6;
+      after = omega arith;
+      holds =
+          λ m from e. none_enabled (Pop shard seat) tt
+          (subst (λ v. Enabled one_each v (Pop shard seat)) (rests_from m (omega (arith, from))) e);
+    })

@@ -1,5 +1,6 @@
 -- Sums over numbers, and over the connections of a world, that are no greater or less than others.
-use Rattle.std.proofs.Common.{◌≡◌, ℕ, zero, suc, ◌+◌, ◌<◌, ◌≤◌, ◌==◌, inl, inr, List, [], ◌∷◌, set, Some, refl, sym, subst, arith}
+use Rattle.std.proofs.Common.{◌≡◌, ℕ, zero, suc, ◌+◌, ◌<◌, ◌≤◌, ◌==◌, inl, inr, List, [], ◌∷◌, set, Some, refl, sym}
+use Rattle.std.proofs.Common.{subst, arith}
 use Rattle.std.specs.Prelude.{if◌then◌else◌}
 use Rattle.std.specs.List.{slice_get}
 use Rattle.std.proofs.lemmas.Bool.{cases_eq}
@@ -65,11 +66,14 @@ sum_over f number [] = 0
 sum_over f number (x ∷ xs) = f number x + sum_over f (number + 1) xs
 
 -- one element gives less
-pub set_lowers : {X : Type 0} (f : ℕ → X → ℕ) (number : ℕ) (xs : List X) (k : ℕ) (x new : X) → slice_get xs k ≡ Some x → f (number + k) new < f (number + k) x → sum_over f number (set xs k new) < sum_over f number xs
+pub set_lowers : {X : Type 0} (f : ℕ → X → ℕ) (number : ℕ) (xs : List X) (k : ℕ) (x new : X) → slice_get xs k ≡ Some x
+    → f (number + k) new < f (number + k) x → sum_over f number (set xs k new) < sum_over f number xs
 set_lowers f number [] k x new here less = absurd (cc)
 set_lowers f number (y ∷ xs) zero x new here less =
     let at : number + 0 ≡ number = omega arith in
-    let this : f number new < f number y = subst (λ n. f n new < f n y) at (subst (λ z. f (number + 0) new < f (number + 0) z) (sym (same_Some y x here)) less) in
+    let this : f number new < f number y =
+    subst (λ n. f n new < f n y) at (subst (λ z. f (number + 0) new < f (number + 0) z) (sym (same_Some y x here)) less)
+    in
     omega (arith, this)
 set_lowers f number (y ∷ xs) (suc k) x new here less =
     let at : number + suc k ≡ number + 1 + k = omega arith in
@@ -77,25 +81,36 @@ set_lowers f number (y ∷ xs) (suc k) x new here less =
     omega (arith, rest)
 
 -- smaller values at the same elements give no greater sum
-pub over_le : {X : Type 0} (f g : ℕ → X → ℕ) (number : ℕ) (xs : List X) → ((i : ℕ) (x : X) → slice_get xs i ≡ Some x → g (number + i) x ≤ f (number + i) x) → sum_over g number xs ≤ sum_over f number xs
+pub over_le : {X : Type 0} (f g : ℕ → X → ℕ) (number : ℕ) (xs : List X)
+    → ((i : ℕ) (x : X) → slice_get xs i ≡ Some x → g (number + i) x ≤ f (number + i) x)
+    → sum_over g number xs ≤ sum_over f number xs
 over_le f g number [] each = omega arith
 over_le f g number (y ∷ xs) each =
     let at : number + 0 ≡ number = omega arith in
     let here : g number y ≤ f number y = subst (λ n. g n y ≤ f n y) at (each 0 y refl) in
-    let rest = over_le f g (number + 1) xs (λ i x at_i. let e : number + suc i ≡ number + 1 + i = omega arith in subst (λ n. g n x ≤ f n x) e (each (suc i) x at_i)) in
+    let rest = over_le f g (number + 1) xs
+    (λ i x at_i. let e : number + suc i ≡ number + 1 + i = omega arith in
+    subst (λ n. g n x ≤ f n x) e (each (suc i) x at_i)) in
     omega (arith, here, rest)
 
 -- and one of them gives less
-pub over_lt : {X : Type 0} (f g : ℕ → X → ℕ) (number : ℕ) (xs : List X) (k : ℕ) (x : X) → slice_get xs k ≡ Some x → ((i : ℕ) (x : X) → slice_get xs i ≡ Some x → g (number + i) x ≤ f (number + i) x) → g (number + k) x < f (number + k) x → sum_over g number xs < sum_over f number xs
+pub over_lt : {X : Type 0} (f g : ℕ → X → ℕ) (number : ℕ) (xs : List X) (k : ℕ) (x : X) → slice_get xs k ≡ Some x
+    → ((i : ℕ) (x : X) → slice_get xs i ≡ Some x → g (number + i) x ≤ f (number + i) x)
+    → g (number + k) x < f (number + k) x → sum_over g number xs < sum_over f number xs
 over_lt f g number [] k x here each less = absurd (cc)
 over_lt f g number (y ∷ xs) zero x here each less =
     let at : number + 0 ≡ number = omega arith in
-    let this : g number y < f number y = subst (λ n. g n y < f n y) at (subst (λ z. g (number + 0) z < f (number + 0) z) (sym (same_Some y x here)) less) in
-    let rest = over_le f g (number + 1) xs (λ i x at_i. let e : number + suc i ≡ number + 1 + i = omega arith in subst (λ n. g n x ≤ f n x) e (each (suc i) x at_i)) in
+    let this : g number y < f number y =
+    subst (λ n. g n y < f n y) at (subst (λ z. g (number + 0) z < f (number + 0) z) (sym (same_Some y x here)) less) in
+    let rest = over_le f g (number + 1) xs
+    (λ i x at_i. let e : number + suc i ≡ number + 1 + i = omega arith in
+    subst (λ n. g n x ≤ f n x) e (each (suc i) x at_i)) in
     omega (arith, this, rest)
 over_lt f g number (y ∷ xs) (suc k) x here each less =
     let zero_at : number + 0 ≡ number = omega arith in
     let first : g number y ≤ f number y = subst (λ n. g n y ≤ f n y) zero_at (each 0 y refl) in
     let at : number + suc k ≡ number + 1 + k = omega arith in
-    let rest = over_lt f g (number + 1) xs k x here (λ i x at_i. let e : number + suc i ≡ number + 1 + i = omega arith in subst (λ n. g n x ≤ f n x) e (each (suc i) x at_i)) (subst (λ n. g n x < f n x) at less) in
+    let rest = over_lt f g (number + 1) xs k x here
+    (λ i x at_i. let e : number + suc i ≡ number + 1 + i = omega arith in
+    subst (λ n. g n x ≤ f n x) e (each (suc i) x at_i)) (subst (λ n. g n x < f n x) at less) in
     omega (arith, first, rest)

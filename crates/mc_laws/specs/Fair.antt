@@ -52,18 +52,21 @@ IsDoneLater run n event = Eventually n (λ m. IsSameStep event (run.events m) ×
 -- Work is done, or at some later step it isn't enabled.
 abbrev pub IsWeaklyFair : {sizes : Sizes} {w : World} → EndlessRun sizes w → Type 0
 IsWeaklyFair {sizes} run =
-    (n : ℕ) (event : Event) → IsWorkOf sizes event → IsDoneLater run n event ⊎ Eventually n (λ m. ¬ Enabled sizes (run.worlds m) event)
+    (n : ℕ) (event : Event) → IsWorkOf sizes event → IsDoneLater run n event
+    ⊎ Eventually n (λ m. ¬ Enabled sizes (run.worlds m) event)
 
 -- No shard ignores a seat forever: it takes a piece of the seat, or from some later step on it never may.
 abbrev pub IsFairToSeats : {sizes : Sizes} {w : World} → EndlessRun sizes w → Type 0
 IsFairToSeats {sizes} run =
     (n shard seat : ℕ) → shard < sizes.shards → seat < sizes.seats →
-    IsDoneLater run n (Pop shard seat) ⊎ Eventually n (λ later. (m : ℕ) → later ≤ m → ¬ Enabled sizes (run.worlds m) (Pop shard seat))
+    IsDoneLater run n (Pop shard seat)
+    ⊎ Eventually n (λ later. (m : ℕ) → later ≤ m → ¬ Enabled sizes (run.worlds m) (Pop shard seat))
 
 -- All work is tried again and again, and gets its memory.
 abbrev pub TriesAll : {sizes : Sizes} {w : World} → EndlessRun sizes w → Type 0
 TriesAll {sizes} run =
-    (n : ℕ) (event : Event) → IsWorkOf sizes event → Eventually n (λ m. IsSameStep event (run.events m) × (run.replies m ≢ NoMemory))
+    (n : ℕ) (event : Event) → IsWorkOf sizes event
+    → Eventually n (λ m. IsSameStep event (run.events m) × (run.replies m ≢ NoMemory))
 
 -- The run reaches a world where all connections are at rest, and all replies are written.
 abbrev pub ComesToRest : {sizes : Sizes} {w : World} → EndlessRun sizes w → Type 0
@@ -72,7 +75,9 @@ ComesToRest {sizes} run = Eventually 0 (λ m. AllAtRest sizes (run.worlds m) × 
 -- A connection at rest that has neither ended nor failed takes bytes.
 abbrev pub TakesBytesAtRest : Sizes → World → Type 0
 TakesBytesAtRest sizes w =
-    (seat k : ℕ) (link : Link) (bytes : List ℕ) → IsAt w seat k link → AtRest sizes link → link.ended ≡ false → link.broken ≡ false → 0 < length bytes → Enabled sizes w (Feed seat bytes) × (Spared sizes w (Feed seat bytes) → ⊥)
+    (seat k : ℕ) (link : Link) (bytes : List ℕ) → IsAt w seat k link → AtRest sizes link → link.ended ≡ false
+    → link.broken ≡ false → 0 < length bytes → Enabled sizes w (Feed seat bytes)
+    × (Spared sizes w (Feed seat bytes) → ⊥)
 
 -- The reply to the connection's command of this number is written, or the connection fails.
 abbrev pub GetsReply : {sizes : Sizes} {w : World} → EndlessRun sizes w → ℕ → ℕ → ℕ → Type 0
@@ -82,4 +87,5 @@ GetsReply run n k number =
 -- This holds for each command in a connection's input.
 abbrev pub NoneWaitsForever : {sizes : Sizes} {w : World} → EndlessRun sizes w → Type 0
 NoneWaitsForever {sizes} run =
-    (n k number : ℕ) (link : Link) (commands : List Command) → IsLink (run.worlds n) k link → SpellFirst sizes link.fed commands → number < length commands → GetsReply run n k number
+    (n k number : ℕ) (link : Link) (commands : List Command) → IsLink (run.worlds n) k link
+    → SpellFirst sizes link.fed commands → number < length commands → GetsReply run n k number

@@ -24,7 +24,8 @@ IsAtHome sizes entry = IfSome (key_of entry.piece.op) (λ key. entry.shard ≡ p
 -- Linearizability of one key. The operations that its shard ran are one sequential order, in which each
 -- answer is the protocol's step after all earlier ones. Each connection's operations are in it once and in
 -- sending order, what happened before in time is before, and the clients' replies are made of these answers.
-pub record IsLinearizable (sizes : Sizes) (events : List Event) (w : World) (led : Schedule sizes events w) (key : List ℕ) : Type 0 where
+pub record IsLinearizable (sizes : Sizes) (events : List Event) (w : World) (led : Schedule sizes events w)
+    (key : List ℕ) : Type 0 where
   -- no other shard ran an operation on the key
   pub one_order : AllByRecursion (IsAtHome sizes) w.log
   -- the order is one run of the protocol's step, from the empty shard
@@ -34,6 +35,7 @@ pub record IsLinearizable (sizes : Sizes) (events : List Event) (w : World) (led
   -- each piece of a command whose reply was written is in the order of its shard
   pub complete : (k number : ℕ) → IsHandedOut w k number → WasRun sizes w k number
   -- if one reply was written before another command was sent, the former is before the latter
-  pub order_in_time : (j a k b : ℕ) → HappensBefore sizes events w led j a k b → RunsBefore (order_of sizes w key) j a k b
+  pub order_in_time : (j a k b : ℕ) → HappensBefore sizes events w led j a k b
+      → RunsBefore (order_of sizes w key) j a k b
   -- the bytes written are the replies made of these answers
   pub replies : OfEach w (λ k link. AreReplies sizes w k link)

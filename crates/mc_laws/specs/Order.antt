@@ -19,7 +19,9 @@ pub record IsHandedOut (w : World) (k number : ℕ) : Type 0 where
 
 -- The connection's input does not have a command of this number yet, or the connection was not opened yet.
 abbrev pub IsNotYetAsked : Sizes → World → ℕ → ℕ → Type 0
-IsNotYetAsked sizes w k number = (link : Link) (commands : List Command) → IsLink w k link → SpellFirst sizes link.fed commands → length commands ≤ number
+IsNotYetAsked sizes w k number =
+    (link : Link) (commands : List Command) → IsLink w k link → SpellFirst sizes link.fed commands
+    → length commands ≤ number
 
 -- The entry is of a piece of that connection's command of that number.
 pub record IsPieceOf (k number : ℕ) (entry : Entry) : Type 0 where
@@ -29,7 +31,8 @@ pub record IsPieceOf (k number : ℕ) (entry : Entry) : Type 0 where
 -- In the log, each piece of the one command is before each piece of the other.
 abbrev pub RunsBefore : List Entry → ℕ → ℕ → ℕ → ℕ → Type 0
 RunsBefore log j a k b =
-    (x y : ℕ) (one other : Entry) → slice_get log x ≡ Some one → slice_get log y ≡ Some other → IsPieceOf j a one → IsPieceOf k b other → x < y
+    (x y : ℕ) (one other : Entry) → slice_get log x ≡ Some one → slice_get log y ≡ Some other → IsPieceOf j a one
+    → IsPieceOf k b other → x < y
 
 -- The log has this piece of that connection, run on its shard.
 pub record IsRun (log : List Entry) (k : ℕ) (piece : ℕ × Piece) : Type 0 where
@@ -43,17 +46,20 @@ pub record IsRun (log : List Entry) (k : ℕ) (piece : ℕ × Piece) : Type 0 wh
 -- Each piece of the connection's command of that number was run.
 abbrev pub WasRun : Sizes → World → ℕ → ℕ → Type 0
 WasRun sizes w k number =
-    (link : Link) (x : ℕ) (piece : ℕ × Piece) → IsLink w k link → slice_get (pieces sizes.shards link.taken) x ≡ Some piece → piece.1.ticket.0 ≡ number → IsRun w.log k piece
+    (link : Link) (x : ℕ) (piece : ℕ × Piece) → IsLink w k link → slice_get (pieces sizes.shards link.taken) x
+    ≡ Some piece → piece.1.ticket.0 ≡ number → IsRun w.log k piece
 
 -- the world after the first n of the events
-abbrev pub world_at : (sizes : Sizes) (w : World) (events : List Event) (w' : World) → Leads sizes w events w' → ℕ → World
+abbrev pub world_at : (sizes : Sizes) (w : World) (events : List Event) (w' : World) → Leads sizes w events w' → ℕ
+    → World
 world_at sizes w [] w' led n = w
 world_at sizes w (event ∷ events) w' led zero = w
 world_at sizes w (event ∷ events) w' led (suc n) = world_at sizes led.1 events w' led.3 n
 
 -- After the first p events the reply to the one command is written; after the first q, and no fewer, the
 -- other is not yet sent.
-pub record HappensBefore (sizes : Sizes) (events : List Event) (w : World) (led : Schedule sizes events w) (j a k b : ℕ) : Type 0 where
+pub record HappensBefore (sizes : Sizes) (events : List Event) (w : World) (led : Schedule sizes events w)
+    (j a k b : ℕ) : Type 0 where
   pub p : ℕ
   pub q : ℕ
   pub order : p ≤ q

@@ -60,8 +60,10 @@ steps_of_all shards (commands ∷ others) = 2 + steps_of shards commands + steps
 pub record IsBounded (sizes : Sizes) (w : World) : Type 0 where
   pub commands : List (List Command)
   pub of_each : length commands ≡ length w.links
-  pub spelled : (k : ℕ) (link : Link) (own : List Command) → IsLink w k link → slice_get commands k ≡ Some own → SpellAll sizes link.fed own
-  pub most : (events : List Event) (later : World) (led : Leads sizes w events later) → AllByRecursion IsNoInput events →
+  pub spelled : (k : ℕ) (link : Link) (own : List Command) → IsLink w k link → slice_get commands k ≡ Some own
+      → SpellAll sizes link.fed own
+  pub most : (events : List Event) (later : World) (led : Leads sizes w events later)
+      → AllByRecursion IsNoInput events →
       done_in sizes w events later led ≤ steps_of_all sizes.shards commands
 
 -- Some work leads to a world where all connections are at rest, and then all replies are written.

@@ -11,17 +11,17 @@ use Rattle.mc_sim.specs.Stands.{Stands}
 use Rattle.mc_laws.specs.Progress.{AllAtRest, AllReplied, IsWork}
 
 -- the events between a seat and a shard
-abbrev pub lane_round : ℕ → ℕ → List Event
-lane_round seat shard = Pop shard seat ∷ Give shard ∷ Receive seat shard ∷ []
+abbrev pub channel_round : ℕ → ℕ → List Event
+channel_round seat shard = Pop shard seat ∷ Give shard ∷ Receive seat shard ∷ []
 
 -- the events between a seat and each of a number of shards
-abbrev pub lanes_round : ℕ → ℕ → List Event
-lanes_round seat zero = []
-lanes_round seat (suc shard) = lanes_round seat shard ++ lane_round seat shard
+abbrev pub channels_round : ℕ → ℕ → List Event
+channels_round seat zero = []
+channels_round seat (suc shard) = channels_round seat shard ++ channel_round seat shard
 
 -- the events of a seat
 abbrev pub seat_round : ℕ → ℕ → ℕ → List Event
-seat_round shards moment seat = (Take seat moment ∷ Send seat ∷ []) ++ lanes_round seat shards ++ Hand seat ∷ []
+seat_round shards moment seat = (Take seat moment ∷ Send seat ∷ []) ++ channels_round seat shards ++ Hand seat ∷ []
 
 -- all events that these seats and shards can do by themselves, each once
 abbrev pub round : ℕ → ℕ → ℕ → List Event
@@ -44,4 +44,5 @@ Settles old moment new =
 -- In any world, the simulator did some work, and no step was refused memory.
 abbrev pub Works : Sim → Sim → Type 0
 Works old new =
-    (sizes : Sizes) (w : World) → Stands sizes old w → (events : List Event) × AllByRecursion IsWork events × StandsAfter sizes w events new
+    (sizes : Sizes) (w : World) → Stands sizes old w → (events : List Event) × AllByRecursion IsWork events
+    × StandsAfter sizes w events new

@@ -3,7 +3,7 @@ ghost use Rattle.std.specs.Prelude.{◌≡◌, ◌++◌, map, IfOk, OnErr};
 ghost use Rattle.std.specs.List.{AllByRecursion};
 ghost use Rattle.mc_sim.specs.Asked.{event_of};
 ghost use Rattle.mc_laws.specs.Progress.{IsWork};
-ghost use Rattle.mc_laws.specs.Settling.{Settles, Works, lane_round, round, seat_round};
+ghost use Rattle.mc_laws.specs.Settling.{Settles, Works, channel_round, round, seat_round};
 ghost use Rattle.mc_laws.specs.internal.Rounds.{Repeats};
 
 use mc_item::NoMemory;
@@ -75,16 +75,16 @@ fn add_seat(
     events.push(Event::Take { seat, moment })?;
     events.push(Event::Send { seat })?;
     for shard in 0..shards {
-        add_lane(events, seat, shard)?;
+        add_channel(events, seat, shard)?;
     }
     events.push(Event::Hand { seat })?;
     Ok(())
 }
 
 /// Appends the events between a slot and a shard.
-fn add_lane(events: &mut Vec<Event>, seat: usize, shard: usize) -> Result<(), AllocError>
+fn add_channel(events: &mut Vec<Event>, seat: usize, shard: usize) -> Result<(), AllocError>
     ensures { IfOk result (λ _.
-        map event_of events.new.items ≡ map event_of events.old.items ++ lane_round seat shard) }
+        map event_of events.new.items ≡ map event_of events.old.items ++ channel_round seat shard) }
 {
     events.push(Event::Pop { shard, seat })?;
     events.push(Event::Give { shard })?;

@@ -1,5 +1,6 @@
 -- Numbers for people.
-use Rattle.std.specs.Prelude.{ℕ, ◌+◌, ◌*◌, ◌/◌, ◌%◌, ◌^◌, ◌||◌, List, [], ◌∷◌, ◌++◌, Option, Some, None, codes, flat_map, nat_eq, nat_lt, if◌then◌else◌}
+use Rattle.std.specs.Prelude.{ℕ, ◌+◌, ◌*◌, ◌/◌, ◌%◌, ◌^◌, ◌||◌, List, [], ◌∷◌, ◌++◌, Option, Some, None, codes}
+use Rattle.std.specs.Prelude.{flat_map, nat_eq, nat_lt, if◌then◌else◌}
 use Rattle.std.specs.Fmt.{decimal}
 use Rattle.mc_metrics.specs.declared.amounts.Unit.{Unit}
 use Rattle.mc_metrics.specs.declared.amounts.Unit.TheVariants.{Number, NumberPerSecond, Bytes, BytesPerSecond, Percent}
@@ -17,7 +18,8 @@ group_text number power = if nat_eq power 0 || nat_lt number power then [] else 
 -- the digits of a number below 2^64, with thousands separators
 abbrev pub grouped : ℕ → List ℕ
 grouped number =
-    flat_map (group_text number) (1000000000000000000 ∷ 1000000000000000 ∷ 1000000000000 ∷ 1000000000 ∷ 1000000 ∷ 1000 ∷ []) ++ digits_of number
+    flat_map (group_text number)
+    (1000000000000000000 ∷ 1000000000000000 ∷ 1000000000000 ∷ 1000000000 ∷ 1000000 ∷ 1000 ∷ []) ++ digits_of number
 
 -- a number with one decimal and its unit
 unfoldable pub tenths_text : (whole tenths : ℕ) (unit : List ℕ) → List ℕ
@@ -50,7 +52,8 @@ abbrev pub duration_text : ℕ → List ℕ
 duration_text seconds =
     if nat_lt seconds 60 then decimal seconds ++ codes " s"
     else if nat_lt seconds 3600 then pair_text (seconds % 3600 / 60) (codes " min ") (seconds % 60) (codes " s")
-    else if nat_lt seconds 86400 then pair_text (seconds % 86400 / 3600) (codes " h ") (seconds % 3600 / 60) (codes " min")
+    else if nat_lt seconds 86400 then pair_text (seconds % 86400 / 3600) (codes " h ") (seconds % 3600 / 60)
+    (codes " min")
     else pair_text (seconds / 86400) (codes " d ") (seconds % 86400 / 3600) (codes " h")
 
 -- the hit ratio in percent, rounded down, if there was anything

@@ -43,8 +43,15 @@ module _ {C : Type 0} (told : C → ℕ → Type 0) where
   -- are as the system reports them.
   abbrev pub AreMetrics : Facts → Counts C → ℕ → List ℕ → Type 0
   AreMetrics facts counts uptime text =
-      (totals : Totals) × (waiting : ℕ) × (process : Process) × AreTotals told counts totals × AreWaiting facts.ports.now waiting
-      × (text ≡ metrics_text (record { facts = facts; totals = totals; waiting = waiting; uptime = uptime; process = process }))
+      (totals : Totals) × (waiting : ℕ) × (process : Process) × AreTotals told counts totals
+      × AreWaiting facts.ports.now waiting
+      × (text ≡ metrics_text (record {
+        facts = facts;
+        totals = totals;
+        waiting = waiting;
+        uptime = uptime;
+        process = process;
+      }))
 
   -- the text of the resource: the metrics, followed by those of each shard from its own counters. No clause
   -- describes the page.
@@ -58,7 +65,8 @@ module _ {C : Type 0} (told : C → ℕ → Type 0) where
 
   -- the response to a request, of a server with this configuration and these counters that has run for uptime
   -- seconds
-  pub record IsAnswer (facts : Facts) (counts : Counts C) (uptime : ℕ) (request : Request (List ℕ)) (response : Response) : Type 0 where
+  pub record IsAnswer (facts : Facts) (counts : Counts C) (uptime : ℕ) (request : Request (List ℕ))
+      (response : Response) : Type 0 where
     pub status : response.status ≡ status_of (head_of request).method (uri_path (head_of request).uri)
     pub text : is_read (head_of request).method ≡ true
         → IsTextAt (target_of (uri_path (head_of request).uri)) facts counts uptime response.body.items

@@ -6,4 +6,4 @@ pub mod Host
 pub mod Metrics
 pub mod Samples
 pub mod Shards
-pub mod Wishes
+pub mod TelemetryConfig

@@ -12,12 +12,18 @@ use Rattle.mc_metrics.specs.declared.text.EndReason.{EndReason}
 use Rattle.mc_metrics.specs.declared.text.EndReason.TheVariants as reason
 use Rattle.mc_metrics.specs.declared.text.Metric.{Metric}
 use Rattle.mc_metrics.specs.declared.text.Number.{Number}
-use Rattle.mc_metrics.specs.declared.text.Number.TheVariants.{Up, Uptime, LimitBytes, Shards, Seats, Open, Waiting, Accepted, Broken, Failed, Rejected, Commands, Read, Written, Items, Bytes, Evicted, OutOfMemory, Resident, Started, OpenFiles, MostFiles}
+use Rattle.mc_metrics.specs.declared.text.Number.TheVariants.{Up, Uptime, LimitBytes, Shards, Seats, Open, Waiting}
+use Rattle.mc_metrics.specs.declared.text.Number.TheVariants.{Accepted, Broken, Failed, Rejected, Commands, Read}
+use Rattle.mc_metrics.specs.declared.text.Number.TheVariants.{Written, Items, Bytes, Evicted, Expired, TooLarge}
+use Rattle.mc_metrics.specs.declared.text.Number.TheVariants.{OutOfMemory, Resident, Started, OpenFiles, MostFiles}
 
 -- a metric of this type, with its name, its HELP text and its value: three lines, each ended by byte 10
 unfoldable pub metric_text : (kind name help : List ℕ) (value : ℕ) → List ℕ
 metric_text kind name help value =
-    codes "# HELP " ++ (name ++ (codes " " ++ (help ++ ((10 ∷ codes "# TYPE ") ++ (name ++ (codes " " ++ (kind ++ ((10 ∷ []) ++ (name ++ (codes " " ++ (decimal value ++ (10 ∷ []))))))))))))
+    codes "# HELP " ++ (name
+    ++ (codes " " ++ (help ++
+    ((10 ∷ codes "# TYPE ") ++
+    (name ++ (codes " " ++ (kind ++ ((10 ∷ []) ++ (name ++ (codes " " ++ (decimal value ++ (10 ∷ []))))))))))))
 
 abbrev pub gauge_text : (name help : List ℕ) (value : ℕ) → List ℕ
 gauge_text name help value = metric_text (codes "gauge") name help value
@@ -28,28 +34,45 @@ counter_text name help value = metric_text (codes "counter") name help value
 -- the metrics with one sample; open connections are those accepted and not ended
 abbrev pub numbers_text : Reading → List ℕ
 numbers_text reading =
-    concat (gauge_text (codes "memcached_up") (codes "1 as long as the server runs.") 1
+    concat (gauge_text (codes "memcached_up") (codes "Always 1 while the server runs.") 1
     ∷ gauge_text (codes "memcached_uptime_seconds") (codes "Seconds since the server started.") reading.uptime
-    ∷ gauge_text (codes "memcached_limit_bytes") (codes "Limit for the cost of all items, in bytes.") reading.facts.limit_bytes
+    ∷ gauge_text (codes "memcached_limit_bytes") (codes "Memory budget of all items, in bytes.")
+    reading.facts.limit_bytes
     ∷ gauge_text (codes "mcd_shards") (codes "Number of shards, each with a thread of its own.") reading.facts.shards
-    ∷ gauge_text (codes "memcached_max_connections") (codes "Maximum number of connections served at a time.") reading.facts.seats
-    ∷ gauge_text (codes "memcached_current_connections") (codes "Number of open connections.") (reading.totals.accepted - reading.totals.ended)
-    ∷ gauge_text (codes "mcd_connections_waiting") (codes "Number of connections waiting in the system's queue to be accepted.") reading.waiting
+    ∷ gauge_text (codes "memcached_max_connections") (codes "Maximum number of connections served at a time.")
+    reading.facts.seats
+    ∷ gauge_text (codes "memcached_current_connections") (codes "Number of open connections.")
+    (reading.totals.accepted - reading.totals.ended)
+    ∷ gauge_text (codes "mcd_connections_waiting") (codes "Connections in the listen backlog.") reading.waiting
     ∷ counter_text (codes "memcached_connections_total") (codes "Connections accepted.") reading.totals.accepted
-    ∷ counter_text (codes "mcd_connections_broken_total") (codes "Connections that failed or exceeded the idle timeout.") reading.totals.broken
-    ∷ counter_text (codes "mcd_accepts_failed_total") (codes "Failed attempts to accept a connection.") reading.totals.failed
-    ∷ counter_text (codes "mcd_connections_rejected_total") (codes "Connections refused because all seats were taken.") reading.totals.rejected
+    ∷ counter_text (codes "mcd_connections_broken_total")
+    (codes "Connections that failed or exceeded the idle timeout.") reading.totals.broken
+    ∷ counter_text (codes "mcd_accepts_failed_total") (codes "Failed attempts to accept a connection.")
+    reading.totals.failed
+    ∷ counter_text (codes "mcd_connections_rejected_total") (codes "Connections refused because all seats were taken.")
+    reading.totals.rejected
     ∷ counter_text (codes "mcd_commands_total") (codes "Commands received.") reading.totals.commands
     ∷ counter_text (codes "memcached_read_bytes_total") (codes "Bytes read from clients.") reading.totals.read
     ∷ counter_text (codes "memcached_written_bytes_total") (codes "Bytes written to clients.") reading.totals.written
     ∷ gauge_text (codes "memcached_current_items") (codes "Number of items.") reading.totals.shards.items
-    ∷ gauge_text (codes "memcached_current_bytes") (codes "Cost of all items in bytes: key, value and 64 each.") reading.totals.shards.bytes
-    ∷ counter_text (codes "memcached_items_evicted_total") (codes "Items evicted to make room.") reading.totals.shards.evicted
-    ∷ counter_text (codes "mcd_out_of_memory_total") (codes "Commands that failed because no memory was left.") reading.totals.shards.out_of_memory
-    ∷ gauge_text (codes "process_resident_memory_bytes") (codes "Resident memory of the process, in bytes.") reading.process.resident
-    ∷ gauge_text (codes "process_start_time_seconds") (codes "Start time of the process, in seconds since 1970.") reading.facts.started
-    ∷ gauge_text (codes "process_open_fds") (codes "Number of open file descriptors of the process.") reading.process.open_files
-    ∷ gauge_text (codes "process_max_fds") (codes "Maximum number of open file descriptors of the process.") reading.process.most_files
+    ∷ gauge_text (codes "memcached_current_bytes")
+    (codes "Cost of all items in bytes: key, value and 64 for each item.") reading.totals.shards.bytes
+    ∷ counter_text (codes "memcached_items_evicted_total") (codes "Items evicted to make room.")
+    reading.totals.shards.evicted
+    ∷ counter_text (codes "mcd_items_expired_total") (codes "Expired items removed as others were stored.")
+    reading.totals.shards.reclaimed
+    ∷ counter_text (codes "mcd_values_too_large_total")
+    (codes "Values of set and ms above the value limit, with --drop-in.") reading.totals.shards.too_large
+    ∷ counter_text (codes "mcd_out_of_memory_total") (codes "Commands refused because the system had no memory.")
+    reading.totals.shards.out_of_memory
+    ∷ gauge_text (codes "process_resident_memory_bytes") (codes "Resident memory of the process, in bytes.")
+    reading.process.resident
+    ∷ gauge_text (codes "process_start_time_seconds") (codes "Start time of the process, in seconds since 1970.")
+    reading.facts.started
+    ∷ gauge_text (codes "process_open_fds") (codes "Number of open file descriptors of the process.")
+    reading.process.open_files
+    ∷ gauge_text (codes "process_max_fds") (codes "Maximum number of open file descriptors of the process.")
+    reading.process.most_files
     ∷ [])
 
 -- CPU time in seconds with two decimals, from hundredths
@@ -57,12 +80,14 @@ unfoldable pub cpu_text : ℕ → List ℕ
 cpu_text hundredths =
     codes "# HELP process_cpu_seconds_total CPU time used by the process, in seconds."
     ++ ((10 ∷ codes "# TYPE process_cpu_seconds_total counter") ++ ((10 ∷ codes "process_cpu_seconds_total ")
-    ++ (decimal (hundredths / 100) ++ (codes "." ++ (decimal (hundredths / 10 % 10) ++ (decimal (hundredths % 10) ++ (10 ∷ [])))))))
+    ++ (decimal (hundredths / 100)
+    ++ (codes "." ++ (decimal (hundredths / 10 % 10) ++ (decimal (hundredths % 10) ++ (10 ∷ [])))))))
 
 -- the number of connections that ended for this reason; 34 is the quotation mark
 unfoldable pub end_text : (name : List ℕ) (count : ℕ) → List ℕ
 end_text name count =
-    (codes "mcd_connections_ended_total{reason=" ++ (34 ∷ [])) ++ (name ++ ((34 ∷ codes "} ") ++ (decimal count ++ (10 ∷ []))))
+    (codes "mcd_connections_ended_total{reason=" ++ (34 ∷ []))
+    ++ (name ++ ((34 ∷ codes "} ") ++ (decimal count ++ (10 ∷ []))))
 
 -- the HELP and TYPE lines of the reasons
 abbrev pub before_ends : List ℕ
@@ -88,16 +113,19 @@ ends_text ends = before_ends ++ ends_each ends
 -- the number of commands of a kind with this outcome; 34 is the quotation mark
 unfoldable pub status_text : (name status : List ℕ) (count : ℕ) → List ℕ
 status_text name status count =
-    (codes "memcached_commands_total{command=" ++ (34 ∷ [])) ++ (name ++ ((34 ∷ codes ",status=") ++ ((34 ∷ status) ++ ((34 ∷ codes "} ") ++ (decimal count ++ (10 ∷ []))))))
+    (codes "memcached_commands_total{command=" ++ (34 ∷ []))
+    ++ (name ++ ((34 ∷ codes ",status=") ++ ((34 ∷ status) ++ ((34 ∷ codes "} ") ++ (decimal count ++ (10 ∷ []))))))
 
 abbrev pub command_text : (name : List ℕ) → CommandTotals → List ℕ
 command_text name totals =
-    status_text name (codes "hit") totals.hits ++ (status_text name (codes "miss") totals.misses ++ status_text name (codes "badval") totals.bad_values)
+    status_text name (codes "hit") totals.hits
+    ++ (status_text name (codes "miss") totals.misses ++ status_text name (codes "badval") totals.bad_values)
 
 -- the HELP and TYPE lines of the kinds of commands
 abbrev pub before_commands : List ℕ
 before_commands =
-    codes "# HELP memcached_commands_total Commands executed by the shards, by command and outcome." ++ ((10 ∷ codes "# TYPE memcached_commands_total counter") ++ (10 ∷ []))
+    codes "# HELP memcached_commands_total Commands executed by the shards, by command and outcome."
+    ++ ((10 ∷ codes "# TYPE memcached_commands_total counter") ++ (10 ∷ []))
 
 -- the kinds of commands
 abbrev pub commands_each : ShardTotals → List ℕ
@@ -118,7 +146,8 @@ commands_text totals = before_commands ++ commands_each totals
 -- the version is a label of a metric that is always 1; 34 is the quotation mark
 abbrev pub before_version : List ℕ
 before_version =
-    codes "# HELP memcached_version Version of the server." ++ ((10 ∷ codes "# TYPE memcached_version gauge") ++ ((10 ∷ codes "memcached_version{version=") ++ (34 ∷ [])))
+    codes "# HELP memcached_version Version of the server."
+    ++ ((10 ∷ codes "# TYPE memcached_version gauge") ++ ((10 ∷ codes "memcached_version{version=") ++ (34 ∷ [])))
 
 abbrev pub behind_version : List ℕ
 behind_version = (34 ∷ codes "} 1") ++ (10 ∷ [])
@@ -129,7 +158,8 @@ version_text version = before_version ++ (version ++ behind_version)
 abbrev pub metrics_text : Reading → List ℕ
 metrics_text reading =
     version_text reading.facts.version.now
-    ++ (numbers_text reading ++ (cpu_text reading.process.cpu ++ (ends_text reading.totals.ends ++ commands_text reading.totals.shards)))
+    ++ (numbers_text reading
+    ++ (cpu_text reading.process.cpu ++ (ends_text reading.totals.ends ++ commands_text reading.totals.shards)))
 
 -- the value of this name
 abbrev pub number_of : Number → Reading → ℕ
@@ -150,6 +180,8 @@ number_of Written reading = reading.totals.written
 number_of Items reading = reading.totals.shards.items
 number_of Bytes reading = reading.totals.shards.bytes
 number_of Evicted reading = reading.totals.shards.evicted
+number_of Expired reading = reading.totals.shards.reclaimed
+number_of TooLarge reading = reading.totals.shards.too_large
 number_of OutOfMemory reading = reading.totals.shards.out_of_memory
 number_of Resident reading = reading.process.resident
 number_of Started reading = reading.facts.started

@@ -8,7 +8,8 @@ use Rattle.mc_metrics.specs.declared.by_shard.ShardMetric.TheVariants.{Items, By
 -- the HELP and TYPE lines of a metric
 abbrev pub head_text : (kind name help : List ℕ) → List ℕ
 head_text kind name help =
-    codes "# HELP " ++ (name ++ (codes " " ++ (help ++ ((10 ∷ codes "# TYPE ") ++ (name ++ ((32 ∷ kind) ++ (10 ∷ [])))))))
+    codes "# HELP " ++ (name
+    ++ (codes " " ++ (help ++ ((10 ∷ codes "# TYPE ") ++ (name ++ ((32 ∷ kind) ++ (10 ∷ [])))))))
 
 abbrev pub name_of : ShardMetric → List ℕ
 name_of Items = codes "mcd_shard_items"
@@ -21,7 +22,9 @@ abbrev pub head_of : ShardMetric → List ℕ
 head_of Items = head_text (codes "gauge") (name_of Items) (codes "Number of items in the shard.")
 head_of Bytes = head_text (codes "gauge") (name_of Bytes) (codes "Cost of the items in the shard, in bytes.")
 head_of Evicted = head_text (codes "counter") (name_of Evicted) (codes "Items of the shard evicted to make room.")
-head_of OutOfMemory = head_text (codes "counter") (name_of OutOfMemory) (codes "Commands that failed because the shard had no memory left.")
+head_of OutOfMemory =
+    head_text (codes "counter") (name_of OutOfMemory)
+    (codes "Commands that failed because the shard had no memory left.")
 
 abbrev pub value_of : ShardMetric → ShardTotals → ℕ
 value_of Items shard = shard.items
@@ -32,12 +35,14 @@ value_of OutOfMemory shard = shard.out_of_memory
 -- the sample of the shard of this number; 34 is the quotation mark
 unfoldable pub shard_line : ShardMetric → (number value : ℕ) → List ℕ
 shard_line metric number value =
-    name_of metric ++ ((codes "{shard=" ++ (34 ∷ [])) ++ (decimal number ++ ((34 ∷ codes "} ") ++ (decimal value ++ (10 ∷ [])))))
+    name_of metric ++ ((codes "{shard=" ++ (34 ∷ []))
+    ++ (decimal number ++ ((34 ∷ codes "} ") ++ (decimal value ++ (10 ∷ [])))))
 
 -- a sample for each of the shards, the first of which has this number
 abbrev pub shard_lines : ShardMetric → ℕ → List ShardTotals → List ℕ
 shard_lines metric number [] = []
-shard_lines metric number (shard ∷ shards) = shard_line metric number (value_of metric shard) ++ shard_lines metric (number + 1) shards
+shard_lines metric number (shard ∷ shards) =
+    shard_line metric number (value_of metric shard) ++ shard_lines metric (number + 1) shards
 
 -- the text of a metric of these shards
 abbrev pub text_of : List ShardTotals → ShardMetric → List ℕ

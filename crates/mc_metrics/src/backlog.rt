@@ -1,4 +1,5 @@
-//! The number of connections in the listen backlog, from Linux' socket tables.
+//! The number of connections in the listen backlog, from Linux' socket tables. See
+//! docs/DECISIONS.md, W3.
 ghost use Rattle.std.specs.Prelude.{◌≡◌, nat_eq};
 ghost use Rattle.std.specs.List.{list_any};
 ghost use Rattle.mc_metrics.specs.Backlog.{AreWaiting, behind_colon, hexadecimal, waiting_at, waiting_in, word_at};
@@ -20,13 +21,15 @@ const STATE: usize = 3;
 
 const QUEUES: usize = 4;
 
-/// The system's tables of TCP sockets. They stay open, and are read from their start each time.
+/// The system's tables of TCP sockets, which stay open, and their texts when they were last read.
 pub(crate) struct Tables {
     alloc: Global,
     /// The table of IPv4, if it can be opened.
     four: Option<File>,
     /// The table of IPv6, if it can be opened.
     six: Option<File>,
+    four_text: String,
+    six_text: String,
 }
 
 impl Drop for Tables {
@@ -36,27 +39,38 @@ impl Drop for Tables {
             alloc: _alloc,
             four: _four,
             six: _six,
+            four_text: _four_text,
+            six_text: _six_text,
         } = self;
     }
 }
 
 impl Tables {
-    /// Opens the tables. A missing table, as on systems other than Linux, counts as empty.
+    /// Opens the tables, and reads none yet. A missing table, as on systems other than Linux,
+    /// counts as empty.
     pub(crate) fn open<R: Files<File = File>>(rt: &R, alloc: Global) -> Tables {
         Tables {
             alloc,
             four: File::open(rt, "/proc/self/net/tcp").ok(),
             six: File::open(rt, "/proc/self/net/tcp6").ok(),
+            four_text: String::new(alloc),
+            six_text: String::new(alloc),
         }
     }
 
-    /// How many connections wait now at the sockets that listen at one of the ports. A table that can't be read shows none.
+    /// Reads both tables from their start. One that can't be read counts as empty.
+    pub(crate) fn refresh(&mut self) {
+        self.four_text = table_text(self.alloc, &self.four);
+        self.six_text = table_text(self.alloc, &self.six);
+    }
+
+    /// How many connections waited at the sockets that listen at one of the ports when the tables
+    /// were last read.
     pub(crate) fn waiting(&self, ports: &[u16]) -> u64
         ensures { AreWaiting ports.now result }
     {
-        let four = table_text(self.alloc, &self.four);
-        let six = table_text(self.alloc, &self.six);
-        waiting_at(&four, ports).saturating_add(waiting_at(&six, ports))
+        let four = waiting_at(&self.four_text, ports);
+        four.saturating_add(waiting_at(&self.six_text, ports))
     }
 }
 

@@ -14,9 +14,9 @@ mod pages;
 mod process;
 mod reading;
 mod server;
+mod telemetry;
 mod text;
 mod visitor;
-mod watching;
 
 pub use address::address_of;
 pub use history::History;
@@ -25,5 +25,7 @@ pub use pages::Pages;
 pub use process::{Process, ProcessTimes};
 pub use reading::{Facts, Reading};
 pub use server::MetricsServer;
+pub use telemetry::{
+    Ended, Requester, TelemetryConfig, TelemetryError, TelemetryThreads, start_telemetry,
+};
 pub use text::metrics_of;
-pub use watching::{Ended, NotWatching, Watching, Wishes, start_watching};

@@ -274,7 +274,7 @@ fn push_caption(
     write!(text, "<figure><figcaption><b>{title}</b> ")?;
     match newest {
         Some(newest) => push_amount(text, curve.unit(), newest)?,
-        None => text.push_str("none")?,
+        None => text.push_str("n/a")?,
     }
     push_known(text, " of ", curve.unit(), limit)?;
     text.push_str(" <small>")?;

@@ -10,7 +10,7 @@ use crate::by_shard::push_shards;
 use crate::history::History;
 use crate::host::host_name;
 use crate::page::{SAMPLE_SECONDS, page_of};
-use crate::process::ProcessFiles;
+use crate::process::{Process, ProcessFiles};
 use crate::reading::{Facts, Reading};
 use crate::text::metrics_of;
 use bytes::Bytes;
@@ -81,6 +81,10 @@ pub struct Pages<C = Counter> {
     uptime: u64,
     /// Source of the process's resource usage.
     process: ProcessFiles,
+    /// The process's resource usage when `/proc` was last read.
+    used: Process,
+    /// The uptime when `/proc` was last read, if it was.
+    refreshed: Option<u64>,
     /// The machine's host name.
     host: String,
     history: History,
@@ -96,6 +100,8 @@ impl<C: Drop> Drop for Pages<C> {
             tables: _tables,
             uptime: _uptime,
             process: _process,
+            used: _used,
+            refreshed: _refreshed,
             host: _host,
             history: _history,
         } = self;
@@ -116,13 +122,16 @@ impl<C: Count> Pages<C> {
         ensures samples { IfOk result (λ pages. pages.history ≡ []) }
     {
         let history = History::new(alloc)?;
+        let process = ProcessFiles::open(rt, alloc);
         Ok(Pages {
             alloc,
             facts,
             counts: counts.share(alloc)?,
             tables: Tables::open(rt, alloc),
             uptime: 0,
-            process: ProcessFiles::open(rt, alloc),
+            used: process.now(),
+            process,
+            refreshed: None,
             host: host_name(rt, alloc),
             history,
         })
@@ -145,6 +154,22 @@ impl<C: Count> Pages<C> {
         }
     }
 
+    /// Reads the backlog's length and the process's resource usage again, at most once per second
+    /// of uptime, since the system's tables may be long.
+    pub(crate) fn refresh(&mut self)
+        ensures facts { self.new.facts ≡ self.old.facts }
+        ensures counts { self.new.counts ≡ self.old.counts }
+        ensures uptime { self.new.uptime ≡ self.old.uptime }
+        ensures samples { self.new.history ≡ self.old.history }
+    {
+        if self.refreshed == Some(self.uptime) {
+            return;
+        }
+        self.refreshed = Some(self.uptime);
+        self.tables.refresh();
+        self.used = self.process.now();
+    }
+
     /// Adds a sample of the current totals for the charts.
     pub(crate) fn sample(&mut self)
         ensures sampled { Samples C.has_told self.old.counts self.old.history self.new.history }
@@ -155,7 +180,7 @@ impl<C: Count> Pages<C> {
         self.history.add(self.counts.totals());
     }
 
-    /// The current state of the server.
+    /// The current state of the server, with the system's state when it was last read.
     fn reading(&self) -> Reading
         ensures facts { result.facts ≡ self.now.facts }
         ensures totals { AreTotals C.has_told self.now.counts result.totals }
@@ -167,7 +192,7 @@ impl<C: Count> Pages<C> {
             totals: self.counts.totals(),
             waiting: self.tables.waiting(self.facts.ports),
             uptime: self.uptime,
-            process: self.process.now(),
+            process: self.used,
         }
     }
 

@@ -25,7 +25,7 @@ const PAGES: usize = 21;
 const ROOM: usize = 4_096;
 
 /// Maximum number of such reads: enough for some eight million files.
-const MOST_READS: usize = 1 << 16;
+const MAX_READS: usize = 1 << 16;
 
 /// Resource usage of the process; 0 for what can't be read.
 #[derive(Clone, Copy, Debug, Default, PartialEq, Eq)]
@@ -72,8 +72,8 @@ pub struct ProcessTimes {
 }
 
 impl ProcessTimes {
-    /// The current times, by /proc/self/stat. The file is read without its position, so that any thread
-    /// may call this.
+    /// The current times, by /proc/self/stat. The file is read without its position, so that any
+    /// thread may call this.
     pub fn now(stat: &File) -> ProcessTimes {
         let mut buffer = [0; ROOM];
         let text = text_at_start(stat, &mut buffer);
@@ -159,7 +159,7 @@ fn count_files(directory: &File) -> io::Result<u64> {
     let mut directory = directory;
     directory.seek(SeekFrom::Start(0))?;
     let mut names: u64 = 0;
-    for _ in 0..MOST_READS {
+    for _ in 0..MAX_READS {
         let mut buffer = [0; ROOM];
         let length = os::read_dir(directory.as_raw_fd(), &mut buffer);
         if length == 0 {

@@ -1,31 +1,43 @@
-//! The thread that serves metrics.
+//! The thread that serves metrics. See docs/DECISIONS.md, W4.
 use crate::pages::Pages;
-use crate::visitor::Visitor;
-use mc_watch::Dismissal;
+use crate::visitor::{Visit, Visitor};
+use mc_watch::StopToken;
 use mio::net::{TcpListener, TcpStream};
 use mio::{Events, Interest, Poll, Token};
 use std::alloc::Global;
 use std::hash::RandomState;
 use std::net::Net;
+use std::os::fd::{AsFd, OwnedFd};
 use std::random::RandomSource;
 use std::sync::Wait;
 use std::time::{Duration, Instant};
 use std::{io, net, time};
 
 /// Maximum number of HTTP clients. A further one replaces the oldest.
-const MOST_VISITORS: usize = 32;
+const MAX_VISITORS: usize = 32;
 
-/// Maximum number of accepts in one turn.
-const COMERS: usize = 64;
+/// Maximum number of accepts in one turn, so that each client has a turn before it may be replaced.
+const COMERS: usize = 16;
 
 /// Polling interval in milliseconds while no request comes.
 const LOOK_MILLIS: u64 = 200;
+
+/// Token of the listener in the poll.
+const LISTENER: Token = Token(0);
+
+/// Token of every client in the poll.
+const VISITOR: Token = Token(1);
+
+/// Linux's error numbers for too many open files, of the process and of the system.
+const NO_FILES: [i32; 2] = [24, 23];
 
 /// The listener, and the poll that reports new clients and requests.
 struct Entry {
     poll: Poll,
     events: Events,
     listener: TcpListener,
+    /// A descriptor that is closed to accept a client if no more files may be open.
+    spare: Option<OwnedFd>,
 }
 
 impl Drop for Entry {
@@ -35,6 +47,7 @@ impl Drop for Entry {
             poll: _poll,
             events: _events,
             listener: _listener,
+            spare: _spare,
         } = self;
     }
 }
@@ -45,27 +58,65 @@ impl Entry {
         listener.set_nonblocking(true)?;
         let mut entry = Entry {
             poll: Poll::new(rt)?,
-            events: Events::with_capacity(alloc, MOST_VISITORS)?,
+            events: Events::with_capacity(alloc, MAX_VISITORS)?,
             listener: TcpListener::from_std(listener),
+            spare: None,
         };
+        entry.keep_spare();
         let registry = entry.poll.registry();
-        registry.register(&mut entry.listener, Token(0), Interest::READABLE)?;
+        registry.register(&mut entry.listener, LISTENER, Interest::READABLE)?;
         Ok(entry)
     }
 
-    /// Waits a little for an event. If the poll fails, the next look comes at once.
-    fn look(&mut self) {
-        let timeout = Duration::from_millis(LOOK_MILLIS);
+    /// Waits a little for an event, or only polls if there is work left. Returns whether there is
+    /// work left or an event came. If the poll fails, the next look comes at once.
+    fn look(&mut self, is_busy: bool) -> bool {
+        let millis = if is_busy { 0 } else { LOOK_MILLIS };
+        let timeout = Duration::from_millis(millis);
         let _ = self.poll.poll(&mut self.events, Some(timeout));
+        is_busy || !self.events.is_empty()
     }
 
-    /// Accepts the next connection, if one is pending and can be registered with the poll.
-    fn accept(&mut self) -> Option<TcpStream> {
-        let (mut stream, _) = self.listener.accept().ok()?;
+    /// Whether the last poll reported a new connection.
+    fn has_come(&self) -> bool {
+        self.events.iter().any(|event| event.token() == LISTENER)
+    }
+
+    /// Accepts the next connection and registers it with the poll. If no more files may be open, it
+    /// takes the place of the spare descriptor.
+    fn accept(&mut self) -> io::Result<TcpStream> {
+        match self.accept_one() {
+            Err(fault) if lacks_files(&fault) && self.spare.take().is_some() => {
+                let accepted = self.accept_one();
+                self.keep_spare();
+                accepted
+            }
+            done => done,
+        }
+    }
+
+    /// Accepts the next connection with a new descriptor.
+    fn accept_one(&mut self) -> io::Result<TcpStream> {
+        let (mut stream, _) = self.listener.accept()?;
         let interests = Interest::READABLE | Interest::WRITABLE;
         let registry = self.poll.registry();
-        registry.register(&mut stream, Token(1), interests).ok()?;
-        Some(stream)
+        registry.register(&mut stream, VISITOR, interests)?;
+        Ok(stream)
+    }
+
+    /// Opens the spare descriptor again if it was closed and one more file may be open.
+    fn keep_spare(&mut self) {
+        if self.spare.is_none() {
+            self.spare = self.listener.as_fd().try_clone_to_owned().ok();
+        }
+    }
+}
+
+/// Whether there is no connection because no more files may be open.
+fn lacks_files(fault: &io::Error) -> bool {
+    match fault.raw_os_error() {
+        Some(number) => NO_FILES.contains(&number),
+        None => false,
     }
 }
 
@@ -102,16 +153,16 @@ impl MetricsServer {
         Ok(MetricsServer {
             alloc,
             entry,
-            visitors: Vec::with_capacity(alloc, MOST_VISITORS)?,
+            visitors: Vec::with_capacity(alloc, MAX_VISITORS)?,
             pages,
         })
     }
 
     /// Serves until a stop is requested, or the clock can't be read.
-    pub fn serve<R: Wait + RandomSource + time::Clock>(self, rt: &R, dismissal: &Dismissal) {
+    pub fn serve<R: Wait + RandomSource + time::Clock>(self, rt: &R, stop_token: &StopToken) {
         let mut server = self;
         if let Ok(begin) = Instant::now(rt) {
-            server.serve_since(rt, &begin, dismissal);
+            server.serve_since(rt, &begin, stop_token);
         }
     }
 
@@ -120,62 +171,90 @@ impl MetricsServer {
         &mut self,
         rt: &R,
         begin: &Instant,
-        dismissal: &Dismissal,
+        stop_token: &StopToken,
     ) {
         self.pages.sample();
+        let mut is_busy = false;
         for _ in rt.forever() {
-            self.entry.look();
+            let asked = self.entry.look(is_busy);
             let Ok(passed) = begin.elapsed(rt) else {
                 return;
             };
-            if dismissal.is_said() {
+            if stop_token.is_said() {
                 return;
             }
             self.pages.pass(passed.as_secs());
-            self.let_in(rt);
-            self.serve_visitors();
+            if asked {
+                self.pages.refresh();
+            }
+            let more_come = self.let_in(rt, asked);
+            is_busy = self.serve_visitors() || more_come;
+            self.entry.keep_spare();
         }
         unreachable!()
     }
 
-    /// Accepts pending clients.
-    fn let_in<R: RandomSource>(&mut self, rt: &R) {
-        for _ in 0..COMERS {
-            let Some(visitor) = self.next_visitor(rt) else {
-                return;
-            };
-            self.make_room();
-            // Can't fail: the capacity was reserved.
-            let _ = self.visitors.push(visitor);
+    /// Accepts pending clients, a limited number per turn. Returns whether there may be more. If no
+    /// file is left, a client is dropped for the next one, if another has come or nobody asked
+    /// since the last turn.
+    fn let_in<R: RandomSource>(&mut self, rt: &R, asked: bool) -> bool {
+        for place in 0..COMERS {
+            match self.entry.accept() {
+                Ok(stream) => self.welcome(rt, stream),
+                Err(fault) => {
+                    let is_needed = place == 0 && (!asked || self.entry.has_come());
+                    return is_needed && lacks_files(&fault) && self.dismiss_one();
+                }
+            }
         }
+        true
     }
 
-    /// Accepts the next client, if one is pending and can be served.
-    fn next_visitor<R: RandomSource>(&mut self, rt: &R) -> Option<Visitor> {
-        let stream = self.entry.accept()?;
-        let keys = RandomState::new(rt).ok()?;
-        Some(Visitor::new(self.alloc, keys, stream))
-    }
-
-    /// Drops the oldest client if the maximum is reached.
-    fn make_room(&mut self) {
-        if self.visitors.len() >= MOST_VISITORS {
-            self.visitors.remove(0);
+    /// Adds a client, unless the system has no random bytes for it.
+    fn welcome<R: RandomSource>(&mut self, rt: &R, stream: TcpStream) {
+        let Ok(keys) = RandomState::new(rt) else {
+            return;
+        };
+        if self.visitors.len() >= MAX_VISITORS {
+            self.dismiss_one();
         }
+        // There is room for all who stay.
+        let _ = self.visitors.push(Visitor::new(self.alloc, keys, stream));
     }
 
-    /// Serves each client, and drops those that are done.
-    fn serve_visitors(&mut self) {
+    /// Drops the oldest client that had an answer, or the oldest if none had. Returns whether there
+    /// was one.
+    fn dismiss_one(&mut self) -> bool {
+        let answered = self.visitors.iter().position(|it| it.was_answered());
+        let place = answered.unwrap_or(0);
+        if place >= self.visitors.len() {
+            return false;
+        }
+        self.visitors.remove(place);
+        true
+    }
+
+    /// Serves each client, and drops those that are done. Returns whether one may have more
+    /// requests.
+    fn serve_visitors(&mut self) -> bool {
         let mut place = 0;
-        for _ in 0..MOST_VISITORS {
+        let mut is_busy = false;
+        for _ in 0..MAX_VISITORS {
             if place >= self.visitors.len() {
-                return;
+                return is_busy;
             }
-            if self.visitors[place].serve(&mut self.pages) {
-                place += 1;
-            } else {
-                self.visitors.remove(place);
+            match self.visitors[place].serve(&mut self.pages) {
+                Visit::Asks => {
+                    is_busy = true;
+                    place += 1;
+                }
+                Visit::Waits => place += 1,
+                Visit::Over => {
+                    self.visitors.remove(place);
+                    self.entry.keep_spare();
+                }
             }
         }
+        is_busy
     }
 }

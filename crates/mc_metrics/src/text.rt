@@ -35,6 +35,8 @@ enum Number {
     Items,
     Bytes,
     Evicted,
+    Expired,
+    TooLarge,
     OutOfMemory,
     Resident,
     Started,
@@ -74,11 +76,11 @@ const COUNTER: &str = "counter";
 
 /// All metrics with one sample, in their order of output. Metrics that memcached's exporter has too
 /// have its names and its meaning.
-const METRICS: [Metric; 22] = [
+const METRICS: [Metric; 24] = [
     Metric {
         name: "memcached_up",
         kind: GAUGE,
-        help: "1 as long as the server runs.",
+        help: "Always 1 while the server runs.",
         number: Number::Up,
     },
     Metric {
@@ -90,7 +92,7 @@ const METRICS: [Metric; 22] = [
     Metric {
         name: "memcached_limit_bytes",
         kind: GAUGE,
-        help: "Limit for the cost of all items, in bytes.",
+        help: "Memory budget of all items, in bytes.",
         number: Number::LimitBytes,
     },
     Metric {
@@ -114,7 +116,7 @@ const METRICS: [Metric; 22] = [
     Metric {
         name: "mcd_connections_waiting",
         kind: GAUGE,
-        help: "Number of connections waiting in the system's queue to be accepted.",
+        help: "Connections in the listen backlog.",
         number: Number::Waiting,
     },
     Metric {
@@ -168,7 +170,7 @@ const METRICS: [Metric; 22] = [
     Metric {
         name: "memcached_current_bytes",
         kind: GAUGE,
-        help: "Cost of all items in bytes: key, value and 64 each.",
+        help: "Cost of all items in bytes: key, value and 64 for each item.",
         number: Number::Bytes,
     },
     Metric {
@@ -178,9 +180,21 @@ const METRICS: [Metric; 22] = [
         number: Number::Evicted,
     },
     Metric {
+        name: "mcd_items_expired_total",
+        kind: COUNTER,
+        help: "Expired items removed as others were stored.",
+        number: Number::Expired,
+    },
+    Metric {
+        name: "mcd_values_too_large_total",
+        kind: COUNTER,
+        help: "Values of set and ms above the value limit, with --drop-in.",
+        number: Number::TooLarge,
+    },
+    Metric {
         name: "mcd_out_of_memory_total",
         kind: COUNTER,
-        help: "Commands that failed because no memory was left.",
+        help: "Commands refused because the system had no memory.",
         number: Number::OutOfMemory,
     },
     Metric {
@@ -407,6 +421,8 @@ impl Number {
             Number::Items => reading.totals.shards.items,
             Number::Bytes => reading.totals.shards.bytes,
             Number::Evicted => reading.totals.shards.evicted,
+            Number::Expired => reading.totals.shards.reclaimed,
+            Number::TooLarge => reading.totals.shards.too_large,
             Number::OutOfMemory => reading.totals.shards.out_of_memory,
             Number::Resident => reading.process.resident,
             Number::Started => reading.facts.started,

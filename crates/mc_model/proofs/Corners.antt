@@ -1,13 +1,14 @@
 -- Corners of the definitions, each computed: how each event may be answered.
-use Rattle.std.proofs.Common.{◌≡◌, ℕ, zero, suc, ◌+◌, ◌<◌, ◌≤◌, ◌++◌, ◌⊎◌, true, false, IsTrue, inl, inr, List, [], ◌∷◌, Some, refl, sym, subst, arith, codes, lit<, lit≤}
+use Rattle.std.proofs.Common.{◌≡◌, ℕ, zero, suc, ◌+◌, ◌<◌, ◌≤◌, ◌++◌, ◌⊎◌, true, false, IsTrue, inl, inr, List, [], ◌∷◌}
+use Rattle.std.proofs.Common.{Some, refl, sym, subst, arith, codes, lit<, lit≤}
 use Rattle.std.specs.List.{slice_get}
 use Rattle.mc_sizes.specs.Sizes.{rules_of}
 use Rattle.mc_sizes.specs.declared.sizes.Sizes.{Sizes}
 use Rattle.mc_reader.specs.Spelling.{SpellsNothing}
 use Rattle.mc_item.specs.Kind.{kind_of}
 use Rattle.mc_split.specs.Pieces.{pieces_of}
-use Rattle.mc_reply.specs.Shape.{shape_of}
-use Rattle.mc_reply.specs.Text.{shape_text}
+use Rattle.mc_reply.specs.ReplyKind.{reply_kind_of}
+use Rattle.mc_reply.specs.Text.{reply_kind_text}
 use Rattle.mc_conn.specs.Fits.{HasCome}
 use Rattle.mc_model.specs.Log.{Entry}
 use Rattle.mc_model.specs.World.{IsAt, Link, World, empty_world, new_link, ran, sent_to}
@@ -17,16 +18,19 @@ use Rattle.mc_model.specs.Events.Event.{Open, Feed, Take, Send, Pop, Give, Recei
 use Rattle.mc_model.specs.Schedule.{Happens, Spared}
 use Rattle.mc_model.specs.declared.event.StepReply.TheVariants.{Done, Idle, NoMemory}
 use Rattle.mc_model.specs.Headline.{handed_bytes}
-use Rattle.mc_model.proofs.Rows.{alone, at_alone, begins, broken, come, ended, entry, fed, flush, given, handed, line, one, one_each, piece, received, sent, spells_flush, taken}
+use Rattle.mc_model.proofs.Rows.{alone, at_alone, begins, broken, come, ended, entry, fed, flush, given, handed, line}
+use Rattle.mc_model.proofs.Rows.{one, one_each, piece, received, sent, spells_flush, taken}
 
 -- What is idle
 
 -- An event is idle where it is allowed for no connection.
-idle : (sizes : Sizes) (w : World) (event : Event) → ((k : ℕ) (link : Link) → Allows sizes w event k link → ⊥) → Happens sizes w event Idle w
+idle : (sizes : Sizes) (w : World) (event : Event) → ((k : ℕ) (link : Link) → Allows sizes w event k link → ⊥)
+    → Happens sizes w event Idle w
 idle sizes w event never = (inl (λ enabled. never enabled.0 enabled.1 enabled.2), refl)
 
 -- A closed connection is idle, if there is one connection.
-idle_alone : (sizes : Sizes) (log : List Entry) (here : Link) (event : Event) → ((k : ℕ) (link : Link) → Allows sizes (alone log here) event k link → slice_get (here ∷ []) k ≡ Some link)
+idle_alone : (sizes : Sizes) (log : List Entry) (here : Link) (event : Event)
+    → ((k : ℕ) (link : Link) → Allows sizes (alone log here) event k link → slice_get (here ∷ []) k ≡ Some link)
     → (Allows sizes (alone log here) event 0 here → ⊥) → Happens sizes (alone log here) event Idle (alone log here)
 idle_alone sizes log here event at never = idle sizes (alone log here) event allowed where
   allowed : (k : ℕ) (link : Link) → Allows sizes (alone log here) event k link → ⊥
@@ -88,7 +92,8 @@ open_still : (k : ℕ) (link : Link) → IsAt (alone [] (new_link 0)) 0 k link �
 open_still zero link at may =
     let found = at.here in
     let same : link ≡ new_link 0 = cc in
-    let over : IsClosed one_each (new_link 0) ⊎ IsTrue false = subst (λ (l : Link). IsClosed one_each l ⊎ IsTrue l.broken) same may.1 in
+    let over : IsClosed one_each (new_link 0) ⊎ IsTrue false =
+    subst (λ (l : Link). IsClosed one_each l ⊎ IsTrue l.broken) same may.1 in
     elim over [
       | inl closed ↦ elim closed [
         | inl last ↦ absurd cc
@@ -103,35 +108,62 @@ unfolding pieces_of
 are_idle = record {
   nothing_fed = idle one_each empty_world (Feed 0 line) (λ k link may. none k link may.0.here);
   nothing_to_end = idle one_each empty_world (End 0) (λ k link may. none k link may.0.here);
-  no_such_seat = idle one_each empty_world (Open 1) (λ k link may. let bad : 1 < 1 = may.2 in absurd (omega (arith, bad)));
+  no_such_seat =
+      idle one_each empty_world (Open 1) (λ k link may. let bad : 1 < 1 = may.2 in absurd (omega (arith, bad)));
   not_over = idle one_each (alone [] (new_link 0)) (Open 0) (λ k link may. elim may.3 [
     | inl unused ↦ unused 0 (new_link 0) refl refl
     | inr free ↦ open_still free.0 free.1 free.2 free.3
   ]);
-  fed_after_the_end = idle_alone one_each [] ended (Feed 0 line) (λ k link may. may.0.here) (λ may. let bad : true ≡ false = may.1 in absurd cc);
-  fed_when_broken = idle_alone one_each [] broken (Feed 0 line) (λ k link may. may.0.here) (λ may. let bad : true ≡ false = may.2 in absurd cc);
-  fed_nothing = idle_alone one_each [] fed (Feed 0 []) (λ k link may. may.0.here) (λ may. let bad : 0 < 0 = may.3 in absurd (omega (arith, bad)));
-  window_full = idle_alone one_each [] full (Take 0 1000) (λ k link may. may.0.here) (λ may. let bad : 1 < 1 = may.2 in absurd (omega (arith, bad)));
-  all_sent = idle_alone one_each [] sent (Send 0) (λ k link may. may.0.here) (λ may. let next = may.1.next in absurd cc);
+  fed_after_the_end =
+      idle_alone one_each [] ended (Feed 0 line) (λ k link may. may.0.here)
+      (λ may. let bad : true ≡ false = may.1 in absurd cc);
+  fed_when_broken =
+      idle_alone one_each [] broken (Feed 0 line) (λ k link may. may.0.here)
+      (λ may. let bad : true ≡ false = may.2 in absurd cc);
+  fed_nothing =
+      idle_alone one_each [] fed (Feed 0 []) (λ k link may. may.0.here)
+      (λ may. let bad : 0 < 0 = may.3 in absurd (omega (arith, bad)));
+  window_full =
+      idle_alone one_each [] full (Take 0 1000) (λ k link may. may.0.here)
+      (λ may. let bad : 1 < 1 = may.2 in absurd (omega (arith, bad)));
+  all_sent =
+      idle_alone one_each [] sent (Send 0) (λ k link may. may.0.here) (λ may. let next = may.1.next in absurd cc);
   ring_full = idle_alone two [] half_sent (Send 0) (λ k link may. may.0.here) (λ may.
       let next = may.1.next in
       let to : may.1.piece.0 ≡ 0 = cc in
       let bad : 1 < 0 + 1 = subst (λ s. sent_to two s half_sent < ran (alone [] half_sent) 0 s + 1) to may.1.room in
       absurd (omega (arith, bad)));
-  ring_empty = idle_alone one_each [] taken (Pop 0 0) (λ k link may. may.0.here) (λ may. let bad : 0 < 0 = may.2 in absurd (omega (arith, bad)));
-  hand_full = idle_alone one_each (entry ∷ []) sent (Pop 0 0) (λ k link may. may.0.here) (λ may. let bad : 1 ≤ 0 = may.1 0 sent refl in absurd (omega (arith, bad)));
-  hand_empty = idle_alone one_each (entry ∷ []) given (Give 0) (λ k link may. may.0) (λ may. let bad : 1 < 1 = may.1 in absurd (omega (arith, bad)));
-  nothing_given = idle_alone one_each (entry ∷ []) sent (Receive 0 0) (λ k link may. may.0.here) (λ may. let bad : 0 < 0 = may.1 in absurd (omega (arith, bad)));
-  no_answer = idle_alone one_each (entry ∷ []) given (Hand 0) (λ k link may. may.0.here) (λ may. let bad : 1 ≤ 0 = may.2 0 in absurd (omega (arith, bad)));
-  all_handed = idle_alone one_each (entry ∷ []) handed (Hand 0) (λ k link may. may.0.here) (λ may. let bad : 1 < 1 = may.1 in absurd (omega (arith, bad)));
-  ended_twice = idle_alone one_each (entry ∷ []) ended (End 0) (λ k link may. may.0.here) (λ may. let bad : true ≡ false = may.1 in absurd cc);
-  broken_twice = idle_alone one_each [] broken (Break 0) (λ k link may. may.0.here) (λ may. let bad : true ≡ false = may.1 in absurd cc);
+  ring_empty =
+      idle_alone one_each [] taken (Pop 0 0) (λ k link may. may.0.here)
+      (λ may. let bad : 0 < 0 = may.2 in absurd (omega (arith, bad)));
+  hand_full =
+      idle_alone one_each (entry ∷ []) sent (Pop 0 0) (λ k link may. may.0.here)
+      (λ may. let bad : 1 ≤ 0 = may.1 0 sent refl in absurd (omega (arith, bad)));
+  hand_empty =
+      idle_alone one_each (entry ∷ []) given (Give 0) (λ k link may. may.0)
+      (λ may. let bad : 1 < 1 = may.1 in absurd (omega (arith, bad)));
+  nothing_given =
+      idle_alone one_each (entry ∷ []) sent (Receive 0 0) (λ k link may. may.0.here)
+      (λ may. let bad : 0 < 0 = may.1 in absurd (omega (arith, bad)));
+  no_answer =
+      idle_alone one_each (entry ∷ []) given (Hand 0) (λ k link may. may.0.here)
+      (λ may. let bad : 1 ≤ 0 = may.2 0 in absurd (omega (arith, bad)));
+  all_handed =
+      idle_alone one_each (entry ∷ []) handed (Hand 0) (λ k link may. may.0.here)
+      (λ may. let bad : 1 < 1 = may.1 in absurd (omega (arith, bad)));
+  ended_twice =
+      idle_alone one_each (entry ∷ []) ended (End 0) (λ k link may. may.0.here)
+      (λ may. let bad : true ≡ false = may.1 in absurd cc);
+  broken_twice =
+      idle_alone one_each [] broken (Break 0) (λ k link may. may.0.here)
+      (λ may. let bad : true ≡ false = may.1 in absurd cc);
 }
 
 -- What is never idle
 
 -- An event that is allowed for a connection, and isn't spared, is not idle.
-not_idle : (sizes : Sizes) (w w' : World) (event : Event) (k : ℕ) (link : Link) → Allows sizes w event k link → (Spared sizes w event → ⊥) → ¬ Happens sizes w event Idle w'
+not_idle : (sizes : Sizes) (w w' : World) (event : Event) (k : ℕ) (link : Link) → Allows sizes w event k link
+    → (Spared sizes w event → ⊥) → ¬ Happens sizes w event Idle w'
 not_idle sizes w w' event k link may unspared idles = elim idles.0 [
   | inl never ↦ never (k, link, may)
   | inr spared ↦ unspared spared
@@ -149,12 +181,24 @@ record AreNeverIdle : Type 0 where
 are_never_idle : AreNeverIdle
 unfolding pieces_of
 are_never_idle = record {
-  next_taken = not_idle one_each (alone [] fed) (alone [] fed) (Take 0 1000) 0 fed (at_alone [] fed refl, (flush, begins), lit< tt, refl) (λ spared. spared);
-  piece_sent = not_idle one_each (alone [] taken) (alone [] taken) (Send 0) 0 taken (at_alone [] taken refl, record { piece = (0, piece); next = refl; room = lit< tt }) (λ spared. spared);
-  piece_run = not_idle one_each (alone [] sent) (alone [] sent) (Pop 0 0) 0 sent (at_alone [] sent refl, λ k link here. omega arith, lit< tt) (λ spared. spared);
-  answer_given = not_idle one_each (alone (entry ∷ []) sent) (alone (entry ∷ []) sent) (Give 0) 0 sent (refl, lit< tt, lit< tt) (λ spared. spared);
-  answer_received = not_idle one_each (alone (entry ∷ []) given) (alone (entry ∷ []) given) (Receive 0 0) 0 given (at_alone (entry ∷ []) given refl, lit< tt) (λ spared. spared);
-  reply_handed = not_idle one_each (alone (entry ∷ []) received) (alone (entry ∷ []) received) (Hand 0) 0 received (at_alone (entry ∷ []) received refl, lit< tt, come, refl) (λ spared. spared);
+  next_taken =
+      not_idle one_each (alone [] fed) (alone [] fed) (Take 0 1000) 0 fed
+      (at_alone [] fed refl, (flush, begins), lit< tt, refl) (λ spared. spared);
+  piece_sent =
+      not_idle one_each (alone [] taken) (alone [] taken) (Send 0) 0 taken
+      (at_alone [] taken refl, record { piece = (0, piece); next = refl; room = lit< tt }) (λ spared. spared);
+  piece_run =
+      not_idle one_each (alone [] sent) (alone [] sent) (Pop 0 0) 0 sent
+      (at_alone [] sent refl, λ k link here. omega arith, lit< tt) (λ spared. spared);
+  answer_given =
+      not_idle one_each (alone (entry ∷ []) sent) (alone (entry ∷ []) sent) (Give 0) 0 sent (refl, lit< tt, lit< tt)
+      (λ spared. spared);
+  answer_received =
+      not_idle one_each (alone (entry ∷ []) given) (alone (entry ∷ []) given) (Receive 0 0) 0 given
+      (at_alone (entry ∷ []) given refl, lit< tt) (λ spared. spared);
+  reply_handed =
+      not_idle one_each (alone (entry ∷ []) received) (alone (entry ∷ []) received) (Hand 0) 0 received
+      (at_alone (entry ∷ []) received refl, lit< tt, come, refl) (λ spared. spared);
 }
 
 -- What lacks memory
@@ -213,8 +257,21 @@ untaken all = subst (λ bytes. SpellsNothing (rules_of one_each) bytes) (sym all
 
 fed_in_part : FedInPart
 fed_in_part = record {
-  some = (0, fed, (at_alone [] fed refl, refl, refl, lit< tt), (2, record { within = lit≤ tt; whole = λ used short. absurd cc; some = λ all room some. lit< tt }, lit< tt, refl));
-  none = (inr (0, fed, at_alone [] fed refl, record { within = lit≤ tt; whole = λ used short. absurd cc; some = λ all room some. absurd (untaken all) }), refl);
+  some = (
+    0,
+    fed,
+    (at_alone [] fed refl, refl, refl, lit< tt),
+    (2, record { within = lit≤ tt; whole = λ used short. absurd cc; some = λ all room some. lit< tt }, lit< tt, refl),
+  );
+  none = (
+    inr (
+      0,
+      fed,
+      at_alone [] fed refl,
+      record { within = lit≤ tt; whole = λ used short. absurd cc; some = λ all room some. absurd (untaken all) },
+    ),
+    refl,
+  );
   all = record { within = lit≤ tt; whole = λ used short. refl; some = λ all room some. lit< tt };
   not_some = λ may. let bad : 2 ≡ 4 = may.whole used_up (lit≤ tt) in absurd (omega (arith, bad));
   not_none = λ may. let bad : 0 ≡ 4 = may.whole used_up (lit≤ tt) in absurd (omega (arith, bad));
@@ -240,10 +297,21 @@ unfolding pieces_of
 nothing_due s = lit≤ tt
 
 given_up : GivenUp
-unfolding pieces_of shape_of shape_text kind_of
+unfolding pieces_of reply_kind_of reply_kind_text kind_of
 given_up = record {
-  took = (0, fed, (at_alone [] fed refl, (flush, begins), lit< tt, refl), (record one { given_up = true }, record { next = begins; moment_is = refl; may = λ gone. refl }, refl));
-  asks_none = idle_alone one_each [] gave (Send 0) (λ k link may. may.0.here) (λ may. let next = may.1.next in absurd cc);
-  hands = (0, gave, (at_alone [] gave refl, lit< tt, nothing_due, refl), (1, record { within = lit≤ tt; come = nothing_due; most = λ count within has. within }, refl));
+  took = (
+    0,
+    fed,
+    (at_alone [] fed refl, (flush, begins), lit< tt, refl),
+    (record one { given_up = true }, record { next = begins; moment_is = refl; may = λ gone. refl }, refl),
+  );
+  asks_none =
+      idle_alone one_each [] gave (Send 0) (λ k link may. may.0.here) (λ may. let next = may.1.next in absurd cc);
+  hands = (
+    0,
+    gave,
+    (at_alone [] gave refl, lit< tt, nothing_due, refl),
+    (1, record { within = lit≤ tt; come = nothing_due; most = λ count within has. within }, refl),
+  );
   replied = refl;
 }

@@ -1,7 +1,8 @@
 -- A worked row of two connections on two shards, in which answers come in another order than their pieces
 -- were sent. The first connection has its reply once both of its answers have come; the second fails, comes
 -- to rest and is replaced.
-use Rattle.std.proofs.Common.{◌≡◌, ℕ, zero, suc, ◌+◌, ◌<◌, ◌≤◌, true, inl, inr, List, [], ◌∷◌, ◌++◌, length, refl, sym, ap, ◌∙◌, subst, arith, codes, pos, lit<, lit≤}
+use Rattle.std.proofs.Common.{◌≡◌, ℕ, zero, suc, ◌+◌, ◌<◌, ◌≤◌, true, false, inl, inr, List, [], ◌∷◌, ◌++◌, length}
+use Rattle.std.proofs.Common.{refl, sym, ap, ◌∙◌, subst, arith, codes, pos, lit<, lit≤}
 use Rattle.std.proofs.lemmas.Bool.Decides.{eqb_tells}
 use Rattle.mc_command.specs.declared.rules.Profile.TheVariants.{Own}
 use Rattle.mc_sizes.specs.declared.sizes.Sizes.{Sizes}
@@ -11,8 +12,8 @@ use Rattle.mc_item.specs.Expiry.{expiry_of}
 use Rattle.mc_item.specs.Kind.{key_of, kind_of}
 use Rattle.mc_split.specs.declared.plan.Piece.{Piece}
 use Rattle.mc_split.specs.Pieces.{pieces_of}
-use Rattle.mc_reply.specs.Shape.{shape_of}
-use Rattle.mc_reply.specs.Text.{shape_text}
+use Rattle.mc_reply.specs.ReplyKind.{reply_kind_of}
+use Rattle.mc_reply.specs.Text.{reply_kind_text}
 use Rattle.mc_store.specs.State.{State, empty_state}
 use Rattle.mc_store.specs.Step.{Answers, IsStep, noted_in, step_of}
 use Rattle.mc_conn.specs.History.{Taken}
@@ -29,7 +30,18 @@ use Rattle.mc_model.specs.Headline.{handed_bytes}
 use Rattle.mc_model.proofs.Rows.{alone, begins, flush, line, one}
 
 abbrev two_each : Sizes
-two_each = record { profile = Own; seats = 2; shards = 2; bytes = 1024; ring = 1; value = 1024; line = 65536; window = 1 }
+two_each =
+    record {
+      profile = Own;
+      seats = 2;
+      shards = 2;
+      bytes = 1024;
+      ring = 1;
+      value = 1024;
+      line = 65536;
+      window = 1;
+      shutdown = false;
+    }
 
 -- what the second connection takes, a second later
 abbrev later : Taken
@@ -116,7 +128,9 @@ renewed = record { log = log_4; links = a_handed ∷ b_all_received ∷ new_link
 
 -- the events, in five parts
 abbrev begun : List Event
-begun = Open 0 ∷ Open 1 ∷ Feed 0 line ∷ Feed 1 line ∷ Take 0 1000 ∷ Take 1 1001 ∷ Send 0 ∷ Send 0 ∷ Send 1 ∷ Send 1 ∷ Break 1 ∷ []
+begun =
+    Open 0 ∷ Open 1 ∷ Feed 0 line ∷ Feed 1 line ∷ Take 0 1000 ∷ Take 1 1001 ∷ Send 0 ∷ Send 0 ∷ Send 1 ∷ Send 1 ∷ Break
+    1 ∷ []
 
 abbrev crossed : List Event
 crossed = Pop 1 0 ∷ Give 1 ∷ Receive 0 1 ∷ Hand 0 ∷ []
@@ -158,7 +172,8 @@ first_is log a b (suc zero) link seat at =
     absurd (omega (arith, bad))
 first_is log a b (suc (suc k)) link seat at = let here = at.here in absurd cc
 
-second_is : (log : List Entry) (a b : Link) (k : ℕ) (link : Link) → a.seat ≡ 0 → IsAt (world log a b) 1 k link → link ≡ b
+second_is : (log : List Entry) (a b : Link) (k : ℕ) (link : Link) → a.seat ≡ 0 → IsAt (world log a b) 1 k link → link
+    ≡ b
 second_is log a b zero link seat at =
     let here = at.here in
     let is : a ≡ link = cc in
@@ -174,9 +189,12 @@ second_is_unused zero link here same =
     absurd (omega (arith, bad))
 second_is_unused (suc k) link here same = absurd cc
 
-empty_hand : (log : List Entry) (a b : Link) (shard : ℕ) → ran (world log a b) 0 shard ≤ a.given shard → ran (world log a b) 1 shard ≤ b.given shard → IsEmptyHand (world log a b) shard
-empty_hand log a b shard first second zero link here = let same : a ≡ link = cc in subst (λ (l : Link). ran (world log a b) 0 shard ≤ l.given shard) same first
-empty_hand log a b shard first second (suc zero) link here = let same : b ≡ link = cc in subst (λ (l : Link). ran (world log a b) 1 shard ≤ l.given shard) same second
+empty_hand : (log : List Entry) (a b : Link) (shard : ℕ) → ran (world log a b) 0 shard ≤ a.given shard
+    → ran (world log a b) 1 shard ≤ b.given shard → IsEmptyHand (world log a b) shard
+empty_hand log a b shard first second zero link here = let same : a ≡ link =
+    cc in subst (λ (l : Link). ran (world log a b) 0 shard ≤ l.given shard) same first
+empty_hand log a b shard first second (suc zero) link here = let same : b ≡ link =
+    cc in subst (λ (l : Link). ran (world log a b) 1 shard ≤ l.given shard) same second
 empty_hand log a b shard first second (suc (suc k)) link here = absurd cc
 
 -- the shard of that number at that time, which has run nothing
@@ -194,26 +212,63 @@ flushed_at index moment = once (shard_at index moment)
 -- Each piece is run as the next that is due; a time before the shard's does not set it back.
 runs_1 : RunsNext two_each (world [] (a_sent 2) b_broken) 1 0 (a_sent 2) (entry 1 0 1000)
 unfolding IsStep Answers step_of pieces_of expiry_of kind_of key_of
-runs_1 = record { shard_is = refl; asker_is = refl; next = refl; before = empty_state 1 2 1024 0 1024; after = flushed_at 1 1000; left = refl; step = (shard_at 1 1000, inr refl, refl) }
+runs_1 =
+    record {
+      shard_is = refl;
+      asker_is = refl;
+      next = refl;
+      before = empty_state 1 2 1024 0 1024;
+      after = flushed_at 1 1000;
+      left = refl;
+      step = (shard_at 1 1000, inr refl, refl);
+    }
 
 runs_2 : RunsNext two_each (world log_1 a_received b_broken) 0 1 b_broken (entry 0 1 1001)
 unfolding IsStep Answers step_of pieces_of expiry_of kind_of key_of
-runs_2 = record { shard_is = refl; asker_is = refl; next = refl; before = empty_state 0 2 1024 0 1024; after = flushed_at 0 1001; left = refl; step = (shard_at 0 1001, inr refl, refl) }
+runs_2 =
+    record {
+      shard_is = refl;
+      asker_is = refl;
+      next = refl;
+      before = empty_state 0 2 1024 0 1024;
+      after = flushed_at 0 1001;
+      left = refl;
+      step = (shard_at 0 1001, inr refl, refl);
+    }
 
 runs_3 : RunsNext two_each (world log_2 a_received b_received) 0 0 a_received (entry 0 0 1000)
 unfolding IsStep Answers step_of pieces_of expiry_of kind_of key_of
-runs_3 = record { shard_is = refl; asker_is = refl; next = refl; before = flushed_at 0 1001; after = once (flushed_at 0 1001); left = (flushed_at 0 1001, (shard_at 0 1001, inr refl, refl), refl); step = (flushed_at 0 1001, inr refl, refl) }
+runs_3 =
+    record {
+      shard_is = refl;
+      asker_is = refl;
+      next = refl;
+      before = flushed_at 0 1001;
+      after = once (flushed_at 0 1001);
+      left = (flushed_at 0 1001, (shard_at 0 1001, inr refl, refl), refl);
+      step = (flushed_at 0 1001, inr refl, refl);
+    }
 
 runs_4 : RunsNext two_each (world log_3 a_handed b_received) 1 1 b_received (entry 1 1 1001)
 unfolding IsStep Answers step_of pieces_of expiry_of kind_of key_of
-runs_4 = record { shard_is = refl; asker_is = refl; next = refl; before = flushed_at 1 1000; after = once (record (flushed_at 1 1000) { time = 1001 }); left = (flushed_at 1 1000, (shard_at 1 1000, inr refl, refl), refl); step = (record (flushed_at 1 1000) { time = 1001 }, inr refl, refl) }
+runs_4 =
+    record {
+      shard_is = refl;
+      asker_is = refl;
+      next = refl;
+      before = flushed_at 1 1000;
+      after = once (record (flushed_at 1 1000) { time = 1001 });
+      left = (flushed_at 1 1000, (shard_at 1 1000, inr refl, refl), refl);
+      step = (record (flushed_at 1 1000) { time = 1001 }, inr refl, refl);
+    }
 
 -- The reply waits for the answer of shard 0.
 waits : Happens two_each (world log_1 a_received b_broken) (Hand 0) Idle (world log_1 a_received b_broken)
 unfolding pieces_of
 waits = (
   inl (λ may.
-      let come = subst (λ (l : Link). HasCome 2 l.taken l.received (l.handed + 1)) (first_is log_1 a_received b_broken may.0 may.1 refl may.2.0) may.2.2 in
+      let come = subst (λ (l : Link). HasCome 2 l.taken l.received (l.handed + 1))
+      (first_is log_1 a_received b_broken may.0 may.1 refl may.2.0) may.2.2 in
       let bad : 1 ≤ 0 = come 0 in
       absurd (omega (arith, bad))),
   refl,
@@ -236,7 +291,8 @@ not_at_rest = (
   inl (λ may. elim may.2.3 [
     | inl unused ↦ unused 1 b_received refl refl
     | inr free ↦
-        let renews = subst (λ (l : Link). MayRenew two_each l) (second_is log_2 a_received b_received free.0 free.1 refl free.2) free.3 in
+        let renews = subst (λ (l : Link). MayRenew two_each l)
+        (second_is log_2 a_received b_received free.0 free.1 refl free.2) free.3 in
         let bad : 0 ≡ 1 = renews.0.1 1 in
         absurd (omega (arith, bad))
   ]),
@@ -262,41 +318,276 @@ at_rest = (refl, received) where
   ]
 
 -- Lists of events lead on, one behind another.
-leads_on : (sizes : Sizes) (w mid w' : World) (front rest : List Event) → Leads sizes w front mid → Leads sizes mid rest w' → Leads sizes w (front ++ rest) w'
+leads_on : (sizes : Sizes) (w mid w' : World) (front rest : List Event) → Leads sizes w front mid
+    → Leads sizes mid rest w' → Leads sizes w (front ++ rest) w'
 leads_on sizes w mid w' [] rest first second = subst (λ v. Leads sizes v rest w') first second
-leads_on sizes w mid w' (event ∷ front) rest first second = (first.0, first.1, first.2, leads_on sizes first.1 mid w' front rest first.3 second)
+leads_on sizes w mid w' (event ∷ front) rest first second =
+    (first.0, first.1, first.2, leads_on sizes first.1 mid w' front rest first.3 second)
 
 -- Both connections send a piece to each shard, and the second breaks.
 begins_all : Leads two_each empty_world begun (world [] (a_sent 2) b_broken)
 unfolding pieces_of
-begins_all = (Done, alone [] (new_link 0), (0, new_link 0, (refl, refl, lit< tt, inl (λ k link here same. absurd cc)), refl), (Done, world [] (new_link 0) (new_link 1), (1, new_link 1, (refl, refl, lit< tt, inl second_is_unused), refl), (Done, world [] a_fed (new_link 1), (0, new_link 0, (at_first [] (new_link 0) (new_link 1) refl refl, refl, refl, lit< tt), (11, record { within = lit≤ tt; whole = λ used short. refl; some = λ all room some. lit< tt }, lit< tt, refl)), (Done, world [] a_fed b_fed, (1, new_link 1, (at_second [] a_fed (new_link 1) refl, refl, refl, lit< tt), (11, record { within = lit≤ tt; whole = λ used short. refl; some = λ all room some. lit< tt }, lit< tt, refl)), (Done, world [] a_taken b_fed, (0, a_fed, (at_first [] a_fed b_fed refl refl, (flush, begins), lit< tt, refl), (one, record { next = begins; moment_is = refl; may = λ gone. absurd cc }, refl)), (Done, world [] a_taken b_taken, (1, b_fed, (at_second [] a_taken b_fed refl, (flush, begins), lit< tt, refl), (later, record { next = begins; moment_is = refl; may = λ gone. absurd cc }, refl)), (Done, world [] (a_sent 1) b_taken, (0, a_taken, (at_first [] a_taken b_taken refl refl, record { piece = (0, piece 0 1000); next = refl; room = lit< tt }), refl), (Done, world [] (a_sent 2) b_taken, (0, a_sent 1, (at_first [] (a_sent 1) b_taken refl refl, record { piece = (1, piece 1 1000); next = refl; room = lit< tt }), refl), (Done, world [] (a_sent 2) (b_sent 1), (1, b_taken, (at_second [] (a_sent 2) b_taken refl, record { piece = (0, piece 0 1001); next = refl; room = lit< tt }), refl), (Done, world [] (a_sent 2) (b_sent 2), (1, b_sent 1, (at_second [] (a_sent 2) (b_sent 1) refl, record { piece = (1, piece 1 1001); next = refl; room = lit< tt }), refl), (Done, world [] (a_sent 2) b_broken, (1, b_sent 2, (at_second [] (a_sent 2) (b_sent 2) refl, refl), refl), refl)))))))))))
+begins_all = (
+  Done,
+  alone [] (new_link 0),
+  (0, new_link 0, (refl, refl, lit< tt, inl (λ k link here same. absurd cc)), refl),
+  (
+    Done,
+    world [] (new_link 0) (new_link 1),
+    (1, new_link 1, (refl, refl, lit< tt, inl second_is_unused), refl),
+    (
+      Done,
+      world [] a_fed (new_link 1),
+      (
+        0,
+        new_link 0,
+        (at_first [] (new_link 0) (new_link 1) refl refl, refl, refl, lit< tt),
+        (11, record { within = lit≤ tt; whole = λ used short. refl; some = λ all room some. lit< tt }, lit< tt, refl),
+      ),
+      (
+        Done,
+        world [] a_fed b_fed,
+        (
+          1,
+          new_link 1,
+          (at_second [] a_fed (new_link 1) refl, refl, refl, lit< tt),
+          (11, record { within = lit≤ tt; whole = λ used short. refl; some = λ all room some. lit< tt }, lit< tt, refl),
+        ),
+        (
+          Done,
+          world [] a_taken b_fed,
+          (
+            0,
+            a_fed,
+            (at_first [] a_fed b_fed refl refl, (flush, begins), lit< tt, refl),
+            (one, record { next = begins; moment_is = refl; may = λ gone. absurd cc }, refl),
+          ),
+          (
+            Done,
+            world [] a_taken b_taken,
+            (
+              1,
+              b_fed,
+              (at_second [] a_taken b_fed refl, (flush, begins), lit< tt, refl),
+              (later, record { next = begins; moment_is = refl; may = λ gone. absurd cc }, refl),
+            ),
+            (
+              Done,
+              world [] (a_sent 1) b_taken,
+              (
+                0,
+                a_taken,
+                (
+                  at_first [] a_taken b_taken refl refl,
+                  record { piece = (0, piece 0 1000); next = refl; room = lit< tt },
+                ),
+                refl,
+              ),
+              (
+                Done,
+                world [] (a_sent 2) b_taken,
+                (
+                  0,
+                  a_sent 1,
+                  (
+                    at_first [] (a_sent 1) b_taken refl refl,
+                    record { piece = (1, piece 1 1000); next = refl; room = lit< tt },
+                  ),
+                  refl,
+                ),
+                (
+                  Done,
+                  world [] (a_sent 2) (b_sent 1),
+                  (
+                    1,
+                    b_taken,
+                    (
+                      at_second [] (a_sent 2) b_taken refl,
+                      record { piece = (0, piece 0 1001); next = refl; room = lit< tt },
+                    ),
+                    refl,
+                  ),
+                  (
+                    Done,
+                    world [] (a_sent 2) (b_sent 2),
+                    (
+                      1,
+                      b_sent 1,
+                      (
+                        at_second [] (a_sent 2) (b_sent 1) refl,
+                        record { piece = (1, piece 1 1001); next = refl; room = lit< tt },
+                      ),
+                      refl,
+                    ),
+                    (
+                      Done,
+                      world [] (a_sent 2) b_broken,
+                      (1, b_sent 2, (at_second [] (a_sent 2) (b_sent 2) refl, refl), refl),
+                      refl,
+                    ),
+                  ),
+                ),
+              ),
+            ),
+          ),
+        ),
+      ),
+    ),
+  ),
+)
 
 -- Shard 1 answers the first connection, whose reply waits for the other answer.
 crosses : Leads two_each (world [] (a_sent 2) b_broken) crossed (world log_1 a_received b_broken)
 unfolding pieces_of
-crosses = (Done, world log_1 (a_sent 2) b_broken, (0, a_sent 2, (at_first [] (a_sent 2) b_broken refl refl, empty_hand [] (a_sent 2) b_broken 1 (lit≤ tt) (lit≤ tt), lit< tt), (entry 1 0 1000, runs_1, refl)), (Done, world log_1 a_given b_broken, (0, a_sent 2, (refl, lit< tt, lit< tt), refl), (Done, world log_1 a_received b_broken, (0, a_given, (at_first log_1 a_given b_broken refl refl, lit< tt), refl), (Idle, world log_1 a_received b_broken, waits, refl))))
+crosses = (
+  Done,
+  world log_1 (a_sent 2) b_broken,
+  (
+    0,
+    a_sent 2,
+    (
+      at_first [] (a_sent 2) b_broken refl refl,
+      empty_hand [] (a_sent 2) b_broken 1 (lit≤ tt) (lit≤ tt),
+      lit< tt,
+    ),
+    (entry 1 0 1000, runs_1, refl),
+  ),
+  (
+    Done,
+    world log_1 a_given b_broken,
+    (0, a_sent 2, (refl, lit< tt, lit< tt), refl),
+    (
+      Done,
+      world log_1 a_received b_broken,
+      (0, a_given, (at_first log_1 a_given b_broken refl refl, lit< tt), refl),
+      (Idle, world log_1 a_received b_broken, waits, refl),
+    ),
+  ),
+)
 
 -- Shard 0 answers the second connection before the first, and no other follows it yet.
 waits_on : Leads two_each (world log_1 a_received b_broken) waited (world log_2 a_received b_received)
 unfolding pieces_of
-waits_on = (Done, world log_2 a_received b_broken, (1, b_broken, (at_second log_1 a_received b_broken refl, empty_hand log_1 a_received b_broken 0 (lit≤ tt) (lit≤ tt), lit< tt), (entry 0 1 1001, runs_2, refl)), (Done, world log_2 a_received b_given, (1, b_broken, (refl, lit< tt, lit< tt), refl), (Done, world log_2 a_received b_received, (1, b_given, (at_second log_2 a_received b_given refl, lit< tt), refl), (Idle, world log_2 a_received b_received, not_at_rest, refl))))
+waits_on = (
+  Done,
+  world log_2 a_received b_broken,
+  (
+    1,
+    b_broken,
+    (
+      at_second log_1 a_received b_broken refl,
+      empty_hand log_1 a_received b_broken 0 (lit≤ tt) (lit≤ tt),
+      lit< tt,
+    ),
+    (entry 0 1 1001, runs_2, refl),
+  ),
+  (
+    Done,
+    world log_2 a_received b_given,
+    (1, b_broken, (refl, lit< tt, lit< tt), refl),
+    (
+      Done,
+      world log_2 a_received b_received,
+      (1, b_given, (at_second log_2 a_received b_given refl, lit< tt), refl),
+      (Idle, world log_2 a_received b_received, not_at_rest, refl),
+    ),
+  ),
+)
 
 -- It answers the first, which has its reply.
 finishes : Leads two_each (world log_2 a_received b_received) finished (world log_3 a_handed b_received)
 unfolding pieces_of
-finishes = (Done, world log_3 a_received b_received, (0, a_received, (at_first log_2 a_received b_received refl refl, empty_hand log_2 a_received b_received 0 (lit≤ tt) (lit≤ tt), lit< tt), (entry 0 0 1000, runs_3, refl)), (Done, world log_3 a_all_given b_received, (0, a_received, (refl, lit< tt, lit< tt), refl), (Done, world log_3 a_all_received b_received, (0, a_all_given, (at_first log_3 a_all_given b_received refl refl, lit< tt), refl), (Done, world log_3 a_handed b_received, (0, a_all_received, (at_first log_3 a_all_received b_received refl refl, lit< tt, come, refl), (1, record { within = lit≤ tt; come = come; most = λ count within has. within }, refl)), refl))))
+finishes = (
+  Done,
+  world log_3 a_received b_received,
+  (
+    0,
+    a_received,
+    (
+      at_first log_2 a_received b_received refl refl,
+      empty_hand log_2 a_received b_received 0 (lit≤ tt) (lit≤ tt),
+      lit< tt,
+    ),
+    (entry 0 0 1000, runs_3, refl),
+  ),
+  (
+    Done,
+    world log_3 a_all_given b_received,
+    (0, a_received, (refl, lit< tt, lit< tt), refl),
+    (
+      Done,
+      world log_3 a_all_received b_received,
+      (0, a_all_given, (at_first log_3 a_all_given b_received refl refl, lit< tt), refl),
+      (
+        Done,
+        world log_3 a_handed b_received,
+        (
+          0,
+          a_all_received,
+          (at_first log_3 a_all_received b_received refl refl, lit< tt, come, refl),
+          (1, record { within = lit≤ tt; come = come; most = λ count within has. within }, refl),
+        ),
+        refl,
+      ),
+    ),
+  ),
+)
 
 -- Shard 1 answers the second, which another follows.
 renews : Leads two_each (world log_3 a_handed b_received) followed renewed
 unfolding pieces_of
-renews = (Done, world log_4 a_handed b_received, (1, b_received, (at_second log_3 a_handed b_received refl, empty_hand log_3 a_handed b_received 1 (lit≤ tt) (lit≤ tt), lit< tt), (entry 1 1 1001, runs_4, refl)), (Done, world log_4 a_handed b_all_given, (1, b_received, (refl, lit< tt, lit< tt), refl), (Done, world log_4 a_handed b_all_received, (1, b_all_given, (at_second log_4 a_handed b_all_given refl, lit< tt), refl), (Done, renewed, (2, new_link 1, (refl, refl, lit< tt, inr (1, b_all_received, at_second log_4 a_handed b_all_received refl, (at_rest, inr refl))), refl), refl))))
+renews = (
+  Done,
+  world log_4 a_handed b_received,
+  (
+    1,
+    b_received,
+    (
+      at_second log_3 a_handed b_received refl,
+      empty_hand log_3 a_handed b_received 1 (lit≤ tt) (lit≤ tt),
+      lit< tt,
+    ),
+    (entry 1 1 1001, runs_4, refl),
+  ),
+  (
+    Done,
+    world log_4 a_handed b_all_given,
+    (1, b_received, (refl, lit< tt, lit< tt), refl),
+    (
+      Done,
+      world log_4 a_handed b_all_received,
+      (1, b_all_given, (at_second log_4 a_handed b_all_given refl, lit< tt), refl),
+      (
+        Done,
+        renewed,
+        (
+          2,
+          new_link 1,
+          (
+            refl,
+            refl,
+            lit< tt,
+            inr
+                (1, b_all_received, at_second log_4 a_handed b_all_received refl, (at_rest, inr refl)),
+          ),
+          refl,
+        ),
+        refl,
+      ),
+    ),
+  ),
+)
 
 goes : Schedule two_each (begun ++ (crossed ++ (waited ++ (finished ++ followed)))) renewed
 goes =
-    leads_on two_each empty_world (world [] (a_sent 2) b_broken) renewed begun (crossed ++ (waited ++ (finished ++ followed))) begins_all
-    (leads_on two_each (world [] (a_sent 2) b_broken) (world log_1 a_received b_broken) renewed crossed (waited ++ (finished ++ followed)) crosses
-    (leads_on two_each (world log_1 a_received b_broken) (world log_2 a_received b_received) renewed waited (finished ++ followed) waits_on
-    (leads_on two_each (world log_2 a_received b_received) (world log_3 a_handed b_received) renewed finished followed finishes renews)))
+    leads_on two_each empty_world (world [] (a_sent 2) b_broken) renewed begun
+    (crossed ++ (waited ++ (finished ++ followed))) begins_all
+    (leads_on two_each (world [] (a_sent 2) b_broken) (world log_1 a_received b_broken) renewed crossed
+    (waited ++ (finished ++ followed)) crosses
+    (leads_on two_each (world log_1 a_received b_broken) (world log_2 a_received b_received) renewed waited
+    (finished ++ followed) waits_on
+    (leads_on two_each (world log_2 a_received b_received) (world log_3 a_handed b_received) renewed finished followed
+    finishes renews)))
 
 -- The first connection has its reply; the second has none, since it broke before one was handed out.
 record AreReplied : Type 0 where
@@ -304,5 +595,5 @@ record AreReplied : Type 0 where
   second : handed_bytes two_each renewed 1 b_all_received ≡ []
 
 are_replied : AreReplied
-unfolding pieces_of shape_of shape_text kind_of
+unfolding pieces_of reply_kind_of reply_kind_text kind_of
 are_replied = record { first = refl; second = refl }

@@ -1,6 +1,7 @@
 -- A worked row: one connection flushes one shard, ends and is renewed, and the next one breaks. Each of the
 -- ten kinds of event is done.
-use Rattle.std.proofs.Common.{◌≡◌, ℕ, zero, suc, ◌<◌, ◌≤◌, true, false, inl, inr, List, [], ◌∷◌, length, Some, refl, arith, codes, pos, lit<, subst}
+use Rattle.std.proofs.Common.{◌≡◌, ℕ, zero, suc, ◌<◌, ◌≤◌, true, false, inl, inr, List, [], ◌∷◌, length, Some, refl}
+use Rattle.std.proofs.Common.{arith, codes, pos, lit<, subst}
 use Rattle.std.specs.List.{slice_get}
 use Rattle.std.proofs.lemmas.Bool.Decides.{eqb_tells}
 use Rattle.mc_wire.specs.Number.{number_of}
@@ -18,8 +19,8 @@ use Rattle.mc_item.specs.Expiry.{expiry_of}
 use Rattle.mc_item.specs.Kind.{key_of, kind_of}
 use Rattle.mc_split.specs.declared.plan.Piece.{Piece}
 use Rattle.mc_split.specs.Pieces.{pieces_of}
-use Rattle.mc_reply.specs.Shape.{shape_of}
-use Rattle.mc_reply.specs.Text.{shape_text}
+use Rattle.mc_reply.specs.ReplyKind.{reply_kind_of}
+use Rattle.mc_reply.specs.Text.{reply_kind_text}
 use Rattle.mc_reader.specs.Spelling.{AreCommands, BeginCommands, Spells}
 use Rattle.mc_reader.proofs.Machine.{lined}
 use Rattle.mc_reader.proofs.Texts.{nothing_without_end}
@@ -41,7 +42,18 @@ use Rattle.mc_reply.specs.Server.{no_server}
 
 -- a server of one seat and one shard, with one place on a ring and one open command
 abbrev pub one_each : Sizes
-one_each = record { profile = Own; seats = 1; shards = 1; bytes = 1024; ring = 1; value = 1024; line = 65536; window = 1 }
+one_each =
+    record {
+      profile = Own;
+      seats = 1;
+      shards = 1;
+      bytes = 1024;
+      ring = 1;
+      value = 1024;
+      line = 65536;
+      window = 1;
+      shutdown = false;
+    }
 
 -- the bytes that the connection is fed: one line
 abbrev pub line : List ℕ
@@ -120,7 +132,8 @@ only_two x z y (suc j) less here = only z y j (omega (arith, less)) here
 -- The line is the text of the command that removes all items.
 pub spells_flush : Spells (rules_of one_each) line flush
 unfolding line_of words_of name_of number_of
-spells_flush = lined (rules_of one_each) (codes "flush_all\r") [] flush (no_end (codes "flush_all\r") refl) (lit< tt) refl refl
+spells_flush =
+    lined (rules_of one_each) (codes "flush_all\r") [] flush (no_end (codes "flush_all\r") refl) (lit< tt) refl refl
 
 -- The first command of the line is that one.
 pub begins : BeginCommands (rules_of one_each) line (flush ∷ [])
@@ -159,12 +172,15 @@ pub at_rest : AtRest one_each ended
 unfolding pieces_of
 at_rest = (all_taken, refl, refl)
 
--- Where there is only one connection, it is the one that its seat has.
+-- If there is only one connection, it is the one that its seat has.
 pub at_alone : (log : List Entry) (link : Link) → link.seat ≡ 0 → IsAt (alone log link) 0 0 link
-at_alone log link seat = record { here = refl; seat_is = seat; last = λ j other less here same. only link other j less here }
+at_alone log link seat =
+    record { here = refl; seat_is = seat; last = λ j other less here same. only link other j less here }
 
 -- all ten kinds of event are done
-goes : Schedule one_each (Open 0 ∷ Feed 0 line ∷ Take 0 1000 ∷ Send 0 ∷ Pop 0 0 ∷ Give 0 ∷ Receive 0 0 ∷ Hand 0 ∷ End 0 ∷ Open 0 ∷ Break 0 ∷ []) (both broken)
+goes : Schedule one_each
+    (Open 0 ∷ Feed 0 line ∷ Take 0 1000 ∷ Send 0 ∷ Pop 0 0 ∷ Give 0 ∷ Receive 0 0 ∷ Hand 0 ∷ End 0 ∷ Open 0 ∷ Break 0 ∷
+    []) (both broken)
 unfolding pieces_of
 goes = (
   Done,
@@ -173,11 +189,21 @@ goes = (
   (
     Done,
     alone [] fed,
-    (0, new_link 0, (at_alone [] (new_link 0) refl, refl, refl, lit< tt), (11, record { within = omega arith; whole = λ used short. refl; some = λ all room some. lit< tt }, lit< tt, refl)),
+    (
+      0,
+      new_link 0,
+      (at_alone [] (new_link 0) refl, refl, refl, lit< tt),
+      (11, record { within = omega arith; whole = λ used short. refl; some = λ all room some. lit< tt }, lit< tt, refl),
+    ),
     (
       Done,
       alone [] taken,
-      (0, fed, (at_alone [] fed refl, (flush, begins), lit< tt, refl), (one, record { next = begins; moment_is = refl; may = λ gone. absurd (cc) }, refl)),
+      (
+        0,
+        fed,
+        (at_alone [] fed refl, (flush, begins), lit< tt, refl),
+        (one, record { next = begins; moment_is = refl; may = λ gone. absurd (cc) }, refl),
+      ),
       (
         Done,
         alone [] sent,
@@ -197,7 +223,12 @@ goes = (
               (
                 Done,
                 alone (entry ∷ []) handed,
-                (0, received, (at_alone (entry ∷ []) received refl, lit< tt, come, refl), (1, record { within = omega arith; come = come; most = λ more within has. within }, refl)),
+                (
+                  0,
+                  received,
+                  (at_alone (entry ∷ []) received refl, lit< tt, come, refl),
+                  (1, record { within = omega arith; come = come; most = λ more within has. within }, refl),
+                ),
                 (
                   Done,
                   alone (entry ∷ []) ended,
@@ -205,8 +236,35 @@ goes = (
                   (
                     Done,
                     both (new_link 0),
-                    (1, new_link 0, (refl, refl, lit< tt, inr (0, ended, at_alone (entry ∷ []) ended refl, (at_rest, inl (inr (refl, all_taken))))), refl),
-                    (Done, both broken, (1, new_link 0, (record { here = refl; seat_is = refl; last = λ j other less here same. only_two ended (new_link 0) other j less here }, refl), refl), refl),
+                    (
+                      1,
+                      new_link 0,
+                      (
+                        refl,
+                        refl,
+                        lit< tt,
+                        inr (0, ended, at_alone (entry ∷ []) ended refl, (at_rest, inl (inr (refl, all_taken)))),
+                      ),
+                      refl,
+                    ),
+                    (
+                      Done,
+                      both broken,
+                      (
+                        1,
+                        new_link 0,
+                        (
+                          record {
+                            here = refl;
+                            seat_is = refl;
+                            last = λ j other less here same. only_two ended (new_link 0) other j less here;
+                          },
+                          refl,
+                        ),
+                        refl,
+                      ),
+                      refl,
+                    ),
                   ),
                 ),
               ),
@@ -220,5 +278,5 @@ goes = (
 
 -- and the first connection, followed by another, has its reply
 replied : handed_bytes one_each (both broken) 0 ended ≡ codes "OK\r\n"
-unfolding pieces_of shape_of shape_text kind_of
+unfolding pieces_of reply_kind_of reply_kind_text kind_of
 replied = refl

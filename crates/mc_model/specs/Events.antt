@@ -1,6 +1,7 @@
 -- The ten kinds of event, each defined by a rule: for which connection it may happen and when, what it
--- changes, when it may be idle, and whether it takes memory.
-use Rattle.std.specs.Prelude.{ℕ, ◌≡◌, ◌+◌, ◌<◌, ◌≤◌, ◌⊎◌, ◌==◌, true, false, List, [], ◌∷◌, ◌++◌, length, take, Some, if◌then◌else◌}
+-- changes, when it may be idle, and whether it takes memory. See docs/DECISIONS.md, C10.
+use Rattle.std.specs.Prelude.{ℕ, ◌≡◌, ◌+◌, ◌<◌, ◌≤◌, ◌⊎◌, ◌==◌, true, false, List, [], ◌∷◌, ◌++◌, length, take, Some}
+use Rattle.std.specs.Prelude.{if◌then◌else◌}
 use Rattle.std.specs.List.{slice_get}
 use Rattle.mc_command.specs.declared.command.Command.{Command}
 use Rattle.mc_sizes.specs.declared.sizes.Sizes.{Sizes}
@@ -101,17 +102,21 @@ with_memory rule = record rule { takes_memory = Unit {0} }
 abbrev pub rule_of : Event → Rule
 -- A new connection comes to a seat that has had none, or whose connection may be replaced.
 rule_of (Open seat) = with_memory (plain_rule
-    (λ sizes w k link. (k ≡ length w.links) × (link ≡ new_link seat) × (seat < sizes.seats) × (IsUnusedSeat w seat ⊎ IsRenewable sizes w seat))
+    (λ sizes w k link. (k ≡ length w.links) × (link ≡ new_link seat) × (seat < sizes.seats)
+    × (IsUnusedSeat w seat ⊎ IsRenewable sizes w seat))
     (λ sizes w k link w'. w' ≡ record w { links = w.links ++ link ∷ [] }))
 -- Bytes arrive on a connection, and a prefix of them is fed. It may be idle if none of them has to be taken.
 rule_of (Feed seat bytes) = record (with_memory (plain_rule
     (λ sizes w k link. IsAt w seat k link × (link.ended ≡ false) × (link.broken ≡ false) × (0 < length bytes))
-    (λ sizes w k link w'. (count : ℕ) × MayFeed sizes link bytes count × (0 < count) × (w' ≡ with_link w k (record link { fed = link.fed ++ take count bytes })))))
+    (λ sizes w k link w'. (count : ℕ) × MayFeed sizes link bytes count × (0 < count)
+    × (w' ≡ with_link w k (record link { fed = link.fed ++ take count bytes })))))
     { spares = λ sizes w. (k : ℕ) × (link : Link) × IsAt w seat k link × MayFeed sizes link bytes 0 }
 -- The next command in the input is parsed, if the window isn't full.
 rule_of (Take seat moment) = plain_rule
-    (λ sizes w k link. IsAt w seat k link × ((command : Command) × IsNextCommand sizes link command) × HasWindow sizes link × (link.broken ≡ false))
-    (λ sizes w k link w'. (one : Taken) × TakesNext sizes link moment one × (w' ≡ with_link w k (record link { taken = link.taken ++ one ∷ [] })))
+    (λ sizes w k link. IsAt w seat k link × ((command : Command) × IsNextCommand sizes link command)
+    × HasWindow sizes link × (link.broken ≡ false))
+    (λ sizes w k link w'. (one : Taken) × TakesNext sizes link moment one
+    × (w' ≡ with_link w k (record link { taken = link.taken ++ one ∷ [] })))
 -- The oldest unsent piece is sent to its shard, if the ring isn't full.
 rule_of (Send seat) = plain_rule
     (λ sizes w k link. IsAt w seat k link × MaySend sizes w k link)
@@ -119,10 +124,12 @@ rule_of (Send seat) = plain_rule
 -- A shard whose worker has sent every answer runs the connection's next piece of those sent to it.
 rule_of (Pop shard seat) = with_memory (plain_rule
     (λ sizes w k link. IsAt w seat k link × IsEmptyHand w shard × (ran w k shard < sent_to sizes shard link))
-    (λ sizes w k link w'. (entry : Entry) × RunsNext sizes w shard k link entry × (w' ≡ record w { log = w.log ++ entry ∷ [] })))
+    (λ sizes w k link w'. (entry : Entry) × RunsNext sizes w shard k link entry
+    × (w' ≡ record w { log = w.log ++ entry ∷ [] })))
 -- A shard's worker sends the answer that it holds to its connection, if the ring to it isn't full.
 rule_of (Give shard) = plain_rule
-    (λ sizes w k link. IsLink w k link × HoldsAnswerFor w shard k link × (link.given shard < link.received shard + sizes.ring))
+    (λ sizes w k link. IsLink w k link × HoldsAnswerFor w shard k link
+    × (link.given shard < link.received shard + sizes.ring))
     (λ sizes w k link w'. w' ≡ with_link w k (record link { given = one_more link.given shard }))
 -- The connection receives the next answer that the shard has sent.
 rule_of (Receive seat shard) = plain_rule
@@ -130,8 +137,10 @@ rule_of (Receive seat shard) = plain_rule
     (λ sizes w k link w'. w' ≡ with_link w k (record link { received = one_more link.received shard }))
 -- The replies whose answers have all been received are written, at least one.
 rule_of (Hand seat) = with_memory (plain_rule
-    (λ sizes w k link. IsAt w seat k link × (link.handed < length link.taken) × HasCome sizes.shards link.taken link.received (link.handed + 1) × (link.broken ≡ false))
-    (λ sizes w k link w'. (count : ℕ) × IsTurn sizes link count × (w' ≡ with_link w k (record link { handed = count }))))
+    (λ sizes w k link. IsAt w seat k link × (link.handed < length link.taken)
+    × HasCome sizes.shards link.taken link.received (link.handed + 1) × (link.broken ≡ false))
+    (λ sizes w k link w'. (count : ℕ) × IsTurn sizes link count
+    × (w' ≡ with_link w k (record link { handed = count }))))
 -- The connection's input ends.
 rule_of (End seat) = plain_rule
     (λ sizes w k link. IsAt w seat k link × (link.ended ≡ false))

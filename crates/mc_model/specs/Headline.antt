@@ -6,7 +6,7 @@ use Rattle.mc_split.specs.declared.plan.Piece.{Piece}
 use Rattle.mc_join.specs.Replies.{replies}
 use Rattle.mc_reader.specs.Spelling.{is_last}
 use Rattle.mc_conn.specs.History.{AnsweredCommand, IsAnswered, Taken, texts_of}
-use Rattle.mc_conn.specs.Due.{due, forms_of, history_of, pieces}
+use Rattle.mc_conn.specs.Due.{due, pending_replies_of, history_of, pieces}
 use Rattle.mc_model.specs.Sized.{SpellAll, SpellFirst}
 use Rattle.mc_model.specs.Log.{IsLawful, of_asker, on_shard, pieces_in, replies_in}
 use Rattle.mc_model.specs.World.{IsLink, Link, World, entries}
@@ -19,7 +19,7 @@ OfEach w P = (k : ℕ) (link : Link) → IsLink w k link → P k link
 -- the texts of the longest prefix of the commands, each of which was given up or has all its answers in the
 -- log
 abbrev pub replies_to : Sizes → World → ℕ → Link → List (List ℕ)
-replies_to sizes w k link = replies (forms_of sizes.shards link.taken) (replies_in (of_asker k w.log))
+replies_to sizes w k link = replies (pending_replies_of sizes.shards link.taken) (replies_in (of_asker k w.log))
 
 -- the bytes written to a connection: the texts of its first `handed` replies
 abbrev pub handed_bytes : Sizes → World → ℕ → Link → List ℕ
@@ -55,7 +55,9 @@ pub record IsFollowed (w : World) (k : ℕ) (link : Link) : Type 0 where
 
 -- The operations that each shard ran for the connection are a prefix of those due there, in order.
 abbrev pub RanAsDue : Sizes → World → ℕ → Link → Type 0
-RanAsDue sizes w k link = (shard : ℕ) → (rest : List Piece) × (pieces_in (on_shard shard (of_asker k w.log)) ++ rest ≡ due sizes.shards shard link.taken)
+RanAsDue sizes w k link =
+    (shard : ℕ) → (rest : List Piece)
+    × (pieces_in (on_shard shard (of_asker k w.log)) ++ rest ≡ due sizes.shards shard link.taken)
 
 -- After a command that closes the stream none is parsed, and nothing of a later one is sent, answered or
 -- written.
@@ -69,10 +71,14 @@ pub record Headline (sizes : Sizes) (w : World) : Type 0 where
   -- the bytes written are a prefix of the replies to the commands in the connection's input, in order
   pub the_bytes_handed : OfEach w (λ k link. AreReplies sizes w k link)
   -- all of them at rest; and a connection that was replaced on its seat is at rest
-  pub all_of_them_at_rest : OfEach w (λ k link. link.broken ≡ false → AtRest sizes link ⊎ IsFollowed w k link → AreAllReplies sizes w k link)
+  pub all_of_them_at_rest : OfEach w
+      (λ k link. link.broken ≡ false → AtRest sizes link ⊎ IsFollowed w k link → AreAllReplies sizes w k link)
   -- each shard ran each connection's pieces once, in sending order, and it ran nothing else
-  pub once_in_sending_order : OfEach w (λ k link. RanAsDue sizes w k link) × AllByRecursion (λ entry. (entry.shard < sizes.shards) × (entry.asker < length w.links)) w.log
+  pub once_in_sending_order : OfEach w (λ k link. RanAsDue sizes w k link)
+      × AllByRecursion (λ entry. (entry.shard < sizes.shards) × (entry.asker < length w.links)) w.log
   -- each answer is the protocol's step on that shard's items
   pub the_protocols_step : IsLawful sizes w.log
-  -- nothing follows quit
-  pub nothing_after_quit : OfEach w (λ k link. (place : ℕ) (one : Taken) → slice_get link.taken place ≡ Some one → IsTrue (is_last place one.entry) → IsLast sizes w k link place)
+  -- nothing follows quit or shutdown
+  pub nothing_after_quit : OfEach w
+      (λ k link. (place : ℕ) (one : Taken) → slice_get link.taken place ≡ Some one → IsTrue (is_last place one.entry)
+      → IsLast sizes w k link place)

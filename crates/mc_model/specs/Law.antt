@@ -37,8 +37,10 @@ pub record Law (sizes : Sizes) (w : World) : Type 0 where
   pub links : (k : ℕ) (link : Link) → IsLink w k link → LinkLaw sizes (of_asker k w.log) link
   -- a worker holds at most one answer
   pub one_ungiven : (s k : ℕ) (link : Link) → IsLink w k link → ran w k s ≤ link.given s + 1
-  pub one_asker : (s j k : ℕ) (one other : Link) → IsLink w j one → IsLink w k other → HoldsAnswerFor w s j one → HoldsAnswerFor w s k other → j ≡ k
+  pub one_asker : (s j k : ℕ) (one other : Link) → IsLink w j one → IsLink w k other → HoldsAnswerFor w s j one
+      → HoldsAnswerFor w s k other → j ≡ k
   -- a connection that was replaced is at rest
-  pub rested : (j k : ℕ) (earlier later : Link) → j < k → IsLink w j earlier → IsLink w k later → earlier.seat ≡ later.seat → AtRest sizes earlier
+  pub rested : (j k : ℕ) (earlier later : Link) → j < k → IsLink w j earlier → IsLink w k later
+      → earlier.seat ≡ later.seat → AtRest sizes earlier
   pub lawful : IsLawful sizes w.log
   pub owned : AllByRecursion (λ entry. (entry.shard < sizes.shards) × (entry.asker < length w.links)) w.log

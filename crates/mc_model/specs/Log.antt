@@ -31,7 +31,13 @@ pieces_in log = map (λ entry. entry.piece) log
 
 -- the reply to an entry's piece
 abbrev pub reply_to : Entry → Shown
-reply_to entry = record { ticket = entry.piece.ticket; part = entry.piece.part; kind = kind_of entry.piece.op; answer = entry.answer }
+reply_to entry =
+    record {
+      ticket = entry.piece.ticket;
+      part = entry.piece.part;
+      kind = kind_of entry.piece.op;
+      answer = entry.answer;
+    }
 
 abbrev pub replies_in : List Entry → List Shown
 replies_in log = map reply_to log
@@ -39,7 +45,8 @@ replies_in log = map reply_to log
 -- A shard may run these operations one after another, each by the protocol's step.
 abbrev pub Run : State → List Entry → State → Type 0
 Run old [] new = new ≡ old
-Run old (entry ∷ log) new = (mid : State) × IsStep old entry.piece.op entry.piece.moment entry.answer mid × Run mid log new
+Run old (entry ∷ log) new =
+    (mid : State) × IsStep old entry.piece.op entry.piece.moment entry.answer mid × Run mid log new
 
 -- The shard is in this state after the log.
 abbrev pub Leaves : Sizes → ℕ → List Entry → State → Type 0

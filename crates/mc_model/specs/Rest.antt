@@ -36,7 +36,8 @@ HasWindow sizes link = length link.taken < link.handed + sizes.window
 -- a failed one, the commands parsed are sent and their answers received.
 abbrev pub AtRest : Sizes → Link → Type 0
 AtRest sizes link =
-    MatchBool link.broken (IsAllSent sizes link × IsAllReceived sizes link) (IsAllTaken sizes link × IsAllSent sizes link × (link.handed ≡ length link.taken))
+    MatchBool link.broken (IsAllSent sizes link × IsAllReceived sizes link)
+    (IsAllTaken sizes link × IsAllSent sizes link × (link.handed ≡ length link.taken))
 
 -- Nothing more is parsed, whatever is fed: a command closed the stream, or the input has ended and all its
 -- commands are parsed.

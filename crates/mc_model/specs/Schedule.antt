@@ -24,7 +24,8 @@ Happens sizes w event NoMemory w' = (TakesMemory event × Enabled sizes w event)
 -- These events, one after another, lead from a world to a world.
 abbrev pub Leads : Sizes → World → List Event → World → Type 0
 Leads sizes w [] w' = w' ≡ w
-Leads sizes w (event ∷ events) w' = (reply : StepReply) × (mid : World) × Happens sizes w event reply mid × Leads sizes mid events w'
+Leads sizes w (event ∷ events) w' =
+    (reply : StepReply) × (mid : World) × Happens sizes w event reply mid × Leads sizes mid events w'
 
 -- These events lead to this world from the initial one.
 abbrev pub Schedule : Sizes → List Event → World → Type 0

@@ -4,7 +4,7 @@ use Rattle.std.specs.List.{slice_get}
 use Rattle.mc_command.specs.declared.command.Command.{Command}
 use Rattle.mc_sizes.specs.declared.sizes.Sizes.{Sizes}
 use Rattle.mc_conn.specs.History.{Taken}
-use Rattle.mc_conn.specs.Due.{lane, pieces}
+use Rattle.mc_conn.specs.Due.{channel, pieces}
 use Rattle.mc_model.specs.Log.{Entry, of_asker, on_shard}
 
 -- a connection
@@ -35,7 +35,18 @@ empty_world = record { log = []; links = [] }
 
 -- a new connection on a seat
 abbrev pub new_link : ℕ → Link
-new_link seat = record { seat = seat; fed = []; ended = false; broken = false; taken = []; sent = 0; given = λ _. 0; received = λ _. 0; handed = 0 }
+new_link seat =
+    record {
+      seat = seat;
+      fed = [];
+      ended = false;
+      broken = false;
+      taken = [];
+      sent = 0;
+      given = λ _. 0;
+      received = λ _. 0;
+      handed = 0;
+    }
 
 abbrev pub with_link : World → ℕ → Link → World
 with_link w k link = record w { links = set w.links k link }
@@ -59,7 +70,7 @@ entries link = map (λ one. one.entry) link.taken
 
 -- how many pieces of a connection were sent to a shard
 abbrev pub sent_to : Sizes → ℕ → Link → ℕ
-sent_to sizes shard link = length (lane shard (take link.sent (pieces sizes.shards link.taken)))
+sent_to sizes shard link = length (channel shard (take link.sent (pieces sizes.shards link.taken)))
 
 -- how many pieces of a connection a shard has run
 abbrev pub ran : World → ℕ → ℕ → ℕ

@@ -17,8 +17,8 @@ ghost use Rattle.mc_model.specs.Grows.{Grows};
 /// The bytes written to a connection are a prefix of the replies to the commands in its input.
 /// Replies are in order, each once, or silent as `noreply` and `q` say; at rest they are complete.
 /// Each shard ran each connection's pieces once, in sending order, and each answer is the
-/// protocol's step on that shard's items. Nothing follows `quit`. This holds for all sizes within
-/// the limits, and for connections that reuse a slot.
+/// protocol's step on that shard's items. Nothing follows `quit` or `shutdown`. This holds for all
+/// sizes within the limits, and for connections that reuse a slot.
 pub fn every_schedule()
     ensures { (sizes : Sizes) (events : List Event) (w : World) →
         AreWithin sizes → Schedule sizes events w → Headline sizes w }

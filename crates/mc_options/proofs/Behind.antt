@@ -5,7 +5,8 @@ use Rattle.mc_options.specs.Numbers.{and_then}
 use Rattle.mc_options.specs.Calls.{Call, unless_foreign}
 
 -- what comes behind a step of which the end is known
-pub step : {T U : Type 0} (done end : Result T Wrong) (next : T → Result U Wrong) → done ≡ end → and_then done next ≡ and_then end next
+pub step : {T U : Type 0} (done end : Result T Wrong) (next : T → Result U Wrong) → done ≡ end → and_then done next
+    ≡ and_then end next
 step done end next is = ap (λ (r : Result _ Wrong). and_then r next) is
 
 -- the call, by the option that is there and isn't its own

@@ -17,13 +17,19 @@ host_by None is = refl
 host_by (Some path) is = absurd cc
 
 -- the words of `--listen` are all places, where there are some
-pub listed_places : (rows : List Row) (words : List (List ℕ)) → all_of (codes "listen") rows ≡ Some words → places_of rows ≡ words
-listed_places rows words is = ap (places_by (first_of (codes "unix-socket") rows)) is ∙ words_by (first_of (codes "unix-socket") rows) words
+pub listed_places : (rows : List Row) (words : List (List ℕ)) → all_of (codes "listen") rows ≡ Some words
+    → places_of rows ≡ words
+listed_places rows words is =
+    ap (places_by (first_of (codes "unix-socket") rows)) is ∙ words_by (first_of (codes "unix-socket") rows) words
 
 -- beside a path there is none then
-pub no_places : (rows : List Row) → all_of (codes "listen") rows ≡ None → is_some (first_of (codes "unix-socket") rows) ≡ true → places_of rows ≡ []
-no_places rows none path = ap (places_by (first_of (codes "unix-socket") rows)) none ∙ no_words_by (first_of (codes "unix-socket") rows) path
+pub no_places : (rows : List Row) → all_of (codes "listen") rows ≡ None → is_some (first_of (codes "unix-socket") rows)
+    ≡ true → places_of rows ≡ []
+no_places rows none path =
+    ap (places_by (first_of (codes "unix-socket") rows)) none ∙ no_words_by (first_of (codes "unix-socket") rows) path
 
 -- and without a path there is this machine's own address
-pub own_place : (rows : List Row) → all_of (codes "listen") rows ≡ None → is_some (first_of (codes "unix-socket") rows) ≡ false → places_of rows ≡ codes "127.0.0.1" ∷ []
-own_place rows none path = ap (places_by (first_of (codes "unix-socket") rows)) none ∙ host_by (first_of (codes "unix-socket") rows) path
+pub own_place : (rows : List Row) → all_of (codes "listen") rows ≡ None → is_some (first_of (codes "unix-socket") rows)
+    ≡ false → places_of rows ≡ codes "127.0.0.1" ∷ []
+own_place rows none path =
+    ap (places_by (first_of (codes "unix-socket") rows)) none ∙ host_by (first_of (codes "unix-socket") rows) path

@@ -1,5 +1,6 @@
 -- The address to listen on, from the word that gives it.
-use Rattle.std.specs.Prelude.{ℕ, ◌^◌, ◌==◌, List, [], ◌++◌, ◌&&◌, ◌||◌, Bool, Option, Some, None, not, codes, drop, is_some, length, nat_eq, nat_lt, if◌then◌else◌}
+use Rattle.std.specs.Prelude.{ℕ, ◌^◌, ◌==◌, List, [], ◌++◌, ◌&&◌, ◌||◌, Bool, Option, Some, None, not, codes, drop}
+use Rattle.std.specs.Prelude.{is_some, length, nat_eq, nat_lt, if◌then◌else◌}
 use Rattle.std.specs.List.{count_by, ends_with, starts_with}
 use Rattle.mc_wire.specs.Number.{number_of}
 

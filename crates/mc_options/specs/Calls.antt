@@ -1,5 +1,6 @@
 -- What the program does, each with its options.
-use Rattle.std.specs.Prelude.{ℕ, ◌≡◌, ◌||◌, Bool, List, [], ◌∷◌, map, Option, Some, None, Ok, Err, Result, codes, find, is_some, option_map, if◌then◌else◌}
+use Rattle.std.specs.Prelude.{ℕ, ◌≡◌, ◌||◌, Bool, List, [], ◌∷◌, map, Option, Some, None, Ok, Err, Result, codes, find}
+use Rattle.std.specs.Prelude.{is_some, option_map, if◌then◌else◌}
 use Rattle.std.specs.Option.{option_map_or, option_or}
 use Rattle.clap.specs.Words.{Row, all_of, first_of}
 use Rattle.mc_sizes.specs.Sizes.{AreWithin}
@@ -17,7 +18,8 @@ pub data Call : Type 0 where
   RunsSchedule : (file : List ℕ) → Call
   ServesLine : (at : Option ℕ) (sizes : Sizes) → Call
   ServesTcp :
-      (places : List (List ℕ)) (path : Option (List ℕ)) (mode : ℕ) (port : List ℕ) (connections idle : Option ℕ) (verbose : Bool) (metrics : Option (List ℕ)) (drain : ℕ) (plan ignores : Bool) (sizes : Sizes) → Call
+      (places : List (List ℕ)) (path : Option (List ℕ)) (mode : ℕ) (port : List ℕ) (connections idle : Option ℕ)
+      (verbose : Bool) (metrics : Option (List ℕ)) (drain : ℕ) (plan ignores : Bool) (sizes : Sizes) → Call
 
 -- the call in the code
 abbrev pub call_of : Options → Call
@@ -25,7 +27,8 @@ call_of Version = TellsVersion
 call_of (Replay file) = RunsSchedule file.now
 call_of (Stdio at sizes) = ServesLine at sizes
 call_of (Listen places path mode port connections idle verbose metrics drain plan ignores sizes) =
-    ServesTcp (map (λ word. word.now) places.items) (option_map (λ text. text.now) path) mode port.now connections idle verbose (option_map (λ text. text.now) metrics) drain plan ignores sizes
+    ServesTcp (map (λ word. word.now) places.items) (option_map (λ text. text.now) path) mode port.now connections idle
+    verbose (option_map (λ text. text.now) metrics) drain plan ignores sizes
 
 -- the first that is given of these options with a value, or of these without one
 abbrev pub first_given : (List ℕ → Option (List ℕ)) → List (List ℕ) → List (List ℕ) → Option (List ℕ)
@@ -41,24 +44,28 @@ other_than_replay =
     map codes
     (
     "at"
-    ∷ "listen" ∷ "shards" ∷ "seats" ∷ "bytes" ∷ "memory" ∷ "value-limit" ∷ "line-limit" ∷ "window" ∷ "connections" ∷ "idle-timeout" ∷ "metrics" ∷ "drain"
+    ∷ "listen" ∷ "shards" ∷ "seats" ∷ "bytes" ∷ "memory" ∷ "value-limit" ∷ "line-limit" ∷ "window" ∷ "connections" ∷
+    "idle-timeout" ∷ "metrics" ∷ "drain"
     ∷ "port" ∷ "memory-limit" ∷ "udp-port" ∷ "unix-socket" ∷ "unix-mask" ∷ "user" ∷ "pidfile" ∷ []
     )
 
 abbrev pub other_than_stdio : List (List ℕ)
 other_than_stdio =
-    map codes ("listen" ∷ "seats" ∷ "connections" ∷ "idle-timeout" ∷ "metrics" ∷ "drain" ∷ "port" ∷ "udp-port" ∷ "unix-socket" ∷ "unix-mask" ∷ "user" ∷ "pidfile" ∷ [])
+    map codes ("listen" ∷ "seats" ∷ "connections" ∷ "idle-timeout" ∷ "metrics" ∷ "drain" ∷ "port" ∷ "udp-port" ∷
+    "unix-socket" ∷ "unix-mask" ∷ "user" ∷ "pidfile" ∷ [])
 
 -- the schedule in the file is run, if no other option is given
 abbrev pub replay_by : (List ℕ → Option (List ℕ)) → List ℕ → Result Call Wrong
 replay_by given file =
-    unless_foreign (first_given given other_than_replay (map codes ("stdio" ∷ "verbose" ∷ "drop-in" ∷ "plan" ∷ "daemon" ∷ []))) NotOfReplay
+    unless_foreign (first_given given other_than_replay
+    (map codes ("stdio" ∷ "verbose" ∷ "drop-in" ∷ "plan" ∷ "daemon" ∷ "enable-shutdown" ∷ []))) NotOfReplay
     (Ok (RunsSchedule file))
 
 -- one line is served over standard input and output
 abbrev pub stdio_by : (List ℕ → Option (List ℕ)) → Result Call Wrong
 stdio_by given =
-    unless_foreign (first_given given other_than_stdio (map codes ("verbose" ∷ "plan" ∷ "daemon" ∷ []))) NotOfStdio
+    unless_foreign (first_given given other_than_stdio
+    (map codes ("verbose" ∷ "plan" ∷ "daemon" ∷ "enable-shutdown" ∷ []))) NotOfStdio
     (and_then (number_if_given given (codes "at") 0 18446744073709551615) (λ at.
     and_then (sizes_by given 1) (λ sizes. Ok (ServesLine at sizes))))
 
@@ -76,11 +83,13 @@ places_of rows = places_by (first_of (codes "unix-socket") rows) (all_of (codes 
 abbrev pub port_by : (List ℕ → Option (List ℕ)) → Result (List ℕ) Wrong
 port_by given =
     and_then (number_if_given given (codes "udp-port") 0 0) (λ udp.
-    option_map_or (λ text. and_then (number_in (codes "port") 1 65535 text) (λ number. Ok text)) (given (codes "port")) (Ok (codes "11211")))
+    option_map_or (λ text. and_then (number_in (codes "port") 1 65535 text) (λ number. Ok text)) (given (codes "port"))
+    (Ok (codes "11211")))
 
 -- an option of memcached is given that has no effect
 abbrev pub is_one_ignored : (List ℕ → Option (List ℕ)) → Bool
-is_one_ignored given = is_some (given (codes "user")) || (is_some (given (codes "pidfile")) || is_flag given (codes "daemon"))
+is_one_ignored given =
+    is_some (given (codes "user")) || (is_some (given (codes "pidfile")) || is_flag given (codes "daemon"))
 
 -- serve connections at these addresses
 abbrev pub tcp_by : (List ℕ → Option (List ℕ)) → List (List ℕ) → Result Call Wrong
@@ -94,14 +103,16 @@ tcp_by given places =
     and_then (port_by given) (λ port.
     and_then (mode_by given) (λ mode.
     Ok
-    (ServesTcp places (given (codes "unix-socket")) mode port connections idle (is_flag given (codes "verbose")) (given (codes "metrics")) drain (is_flag given (codes "plan")) (is_one_ignored given) sizes)))))))))
+    (ServesTcp places (given (codes "unix-socket")) mode port connections idle (is_flag given (codes "verbose"))
+    (given (codes "metrics")) drain (is_flag given (codes "plan")) (is_one_ignored given) sizes)))))))))
 
 -- the call, or the first error
 abbrev pub call_by : (List ℕ → Option (List ℕ)) → List (List ℕ) → Result Call Wrong
 call_by given places =
     if is_flag given (codes "version") then Ok TellsVersion
     else if is_some (given (codes "items")) then Err HasItems
-    else option_map_or (replay_by given) (given (codes "replay")) (if is_flag given (codes "stdio") then stdio_by given else tcp_by given places)
+    else option_map_or (replay_by given) (given (codes "replay"))
+    (if is_flag given (codes "stdio") then stdio_by given else tcp_by given places)
 
 -- the values of the options on the command line
 abbrev pub given_in : List (List ℕ) → List ℕ → Option (List ℕ)
@@ -120,4 +131,5 @@ abbrev pub HasAllowedSizes : Options → Type 0
 HasAllowedSizes Version = Unit {0}
 HasAllowedSizes (Replay file) = Unit {0}
 HasAllowedSizes (Stdio at sizes) = AreWithin sizes
-HasAllowedSizes (Listen places path mode port connections idle verbose metrics drain plan ignores sizes) = AreWithin sizes
+HasAllowedSizes (Listen places path mode port connections idle verbose metrics drain plan ignores sizes) =
+    AreWithin sizes

@@ -1,5 +1,7 @@
 -- Numeric values of options. The options are a function from names to texts.
-use Rattle.std.specs.Prelude.{ℕ, ◌+◌, ◌-◌, ◌*◌, ◌/◌, ◌%◌, ◌^◌, ◌&&◌, ◌||◌, Bool, List, take, length, Option, Some, None, Ok, Err, Result, codes, is_some, nat_eq, nat_le, nat_lt, ok_or, option_and_then, option_map, unwrap_or, if◌then◌else◌}
+use Rattle.std.specs.Prelude.{ℕ, ◌+◌, ◌-◌, ◌*◌, ◌/◌, ◌%◌, ◌^◌, ◌&&◌, ◌||◌, Bool, List, take, length, Option, Some, None}
+use Rattle.std.specs.Prelude.{Ok, Err, Result, codes, is_some, nat_eq, nat_le, nat_lt, ok_or, option_and_then}
+use Rattle.std.specs.Prelude.{option_map, unwrap_or, if◌then◌else◌}
 use Rattle.std.specs.Option.{option_map_or, option_transpose}
 use Rattle.std.specs.List.{ends_with}
 use Rattle.mc_command.specs.declared.rules.Profile.{Profile}
@@ -7,7 +9,7 @@ use Rattle.mc_command.specs.declared.rules.Profile.TheVariants.{Own, DropIn}
 use Rattle.mc_wire.specs.Number.{number_of}
 use Rattle.mc_sizes.specs.declared.sizes.Sizes.{Sizes}
 use Rattle.mc_options.specs.Wrong.{Wrong, NoMode, NoNumber, NoSize, TwoBudgets}
-use Rattle.mc_options.specs.Flags.{profile_by}
+use Rattle.mc_options.specs.Flags.{is_flag, profile_by}
 
 -- the result of the next step, or the error of the one before
 abbrev pub and_then : {T U : Type 0} → Result T Wrong → (T → Result U Wrong) → Result U Wrong
@@ -93,10 +95,12 @@ unless_bytes has_bytes total = if has_bytes then Err TwoBudgets else total
 
 -- the total budget by `--memory`, for at least and at most this number of shards, or by the megabytes of `-m`
 abbrev pub memory_of : (fewest most : ℕ) → List ℕ → Result (Option ℕ) Wrong
-memory_of fewest most text = and_then (size_in (codes "memory") (1024 * fewest) (68719476736 * most) text) (λ size. Ok (Some size))
+memory_of fewest most text =
+    and_then (size_in (codes "memory") (1024 * fewest) (68719476736 * most) text) (λ size. Ok (Some size))
 
 abbrev pub megabytes_of : ℕ → List ℕ → Result (Option ℕ) Wrong
-megabytes_of most text = and_then (number_in (codes "memory-limit") 1 (65536 * most) text) (λ number. Ok (Some (number * 1048576)))
+megabytes_of most text =
+    and_then (number_in (codes "memory-limit") 1 (65536 * most) text) (λ number. Ok (Some (number * 1048576)))
 
 -- the total budget, if it is given; no two options may set a budget
 abbrev pub total_of : (fewest most : ℕ) → Bool → (memory megabytes : Option (List ℕ)) → Result (Option ℕ) Wrong
@@ -116,7 +120,8 @@ greater a b = if nat_lt a b then b else a
 -- the number of shards, at least these, and the budget of each: an equal part of the total, or the value of
 -- `--bytes`
 abbrev pub shares_by : (List ℕ → Option (List ℕ)) → ℕ → Option ℕ → Result (ℕ × ℕ) Wrong
-shares_by given fewest None = and_then (size_given given (codes "bytes") 1024 16777216 68719476736) (λ bytes. Ok (fewest, bytes))
+shares_by given fewest None =
+    and_then (size_given given (codes "bytes") 1024 16777216 68719476736) (λ bytes. Ok (fewest, bytes))
 shares_by given fewest (Some total) = Ok (greater fewest (needed_for total), total / greater fewest (needed_for total))
 
 -- the number of shards and the budget of each; without `--shards` there are two, or as many as the memory
@@ -124,7 +129,8 @@ shares_by given fewest (Some total) = Ok (greater fewest (needed_for total), tot
 abbrev pub budget_by : (List ℕ → Option (List ℕ)) → Result (ℕ × ℕ) Wrong
 budget_by given =
     and_then (number_if_given given (codes "shards") 1 64) (λ shards.
-    and_then (total_of (unwrap_or shards 2) (unwrap_or shards 64) (is_some (given (codes "bytes"))) (given (codes "memory")) (given (codes "memory-limit"))) (λ total.
+    and_then (total_of (unwrap_or shards 2) (unwrap_or shards 64) (is_some (given (codes "bytes")))
+    (given (codes "memory")) (given (codes "memory-limit"))) (λ total.
     shares_by given (unwrap_or shards 2) total))
 
 -- the default line limit
@@ -139,4 +145,14 @@ sizes_by given seats =
     and_then (size_given given (codes "value-limit") 1024 1048576 8388608) (λ value.
     and_then (size_given given (codes "line-limit") 2048 (default_line (profile_by given)) 8388608) (λ line.
     and_then (number_given given (codes "window") 1 256 4096) (λ window.
-    Ok (record { profile = profile_by given; seats = seats; shards = budget.0; bytes = budget.1; ring = 20; value = value; line = line; window = window })))))
+    Ok (record {
+      profile = profile_by given;
+      seats = seats;
+      shards = budget.0;
+      bytes = budget.1;
+      ring = 20;
+      value = value;
+      line = line;
+      window = window;
+      shutdown = is_flag given (codes "enable-shutdown");
+    })))))

@@ -33,27 +33,37 @@ with_rules app rules = fold with_rule app rules
 
 abbrev pub call_rules : List Rule
 call_rules =
-    lettered (codes "l") (list_rule (codes "listen")) ∷ flag_rule (codes "stdio") ∷ option_rule (codes "replay") ∷ option_rule (codes "at")
+    lettered (codes "l") (list_rule (codes "listen")) ∷ flag_rule (codes "stdio") ∷ option_rule (codes "replay") ∷
+    option_rule (codes "at")
     ∷ flag_rule (codes "version") ∷ flag_rule (codes "plan") ∷ []
 
 abbrev pub limit_rules : List Rule
 limit_rules =
-    lettered (codes "t") (option_rule (codes "shards")) ∷ lettered (codes "c") (option_rule (codes "seats")) ∷ option_rule (codes "bytes") ∷ option_rule (codes "memory")
-    ∷ lettered (codes "I") (option_rule (codes "value-limit")) ∷ option_rule (codes "line-limit") ∷ option_rule (codes "window") ∷ option_rule (codes "connections") ∷ flag_rule (codes "drop-in")
+    lettered (codes "t") (option_rule (codes "shards")) ∷ lettered (codes "c") (option_rule (codes "seats")) ∷
+    option_rule (codes "bytes") ∷ option_rule (codes "memory")
+    ∷ lettered (codes "I") (option_rule (codes "value-limit")) ∷ option_rule (codes "line-limit") ∷ option_rule
+    (codes "window") ∷ option_rule (codes "connections") ∷ flag_rule (codes "drop-in")
     ∷ option_rule (codes "items") ∷ []
 
 abbrev pub watch_rules : List Rule
-watch_rules = option_rule (codes "idle-timeout") ∷ lettered (codes "v") (flag_rule (codes "verbose")) ∷ option_rule (codes "metrics") ∷ option_rule (codes "drain") ∷ []
+watch_rules =
+    option_rule (codes "idle-timeout") ∷ lettered (codes "v") (flag_rule (codes "verbose")) ∷ option_rule
+    (codes "metrics") ∷ option_rule (codes "drain") ∷ []
 
 -- the remaining options of memcached; a letter has memcached's meaning
 abbrev pub memcached_rules : List Rule
 memcached_rules =
-    lettered (codes "p") (option_rule (codes "port")) ∷ lettered (codes "m") (option_rule (codes "memory-limit")) ∷ lettered (codes "U") (option_rule (codes "udp-port"))
-    ∷ lettered (codes "s") (option_rule (codes "unix-socket")) ∷ lettered (codes "a") (option_rule (codes "unix-mask")) ∷ lettered (codes "d") (flag_rule (codes "daemon")) ∷ lettered (codes "u") (option_rule (codes "user"))
+    lettered (codes "p") (option_rule (codes "port")) ∷ lettered (codes "m") (option_rule (codes "memory-limit")) ∷
+    lettered (codes "U") (option_rule (codes "udp-port"))
+    ∷ lettered (codes "s") (option_rule (codes "unix-socket")) ∷ lettered (codes "a") (option_rule (codes "unix-mask"))
+    ∷ lettered (codes "A") (flag_rule (codes "enable-shutdown")) ∷ lettered (codes "d") (flag_rule (codes "daemon")) ∷
+    lettered (codes "u") (option_rule (codes "user"))
     ∷ lettered (codes "P") (option_rule (codes "pidfile")) ∷ []
 
 unfoldable pub program : App
-program = with_rules (with_rules (with_rules (with_rules (new_app (codes "mcd")) call_rules) limit_rules) watch_rules) memcached_rules
+program =
+    with_rules (with_rules (with_rules (with_rules (new_app (codes "mcd")) call_rules) limit_rules) watch_rules)
+    memcached_rules
 
 -- the errors of the words as options of the program; none if they are valid
 unfoldable pub word_faults : List (List ℕ) → Kinds

@@ -1,7 +1,7 @@
 -- What may be wrong with the values of options, and the error that reports it.
 use Rattle.std.specs.Prelude.{ℕ, List}
-use Rattle.mc_options.specs.declared.fault.OptionFault.{OptionFault}
-use Rattle.mc_options.specs.declared.fault.OptionFault.TheVariants as fault
+use Rattle.mc_options.specs.declared.error.OptionError.{OptionError}
+use Rattle.mc_options.specs.declared.error.OptionError.TheVariants as fault
 
 pub data Wrong : Type 0 where
   -- the words are no options of the program
@@ -21,7 +21,7 @@ pub data Wrong : Type 0 where
   NoMode : (word : List ℕ) → Wrong
 
 -- what an error reports
-abbrev pub wrong_of : OptionFault → Wrong
+abbrev pub wrong_of : OptionError → Wrong
 wrong_of (fault.Call error) = NoWords
 wrong_of fault.Items = HasItems
 wrong_of (fault.NotOfReplay option) = NotOfReplay option.now

@@ -2,10 +2,10 @@
 #![tactic(auto)]
 
 mod address;
-mod fault;
+mod error;
 mod options;
 mod program;
 
 pub use address::{listening_address, listening_path};
-pub use fault::OptionFault;
+pub use error::OptionError;
 pub use options::{Options, read_options};

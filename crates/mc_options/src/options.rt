@@ -9,30 +9,30 @@ ghost use Rattle.mc_options.specs.Flags.{is_flag, profile_by};
 ghost use Rattle.mc_options.specs.Calls.{HasAllowedSizes, SpellsOptions, call_by, call_of, first_given, given_in, is_one_ignored, places_in, places_of, port_by, replay_by, stdio_by, tcp_by};
 ghost use Rattle.mc_options.specs.Faults.{IsFaultOf, IsOfOptions};
 
-use crate::fault::OptionFault;
+use crate::error::OptionError;
 use crate::program::program_options;
 use clap::ArgMatches;
 use mc_command::Profile;
 use mc_sizes::{
-    DEFAULT_BUDGET, DEFAULT_RING, DEFAULT_SEATS, DEFAULT_SHARDS, DEFAULT_WINDOW, GREATEST_BUDGET,
-    GREATEST_SEATS, GREATEST_SHARDS, GREATEST_WINDOW, LEAST, LEAST_BUDGET, Sizes,
+    DEFAULT_BUDGET, DEFAULT_RING, DEFAULT_SEATS, DEFAULT_SHARDS, DEFAULT_WINDOW, MAX_BUDGET,
+    MAX_SEATS, MAX_SHARDS, MAX_WINDOW, MIN, MIN_BUDGET, Sizes,
 };
 use mc_wire::{
-    DEFAULT_LINE_LIMIT, DEFAULT_VALUE_LIMIT, DROP_IN_LINE_LIMIT, GREATEST_LINE_LIMIT,
-    GREATEST_VALUE_LIMIT, LEAST_LINE_LIMIT, LEAST_VALUE_LIMIT, number_u64,
+    DEFAULT_LINE_LIMIT, DEFAULT_VALUE_LIMIT, DROP_IN_LINE_LIMIT, MAX_LINE_LIMIT, MAX_VALUE_LIMIT,
+    MIN_LINE_LIMIT, MIN_VALUE_LIMIT, number_u64,
 };
 use std::alloc::{AllocError, Global};
 
 /// Maximum of `--connections`.
-const MOST_CONNECTIONS: u64 = 4_294_967_295;
+const MAX_CONNECTIONS: u64 = 4_294_967_295;
 
 /// Maximum of `--idle-timeout` in seconds: a year.
-const MOST_IDLE: u64 = 31_536_000;
+const MAX_IDLE: u64 = 31_536_000;
 
 /// Default and maximum of `--drain`, in seconds.
 const DEFAULT_DRAIN: usize = 5;
 
-const MOST_DRAIN: usize = 86_400;
+const MAX_DRAIN: usize = 86_400;
 
 /// Default host to listen on.
 const DEFAULT_HOST: &str = "127.0.0.1";
@@ -68,7 +68,7 @@ pub enum Options<'a> {
         verbose: bool,
         /// The address and port, or the port, at which metrics are served, if they are.
         metrics: Option<&'a str>,
-        /// Seconds that connections have for a clean shutdown after a signal.
+        /// Seconds that connections have for a clean shutdown.
         drain: u64,
         /// Only print the memory that such a server takes.
         plan: bool,
@@ -91,7 +91,7 @@ pub enum Options<'a> {
 }
 
 /// Parses the command line, whose first word is the program's name.
-pub fn read_options<'a>(alloc: Global, words: &'a [String]) -> Result<Options<'a>, OptionFault<'a>>
+pub fn read_options<'a>(alloc: Global, words: &'a [String]) -> Result<Options<'a>, OptionError<'a>>
     ensures words { OnOk result (word_faults (map string_bytes words.entry.now) ≡ []) }
     ensures given { IfOk result
         (SpellsOptions (given_in (map string_bytes words.entry.now))
@@ -101,7 +101,7 @@ pub fn read_options<'a>(alloc: Global, words: &'a [String]) -> Result<Options<'a
 {
     match parse_places(alloc, words) {
         Ok((matches, places)) => options_in(&matches, places),
-        Err(error) => Err(OptionFault::Call(error)),
+        Err(error) => Err(OptionError::Call(error)),
     }
 }
 
@@ -155,7 +155,7 @@ fn places_of<'m, 'a: 'm>(
 fn options_in<'a>(
     matches: &ArgMatches<'a>,
     places: Vec<&'a str>,
-) -> Result<Options<'a>, OptionFault<'a>>
+) -> Result<Options<'a>, OptionError<'a>>
     ensures given { IfOk result
         (SpellsOptions (first_value (found_of matches.now))
         (map (λ word. word.now) places.entry.items)) }
@@ -169,7 +169,7 @@ fn options_in<'a>(
         return Ok(Options::Version);
     }
     if matches.get_str("items").is_some() {
-        return Err(OptionFault::Items);
+        return Err(OptionError::Items);
     }
     if let Some(file) = matches.get_str("replay") {
         return replay_in(matches, file);
@@ -181,7 +181,7 @@ fn options_in<'a>(
 }
 
 /// The options of `--replay`.
-fn replay_in<'a>(matches: &ArgMatches<'a>, file: &'a str) -> Result<Options<'a>, OptionFault<'a>>
+fn replay_in<'a>(matches: &ArgMatches<'a>, file: &'a str) -> Result<Options<'a>, OptionError<'a>>
     ensures given { IfOk result (λ options.
         replay_by (first_value (found_of matches.now)) file.now ≡ Ok (call_of options)) }
     ensures within { IfOk result HasAllowedSizes }
@@ -211,15 +211,22 @@ fn replay_in<'a>(matches: &ArgMatches<'a>, file: &'a str) -> Result<Options<'a>,
         "user",
         "pidfile",
     ];
-    let flags = &["stdio", "verbose", "drop-in", "plan", "daemon"];
+    let flags = &[
+        "stdio",
+        "verbose",
+        "drop-in",
+        "plan",
+        "daemon",
+        "enable-shutdown",
+    ];
     if let Some(option) = first_given(matches, options, flags) {
-        return Err(OptionFault::NotOfReplay { option });
+        return Err(OptionError::NotOfReplay { option });
     }
     Ok(Options::Replay { file })
 }
 
 /// The options of `--stdio`.
-fn stdio_in<'a>(matches: &ArgMatches<'a>) -> Result<Options<'a>, OptionFault<'a>>
+fn stdio_in<'a>(matches: &ArgMatches<'a>) -> Result<Options<'a>, OptionError<'a>>
     ensures given { IfOk result
         (λ options. stdio_by (first_value (found_of matches.now)) ≡ Ok (call_of options)) }
     ensures within { IfOk result HasAllowedSizes }
@@ -241,8 +248,9 @@ fn stdio_in<'a>(matches: &ArgMatches<'a>) -> Result<Options<'a>, OptionFault<'a>
         "user",
         "pidfile",
     ];
-    if let Some(option) = first_given(matches, options, &["verbose", "plan", "daemon"]) {
-        return Err(OptionFault::NotOfStdio { option });
+    let others = &["verbose", "plan", "daemon", "enable-shutdown"];
+    if let Some(option) = first_given(matches, options, others) {
+        return Err(OptionError::NotOfStdio { option });
     }
     let at = number_if_given(matches, "at", 0, u64::MAX)?;
     let sizes = sizes_in(matches, 1)?;
@@ -253,7 +261,7 @@ fn stdio_in<'a>(matches: &ArgMatches<'a>) -> Result<Options<'a>, OptionFault<'a>
 fn listen_in<'a>(
     matches: &ArgMatches<'a>,
     places: Vec<&'a str>,
-) -> Result<Options<'a>, OptionFault<'a>>
+) -> Result<Options<'a>, OptionError<'a>>
     ensures given { IfOk result (λ options.
         tcp_by (first_value (found_of matches.now)) (map (λ word. word.now) places.entry.items) ≡
         Ok (call_of options)) }
@@ -264,12 +272,12 @@ fn listen_in<'a>(
         Err (wrong_of fault))) }
 {
     if let Some(option) = first_given(matches, &["at"], &[]) {
-        return Err(OptionFault::NotOfTcp { option });
+        return Err(OptionError::NotOfTcp { option });
     }
-    let seats = number_given(matches, "seats", LEAST, DEFAULT_SEATS, GREATEST_SEATS)?;
-    let connections = number_if_given(matches, "connections", 1, MOST_CONNECTIONS)?;
-    let idle_timeout = number_if_given(matches, "idle-timeout", 1, MOST_IDLE)?;
-    let drain = number_given(matches, "drain", 0, DEFAULT_DRAIN, MOST_DRAIN)?;
+    let seats = number_given(matches, "seats", MIN, DEFAULT_SEATS, MAX_SEATS)?;
+    let connections = number_if_given(matches, "connections", 1, MAX_CONNECTIONS)?;
+    let idle_timeout = number_if_given(matches, "idle-timeout", 1, MAX_IDLE)?;
+    let drain = number_given(matches, "drain", 0, DEFAULT_DRAIN, MAX_DRAIN)?;
     let sizes = sizes_in(matches, seats)?;
     let port = port_in(matches)?;
     let mode = mode_in(matches)?;
@@ -297,7 +305,7 @@ fn is_one_ignored(matches: &ArgMatches<'_>) -> bool
 }
 
 /// The default port of addresses. Fails if a UDP port is requested.
-fn port_in<'a>(matches: &ArgMatches<'a>) -> Result<&'a str, OptionFault<'a>>
+fn port_in<'a>(matches: &ArgMatches<'a>) -> Result<&'a str, OptionError<'a>>
     ensures given { IfOk result
         (λ port. port_by (first_value (found_of matches.now)) ≡ Ok port.now) }
     ensures refused { IfErr result (λ fault.
@@ -315,7 +323,7 @@ fn port_in<'a>(matches: &ArgMatches<'a>) -> Result<&'a str, OptionFault<'a>>
 }
 
 /// The file mode of Unix sockets; 0700 by default.
-fn mode_in<'a>(matches: &ArgMatches<'a>) -> Result<u32, OptionFault<'a>>
+fn mode_in<'a>(matches: &ArgMatches<'a>) -> Result<u32, OptionError<'a>>
     ensures given { IfOk result
         (λ mode. mode_by (first_value (found_of matches.now)) ≡ Ok mode) }
     ensures refused { IfErr result (λ fault.
@@ -329,13 +337,13 @@ fn mode_in<'a>(matches: &ArgMatches<'a>) -> Result<u32, OptionFault<'a>>
 }
 
 /// Parses an octal file mode.
-fn mode_of<'a>(word: &'a str) -> Result<u32, OptionFault<'a>>
+fn mode_of<'a>(word: &'a str) -> Result<u32, OptionError<'a>>
     ensures given { IfOk result (λ mode. mode_in word.entry.now ≡ Ok mode) }
     ensures refused { IfErr result (λ fault.
         IsOfOptions fault × (mode_in word.entry.now ≡ Err (wrong_of fault))) }
 {
     let digits = number_u64(word.as_bytes()).ok();
-    digits.and_then(octal).ok_or(OptionFault::Mode { word })
+    digits.and_then(octal).ok_or(OptionError::Mode { word })
 }
 
 /// Converts three digits, parsed in decimal, to the octal number that they denote.
@@ -349,10 +357,10 @@ fn octal(digits: u64) -> Option<u32>
     Some((digits / 100 * 64 + middle * 8 + low) as u32)
 }
 
-/// The sizes and the profile, for a server with `seats` slots.
-fn sizes_in<'a>(matches: &ArgMatches<'a>, seats: usize) -> Result<Sizes, OptionFault<'a>>
-    requires least { LEAST ≤ seats }
-    requires greatest { seats ≤ GREATEST_SEATS }
+/// The sizes, the profile and whether clients may end the server, for one with `seats` slots.
+fn sizes_in<'a>(matches: &ArgMatches<'a>, seats: usize) -> Result<Sizes, OptionError<'a>>
+    requires least { MIN ≤ seats }
+    requires greatest { seats ≤ MAX_SEATS }
     ensures given { IfOk result
         (λ sizes. sizes_by (first_value (found_of matches.now)) seats ≡ Ok sizes) }
     ensures within { IfOk result AreWithin }
@@ -361,23 +369,24 @@ fn sizes_in<'a>(matches: &ArgMatches<'a>, seats: usize) -> Result<Sizes, OptionF
         (sizes_by (first_value (found_of matches.now)) seats ≡ Err (wrong_of fault))) }
 {
     let profile = profile_in(matches);
+    let shutdown = is_flag(matches, "enable-shutdown");
     let longest = default_line(profile);
     let budget = budget_in(matches)?;
     let value = size_given(
         matches,
         "value-limit",
-        LEAST_VALUE_LIMIT,
+        MIN_VALUE_LIMIT,
         DEFAULT_VALUE_LIMIT,
-        GREATEST_VALUE_LIMIT,
+        MAX_VALUE_LIMIT,
     )?;
     let line = size_given(
         matches,
         "line-limit",
-        LEAST_LINE_LIMIT,
+        MIN_LINE_LIMIT,
         longest,
-        GREATEST_LINE_LIMIT,
+        MAX_LINE_LIMIT,
     )?;
-    let window = number_given(matches, "window", LEAST, DEFAULT_WINDOW, GREATEST_WINDOW)?;
+    let window = number_given(matches, "window", MIN, DEFAULT_WINDOW, MAX_WINDOW)?;
     Ok(Sizes {
         profile,
         seats,
@@ -387,6 +396,7 @@ fn sizes_in<'a>(matches: &ArgMatches<'a>, seats: usize) -> Result<Sizes, OptionF
         value,
         line,
         window,
+        shutdown,
     })
 }
 
@@ -429,7 +439,7 @@ struct Range {
 
 /// The number of shards and the budget of each. Without `--shards` there are two, or as many as
 /// `--memory` needs.
-fn budget_in<'a>(matches: &ArgMatches<'a>) -> Result<Budget, OptionFault<'a>>
+fn budget_in<'a>(matches: &ArgMatches<'a>) -> Result<Budget, OptionError<'a>>
     ensures given { IfOk result (λ budget.
         budget_by (first_value (found_of matches.now)) ≡ Ok (budget.shards, budget.bytes)) }
     ensures within { IfOk result (λ budget.
@@ -439,7 +449,7 @@ fn budget_in<'a>(matches: &ArgMatches<'a>) -> Result<Budget, OptionFault<'a>>
         IsOfOptions fault ×
         (budget_by (first_value (found_of matches.now)) ≡ Err (wrong_of fault))) }
 {
-    let shards = number_if_given(matches, "shards", LEAST as u64, GREATEST_SHARDS as u64)?;
+    let shards = number_if_given(matches, "shards", MIN as u64, MAX_SHARDS as u64)?;
     let range = range_of(shards);
     let has_bytes = is_given(matches, "bytes");
     let memory = matches.get_str("memory");
@@ -462,7 +472,7 @@ fn range_of(shards: Option<u64>) -> Range
         },
         None => Range {
             fewest: DEFAULT_SHARDS,
-            most: GREATEST_SHARDS,
+            most: MAX_SHARDS,
         },
     }
 }
@@ -474,7 +484,7 @@ fn total_in<'a>(
     has_bytes: bool,
     memory: Option<&'a str>,
     megabytes: Option<&'a str>,
-) -> Result<Option<usize>, OptionFault<'a>>
+) -> Result<Option<usize>, OptionError<'a>>
     requires range { (1 ≤ range.fewest) × (range.fewest ≤ range.most) × (range.most ≤ 64) }
     ensures given { IfOk result (λ total.
         total_of range.fewest range.most has_bytes (option_map (λ text. text.now) memory.entry)
@@ -490,7 +500,7 @@ fn total_in<'a>(
         (None, None) => Ok(None),
         (Some(text), None) => memory_in(range, has_bytes, text),
         (None, Some(text)) => megabytes_in(range, has_bytes, text),
-        (Some(_), Some(_)) => Err(OptionFault::TwoBudgets),
+        (Some(_), Some(_)) => Err(OptionError::TwoBudgets),
     }
 }
 
@@ -499,7 +509,7 @@ fn memory_in<'a>(
     range: Range,
     has_bytes: bool,
     text: &'a str,
-) -> Result<Option<usize>, OptionFault<'a>>
+) -> Result<Option<usize>, OptionError<'a>>
     requires range { (1 ≤ range.fewest) × (range.fewest ≤ range.most) × (range.most ≤ 64) }
     ensures given { IfOk result (λ total.
         unless_bytes has_bytes (memory_of range.fewest range.most text.entry.now) ≡ Ok total) }
@@ -511,10 +521,10 @@ fn memory_in<'a>(
         Err (wrong_of fault))) }
 {
     if has_bytes {
-        return Err(OptionFault::TwoBudgets);
+        return Err(OptionError::TwoBudgets);
     }
-    let least = LEAST_BUDGET * range.fewest;
-    let greatest = GREATEST_BUDGET * range.most;
+    let least = MIN_BUDGET * range.fewest;
+    let greatest = MAX_BUDGET * range.most;
     let size = size_in("memory", text, least, greatest)?;
     Ok(Some(size))
 }
@@ -524,7 +534,7 @@ fn megabytes_in<'a>(
     range: Range,
     has_bytes: bool,
     text: &'a str,
-) -> Result<Option<usize>, OptionFault<'a>>
+) -> Result<Option<usize>, OptionError<'a>>
     requires range { (1 ≤ range.fewest) × (range.fewest ≤ range.most) × (range.most ≤ 64) }
     ensures given { IfOk result (λ total.
         unless_bytes has_bytes (megabytes_of range.most text.entry.now) ≡ Ok total) }
@@ -535,9 +545,9 @@ fn megabytes_in<'a>(
         (unless_bytes has_bytes (megabytes_of range.most text.entry.now) ≡ Err (wrong_of fault))) }
 {
     if has_bytes {
-        return Err(OptionFault::TwoBudgets);
+        return Err(OptionError::TwoBudgets);
     }
-    let greatest = GREATEST_BUDGET / MEGABYTE * range.most;
+    let greatest = MAX_BUDGET / MEGABYTE * range.most;
     let number = number_in("memory-limit", text, 1, greatest as u64)?;
     Ok(Some(number as usize * MEGABYTE))
 }
@@ -547,7 +557,7 @@ fn shares_in<'a>(
     matches: &ArgMatches<'a>,
     range: Range,
     total: Option<usize>,
-) -> Result<Budget, OptionFault<'a>>
+) -> Result<Budget, OptionError<'a>>
     requires range { (1 ≤ range.fewest) × (range.fewest ≤ range.most) × (range.most ≤ 64) }
     requires total { IfSome total
         (λ size. (1024 * range.fewest ≤ size) × (size ≤ 68719476736 * range.most)) }
@@ -565,13 +575,7 @@ fn shares_in<'a>(
     match total {
         Some(size) => Ok(shares_of(range, size)),
         None => {
-            let bytes = size_given(
-                matches,
-                "bytes",
-                LEAST_BUDGET,
-                DEFAULT_BUDGET,
-                GREATEST_BUDGET,
-            )?;
+            let bytes = size_given(matches, "bytes", MIN_BUDGET, DEFAULT_BUDGET, MAX_BUDGET)?;
             Ok(Budget {
                 shards: range.fewest,
                 bytes,
@@ -589,7 +593,7 @@ fn shares_of(range: Range, total: usize) -> Budget
     ensures within { (1 ≤ result.shards) × (result.shards ≤ 64) ×
         ((1024 ≤ result.bytes) × (result.bytes ≤ 68719476736)) }
 {
-    let needed = (total + (GREATEST_BUDGET - 1)) / GREATEST_BUDGET;
+    let needed = (total + (MAX_BUDGET - 1)) / MAX_BUDGET;
     let shards = greater(range.fewest, needed);
     let bytes = share_of(total, shards);
     Budget { shards, bytes }
@@ -660,7 +664,7 @@ fn number_given<'a>(
     least: usize,
     default: usize,
     most: usize,
-) -> Result<usize, OptionFault<'a>>
+) -> Result<usize, OptionError<'a>>
     requires least { least ≤ default }
     requires most { default ≤ most }
     ensures given { IfOk result (λ number.
@@ -684,7 +688,7 @@ fn number_if_given<'a>(
     option: &'static str,
     least: u64,
     most: u64,
-) -> Result<Option<u64>, OptionFault<'a>>
+) -> Result<Option<u64>, OptionError<'a>>
     ensures given { IfOk result (λ number.
         number_if_given (first_value (found_of matches.now)) option.now least most ≡ Ok number) }
     ensures within { IfOk result
@@ -706,7 +710,7 @@ fn number_in<'a>(
     word: &'a str,
     least: u64,
     most: u64,
-) -> Result<u64, OptionFault<'a>>
+) -> Result<u64, OptionError<'a>>
     ensures given { IfOk result
         (λ number. number_in option.now least most word.entry.now ≡ Ok number) }
     ensures within { IfOk result (λ number. (least ≤ number) × (number ≤ most)) }
@@ -716,7 +720,7 @@ fn number_in<'a>(
 {
     match number_u64(word.as_bytes()) {
         Ok(number) if number >= least && number <= most => Ok(number),
-        _ => Err(OptionFault::Number {
+        _ => Err(OptionError::Number {
             option,
             word,
             least,
@@ -732,7 +736,7 @@ fn size_given<'a>(
     least: usize,
     default: usize,
     most: usize,
-) -> Result<usize, OptionFault<'a>>
+) -> Result<usize, OptionError<'a>>
     requires least { least ≤ default }
     requires most { default ≤ most }
     ensures given { IfOk result (λ size.
@@ -755,7 +759,7 @@ fn size_in<'a>(
     word: &'a str,
     least: usize,
     most: usize,
-) -> Result<usize, OptionFault<'a>>
+) -> Result<usize, OptionError<'a>>
     ensures given { IfOk result (λ size. size_in option.now least most word.entry.now ≡ Ok size) }
     ensures within { IfOk result (λ size. (least ≤ size) × (size ≤ most)) }
     ensures refused { IfErr result (λ fault.
@@ -765,7 +769,7 @@ fn size_in<'a>(
     let most = most as u64;
     match bytes_of(word.as_bytes()) {
         Some(size) if size >= least && size <= most => Ok(size as usize),
-        _ => Err(OptionFault::Size {
+        _ => Err(OptionError::Size {
             option,
             word,
             least,

@@ -9,15 +9,15 @@ use std::alloc::{AllocError, Global};
 
 /// Usage lines below the list of options.
 const CALLS: &str = "\
-mcd [--listen PLACE..] [--seats N] [--memory SIZE] [options]   serves clients
-mcd --plan [options]                        memory of such a server
-mcd --stdio [--at SECONDS] [limits]         serves one connection
-mcd --replay FILE                           runs a schedule
+mcd [--listen PLACE..] [--seats N] [--memory SIZE] [options]   serve clients
+mcd --plan [options]                        print the memory that it needs
+mcd --stdio [--at SECONDS] [limits]         serve one connection
+mcd --replay FILE                           run a schedule
 
 Limits are --shards, --bytes, --memory, --memory-limit, --value-limit,
---line-limit, --window and --drop-in. A SIZE is a number of bytes, or has k, m
-or g behind it (1024 each): 64m, 64M, 64mb. Defaults are shown in [].
-memcached's -U 0, -d, -u USER and -P FILE are accepted and do nothing.";
+--line-limit, --window and --drop-in. A SIZE is in bytes, or has a unit of
+1024: 64k, 64m (or 64M, 64mb), 4g. Defaults are in [].
+memcached's -U 0, -d, -u USER and -P FILE are accepted and ignored.";
 
 /// An option: name, short letter, metavariable and help text. A flag has no metavariable. If the
 /// metavariable ends with dots, the option may be repeated. An option without a help text is
@@ -26,48 +26,43 @@ type Told<'a> = (&'a str, Option<char>, &'a str, &'a str);
 
 /// The options in the order of `--help`: usage, server sizes, telemetry, and the remaining ones of
 /// memcached. A short letter has memcached's meaning.
-const OPTIONS: [Told<'static>; 28] = [
+const OPTIONS: [Told<'static>; 29] = [
     (
         "listen",
         Some('l'),
         "PLACE..",
-        "Where to listen [127.0.0.1:11211]: HOST[:PORT], PORT, unix:PATH",
+        "Listen on HOST[:PORT], PORT or unix:PATH [127.0.0.1:11211]",
     ),
     (
         "stdio",
         None,
         "",
-        "Serves one connection over standard input and output",
+        "Serve one connection over standard input and output",
     ),
     (
         "replay",
         None,
         "FILE",
-        "Runs the schedule in a file, and shows what came of it",
+        "Run the schedule in FILE, and print the result",
     ),
     (
         "at",
         None,
         "SECONDS",
-        "Unix time of every command, with --stdio",
+        "Use this Unix time for every command, with --stdio",
     ),
-    (
-        "version",
-        None,
-        "",
-        "Prints the program's version and toolchain",
-    ),
+    ("version", None, "", "Print the version and the toolchain"),
     (
         "plan",
         None,
         "",
-        "Prints what a server with these options takes, and exits",
+        "Print the memory that these options need, and exit",
     ),
     (
         "shards",
         Some('t'),
         "N",
-        "Threads that own items, 1 to 64 [2, or as --memory needs]",
+        "Shards, a thread each, 1 to 64 [2, or as many as --memory needs]",
     ),
     (
         "seats",
@@ -79,13 +74,13 @@ const OPTIONS: [Told<'static>; 28] = [
         "bytes",
         None,
         "SIZE",
-        "Memory for items of each shard, 1k to 64g [16m]",
+        "Memory for the items of each shard, 1k to 64g [16m]",
     ),
     (
         "memory",
         None,
         "SIZE",
-        "Memory for items of all shards, in place of --bytes",
+        "Memory for the items of all shards, instead of --bytes",
     ),
     (
         "value-limit",
@@ -103,50 +98,50 @@ const OPTIONS: [Told<'static>; 28] = [
         "window",
         None,
         "N",
-        "Open commands of each connection, 1 to 4096 [256]",
+        "Pending commands of each connection, 1 to 4096 [256]",
     ),
     (
         "connections",
         None,
         "N",
-        "Exits after this many connections, 1 to 4294967295",
+        "Exit after this many connections, 1 to 4294967295",
     ),
     (
         "drop-in",
         None,
         "",
-        "Follows memcached 1.6 where its rules differ",
+        "Follow memcached 1.6 where its rules differ",
     ),
     ("items", None, "N", ""),
     (
         "idle-timeout",
         None,
         "SECONDS",
-        "Closes connections idle for this long, 1 to 31536000",
+        "Close connections idle for SECONDS, 1 to 31536000",
     ),
     (
         "verbose",
         Some('v'),
         "",
-        "Logs each connection to standard error",
+        "Log connections to standard error",
     ),
     (
         "metrics",
         None,
         "ADDRESS",
-        "Serves metrics by HTTP at [127.0.0.1:]PORT",
+        "Serve metrics over HTTP on [HOST:]PORT [127.0.0.1]",
     ),
     (
         "drain",
         None,
         "SECONDS",
-        "Ends at most so long after a blocked SIGTERM, 0 to 86400 [5]",
+        "Cut off connections SECONDS after a blocked SIGTERM, 0 to 86400 [5]",
     ),
     (
         "port",
         Some('p'),
         "N",
-        "Port of --listen where it names none, 1 to 65535 [11211]",
+        "Default port of --listen, 1 to 65535 [11211]",
     ),
     (
         "memory-limit",
@@ -159,13 +154,19 @@ const OPTIONS: [Told<'static>; 28] = [
         "unix-socket",
         Some('s'),
         "PATH",
-        "Unix socket to listen on; with --listen both",
+        "Listen on a Unix socket, alone or in addition to --listen",
     ),
     (
         "unix-mask",
         Some('a'),
         "MODE",
         "Mode of Unix sockets, in octal [700]",
+    ),
+    (
+        "enable-shutdown",
+        Some('A'),
+        "",
+        "Let clients stop the server with shutdown (needs --drop-in)",
     ),
     ("daemon", Some('d'), "", ""),
     ("user", Some('u'), "NAME", ""),

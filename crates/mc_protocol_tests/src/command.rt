@@ -3,10 +3,10 @@
 //! test; `a_line_without_memory_is_given_up` passes for every N.
 use crate::asserting::{equal, holds};
 use mc_command::{
-    Block, Command, Direction, Keys, Line, Refusal, StoreMode, Vivify, announced_bytes,
+    Block, Command, CommandError, Direction, Keys, Line, StoreMode, Vivify, announced_bytes,
     data_can_be_given_up, flags_in_any_order, read_line, table_is_never_out_of_memory,
 };
-use mc_wire::{DEFAULT_VALUE_LIMIT, Key, WireFault, words};
+use mc_wire::{DEFAULT_VALUE_LIMIT, Key, WireError, words};
 use std::alloc::{AllocError, Global};
 use std::test::Fail;
 
@@ -132,7 +132,12 @@ fn retrieved(line: &Line, names: &[&[u8]]) -> Option<(Option<i64>, bool)> {
 }
 
 /// Whether these two texts are parsed as keys of these names.
-fn reads(alloc: Global, first: &[u8], others: &[u8], names: &[&[u8]]) -> Result<bool, Refusal> {
+fn reads(
+    alloc: Global,
+    first: &[u8],
+    others: &[u8],
+    names: &[&[u8]],
+) -> Result<bool, CommandError> {
     let keys = Keys::read(alloc, first, words(others))?;
     Ok(are_named(&keys, names))
 }
@@ -149,7 +154,7 @@ fn keys_stand_in_the_order_of_the_request(rt: HostRuntime) -> Result<(), Fail> {
     holds(&rt, reads(alloc, b"d", b"  e d ", &[b"d", b"e", b"d"])?);
     holds(&rt, reads(alloc, b"d", b"", &[b"d"])?);
     let refused = reads(alloc, b"d", b"e \x01", &[b"d", b"e"]).err();
-    equal(&rt, refused, Some(Refusal::BadKey));
+    equal(&rt, refused, Some(CommandError::BadKey));
     Ok(())
 }
 
@@ -218,13 +223,17 @@ fn the_other_lines(rt: HostRuntime) {
 
 #[test]
 fn laws_and_a_fault_of_memory(rt: HostRuntime) {
-    equal(&rt, Refusal::from(WireFault::NotBase64), Refusal::BadKey);
+    equal(
+        &rt,
+        CommandError::from(WireError::NotBase64),
+        CommandError::BadKey,
+    );
     table_is_never_out_of_memory();
     flags_in_any_order();
     data_can_be_given_up();
 }
 
-fn refusal_of(line: &Line) -> (Option<Refusal>, u64) {
+fn refusal_of(line: &Line) -> (Option<CommandError>, u64) {
     match line {
         Line::Whole(_) => (None, 0),
         Line::Data(_, count) => (None, u64::from(*count) + 2),
@@ -235,13 +244,13 @@ fn refusal_of(line: &Line) -> (Option<Refusal>, u64) {
 
 /// The refusal of a line, if it is refused, and the number of bytes behind it that are skipped or
 /// are its block.
-pub fn refused(alloc: Global, line: &[u8]) -> (Option<Refusal>, u64) {
+pub fn refused(alloc: Global, line: &[u8]) -> (Option<CommandError>, u64) {
     refusal_of(&read(alloc, line).line)
 }
 
 /// Lines, with the number of bytes behind them and their refusals. Keys are long enough to need an
 /// allocation: those of at most 38 bytes don't.
-static LINES: [(&str, u64, Option<Refusal>); 23] = [
+static LINES: [(&str, u64, Option<CommandError>); 23] = [
     ("set a:key:of:39:bytes:lies:in:its:own:block 0 0 3", 5, None),
     (
         "add a:key:of:39:bytes:lies:in:its:own:block 0 0 3 noreply",
@@ -261,17 +270,17 @@ static LINES: [(&str, u64, Option<Refusal>); 23] = [
     (
         "set a:key:of:39:bytes:lies:in:its:own:block 0 0 1048577",
         1_048_579,
-        Some(Refusal::TooLarge),
+        Some(CommandError::TooLarge),
     ),
     (
         "set a:key:of:39:bytes:lies:in:its:own:block x 0 3",
         5,
-        Some(Refusal::BadFormat),
+        Some(CommandError::BadFormat),
     ),
     (
         "set a:key:of:39:bytes:lies:in:its:own:block x 0 y",
         0,
-        Some(Refusal::BadFormat),
+        Some(CommandError::BadFormat),
     ),
     ("ms a:key:of:39:bytes:lies:in:its:own:block 3 k O1", 5, None),
     (
@@ -282,7 +291,7 @@ static LINES: [(&str, u64, Option<Refusal>); 23] = [
     (
         "ms a:key:of:39:bytes:lies:in:its:own:block 3 C1 MA",
         5,
-        Some(Refusal::BadFormat),
+        Some(CommandError::BadFormat),
     ),
     (
         "get a:key:of:39:bytes:lies:in:its:own:block b c d e f",
@@ -292,7 +301,7 @@ static LINES: [(&str, u64, Option<Refusal>); 23] = [
     (
         "get a:key:of:39:bytes:lies:in:its:own:block b\x7f",
         0,
-        Some(Refusal::BadKey),
+        Some(CommandError::BadKey),
     ),
     ("get a:key:of:39:bytes:lies:in:its:own:block", 0, None),
     ("gat 10 a:key:of:39:bytes:lies:in:its:own:block b", 0, None),
@@ -330,7 +339,7 @@ fn a_line_without_memory_is_given_up(rt: HostRuntime) {
         );
         let (refusal, skipped) = refused(rt.alloc(), line.as_bytes());
         equal(&rt, (line, skipped), (line, *behind));
-        if refusal != Some(Refusal::Memory) {
+        if refusal != Some(CommandError::Memory) {
             equal(&rt, (line, refusal), (line, *fault));
         }
     }

@@ -3,7 +3,7 @@
 use crate::asserting::{equal, holds};
 use crate::command::{is_a, read, refused};
 use mc_command::{
-    Command, Direction, Line, MetaArithmetic, Opaque, Refusal, ReturnFlag, Returned, StoreMode,
+    Command, CommandError, Direction, Line, MetaArithmetic, Opaque, ReturnFlag, Returned, StoreMode,
 };
 use std::process::Abort;
 
@@ -137,28 +137,28 @@ fn a_delete_compares_and_marks(rt: HostRuntime) {
     );
 }
 
-static FAULTS: [(&[u8], Refusal); 15] = [
-    (b"mg", Refusal::BadFormat),
-    (b"ms a", Refusal::BadFormat),
-    (b"mg a\x7f ?", Refusal::InvalidFlag),
-    (b"mg a V", Refusal::InvalidFlag),
-    (b"md a x", Refusal::InvalidFlag),
-    (b"ma a I", Refusal::InvalidFlag),
-    (b"mg a\x7f v v", Refusal::DuplicateFlag),
-    (b"mg a vx v", Refusal::DuplicateFlag),
+static FAULTS: [(&[u8], CommandError); 15] = [
+    (b"mg", CommandError::BadFormat),
+    (b"ms a", CommandError::BadFormat),
+    (b"mg a\x7f ?", CommandError::InvalidFlag),
+    (b"mg a V", CommandError::InvalidFlag),
+    (b"md a x", CommandError::InvalidFlag),
+    (b"ma a I", CommandError::InvalidFlag),
+    (b"mg a\x7f v v", CommandError::DuplicateFlag),
+    (b"mg a vx v", CommandError::DuplicateFlag),
     (
         b"mg a O1 Oxxxxxxxxxxxxxxxxxxxxxxxxxxxxxxxxx",
-        Refusal::DuplicateFlag,
+        CommandError::DuplicateFlag,
     ),
     (
         b"mg a Oxxxxxxxxxxxxxxxxxxxxxxxxxxxxxxxxx T",
-        Refusal::OpaqueTooLong,
+        CommandError::OpaqueTooLong,
     ),
-    (b"mg a T", Refusal::BadFormat),
-    (b"mg a\x7f", Refusal::BadKey),
-    (b"md YR== b", Refusal::BadKey),
-    (b"ms a\x7f x", Refusal::BadKey),
-    (b"ms a x", Refusal::BadFormat),
+    (b"mg a T", CommandError::BadFormat),
+    (b"mg a\x7f", CommandError::BadKey),
+    (b"md YR== b", CommandError::BadKey),
+    (b"ms a\x7f x", CommandError::BadKey),
+    (b"ms a x", CommandError::BadFormat),
 ];
 
 #[test]
@@ -168,13 +168,13 @@ fn the_first_fault_is_told(rt: HostRuntime) {
     }
 }
 
-static SKIPPED: [(&[u8], Refusal, u64); 6] = [
-    (b"ms a 2 v", Refusal::InvalidFlag, 4),
-    (b"ms YR== 2 b", Refusal::BadKey, 4),
-    (b"ms a 2 C1 Ma", Refusal::BadFormat, 4),
-    (b"ms a 1048577", Refusal::TooLarge, 1_048_579),
-    (b"ms a 1048577 ME C1", Refusal::BadFormat, 1_048_579),
-    (b"ms a 4294967295", Refusal::TooLarge, 4_294_967_297),
+static SKIPPED: [(&[u8], CommandError, u64); 6] = [
+    (b"ms a 2 v", CommandError::InvalidFlag, 4),
+    (b"ms YR== 2 b", CommandError::BadKey, 4),
+    (b"ms a 2 C1 Ma", CommandError::BadFormat, 4),
+    (b"ms a 1048577", CommandError::TooLarge, 1_048_579),
+    (b"ms a 1048577 ME C1", CommandError::BadFormat, 1_048_579),
+    (b"ms a 4294967295", CommandError::TooLarge, 4_294_967_297),
 ];
 
 #[test]

@@ -3,11 +3,11 @@
 ghost use Rattle.std.specs.Prelude.{◌<◌};
 
 use crate::asserting::{equal, holds};
-use mc_command::{Command, Refusal, Rules};
+use mc_command::{Command, CommandError, Rules};
 use mc_reader::{Next, Reader, readers_give_commands};
 use mc_wire::{
-    DEFAULT_LINE_LIMIT, DEFAULT_VALUE_LIMIT, DROP_IN_LINE_LIMIT, GREATEST_VALUE_LIMIT,
-    LEAST_LINE_LIMIT, LEAST_VALUE_LIMIT,
+    DEFAULT_LINE_LIMIT, DEFAULT_VALUE_LIMIT, DROP_IN_LINE_LIMIT, MAX_VALUE_LIMIT, MIN_LINE_LIMIT,
+    MIN_VALUE_LIMIT,
 };
 use std::alloc::Global;
 use std::process::Abort;
@@ -25,8 +25,8 @@ enum Came {
     Version,
     Verbosity,
     Quit,
-    Refused(Refusal),
-    Discard(Refusal),
+    Refused(CommandError),
+    Discard(CommandError),
     Other,
     NeedMore,
     Closed,
@@ -108,16 +108,16 @@ fn every_cutting_gives_the_same(rt: HostRuntime) -> Result<(), Fail> {
     let wanted = [
         Came::Version,
         Came::Verbosity,
-        Came::Refused(Refusal::BadFormat),
-        Came::Refused(Refusal::Unknown),
+        Came::Refused(CommandError::BadFormat),
+        Came::Refused(CommandError::Unknown),
         Came::MetaNoop,
-        Came::Refused(Refusal::DuplicateFlag),
-        Came::Refused(Refusal::InvalidFlag),
-        Came::Refused(Refusal::BadFormat),
-        Came::Refused(Refusal::BadFormat),
-        Came::Refused(Refusal::BadFormat),
-        Came::Refused(Refusal::BadChunk),
-        Came::Refused(Refusal::Unknown),
+        Came::Refused(CommandError::DuplicateFlag),
+        Came::Refused(CommandError::InvalidFlag),
+        Came::Refused(CommandError::BadFormat),
+        Came::Refused(CommandError::BadFormat),
+        Came::Refused(CommandError::BadFormat),
+        Came::Refused(CommandError::BadChunk),
+        Came::Refused(CommandError::Unknown),
         Came::Store,
         Came::Get,
     ];
@@ -180,7 +180,7 @@ fn a_skipped_block_is_not_kept(rt: HostRuntime) -> Result<(), Fail> {
         alloc,
         &mut reader,
         &[
-            Came::Refused(Refusal::TooLarge),
+            Came::Refused(CommandError::TooLarge),
             Came::MetaNoop,
             Came::NeedMore,
         ],
@@ -216,7 +216,7 @@ fn a_refused_allocation_gives_up_one_command(rt: HostRuntime) {
         Came::MetaNoop,
     ] {
         let given = next_of(alloc, &mut reader);
-        if given == Came::Refused(Refusal::Memory) && wanted != Came::MetaNoop {
+        if given == Came::Refused(CommandError::Memory) && wanted != Came::MetaNoop {
             refused = refused.saturating_add(1);
         } else {
             equal(&rt, given, wanted);
@@ -243,7 +243,7 @@ fn feed_word(rt: &impl Abort, reader: &mut Reader, count: usize, size: usize) {
 #[test]
 fn lines_at_the_limit(rt: HostRuntime) -> Result<(), Fail> {
     let alloc = rt.alloc();
-    for limit in [LEAST_LINE_LIMIT, DEFAULT_LINE_LIMIT, DROP_IN_LINE_LIMIT] {
+    for limit in [MIN_LINE_LIMIT, DEFAULT_LINE_LIMIT, DROP_IN_LINE_LIMIT] {
         let rules = Rules {
             line_limit: limit,
             ..Rules::own(DEFAULT_VALUE_LIMIT)
@@ -258,7 +258,7 @@ fn lines_at_the_limit(rt: HostRuntime) -> Result<(), Fail> {
         equal(&rt, reader.held(), 0);
         feed_all(&rt, &mut reader, b"mn ");
         feed_word(&rt, &mut reader, limit - 3, 60_000);
-        let too_long = Came::Refused(Refusal::LineTooLong);
+        let too_long = Came::Refused(CommandError::LineTooLong);
         gives(&rt, alloc, &mut reader, &[too_long, Came::Closed]);
     }
     Ok(())
@@ -268,19 +268,19 @@ fn lines_at_the_limit(rt: HostRuntime) -> Result<(), Fail> {
 #[test]
 fn values_at_the_limit(rt: HostRuntime) -> Result<(), Fail> {
     let alloc = rt.alloc();
-    for limit in [LEAST_VALUE_LIMIT, DEFAULT_VALUE_LIMIT, GREATEST_VALUE_LIMIT] {
+    for limit in [MIN_VALUE_LIMIT, DEFAULT_VALUE_LIMIT, MAX_VALUE_LIMIT] {
         let mut reader = Reader::new(alloc, limit)?;
         for (count, wanted) in [
             (limit - 1, Came::Store),
             (limit, Came::Store),
-            (limit + 1, Came::Refused(Refusal::TooLarge)),
+            (limit + 1, Came::Refused(CommandError::TooLarge)),
         ] {
             let line = format!(in alloc; "set a 0 0 {count}\r\n")?;
             feed_all(&rt, &mut reader, line.as_bytes());
             gives(&rt, alloc, &mut reader, &[Came::NeedMore]);
             equal(&rt, reader.is_skipping(), count > limit);
             let mut left = count;
-            for _ in 0..GREATEST_VALUE_LIMIT {
+            for _ in 0..MAX_VALUE_LIMIT {
                 let (piece, _) = PIECE.split_at(left.min(PIECE.len()));
                 feed_all(&rt, &mut reader, piece);
                 left -= piece.len();

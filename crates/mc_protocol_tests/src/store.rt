@@ -9,7 +9,7 @@ use asked::{Ask, Row, op_of};
 use mc_command::{Direction, StoreMode, Vivify};
 use mc_item::{Answer, Op};
 use mc_store::Shard;
-use mc_wire::{GREATEST_VALUE_LIMIT, WireFault};
+use mc_wire::{MAX_VALUE_LIMIT, WireError};
 use shown::shown;
 use std::alloc::{AllocError, Global};
 use std::hash::RandomState;
@@ -547,12 +547,12 @@ static LIMITS: [(usize, usize, usize, &str); 4] = [
     (1_024, 1_023, 1, "0 3 1024 bytes"),
     (1_025, 0, 1_025, "0 3 1025 bytes"),
     (2_000_000, 1_000_000, 1_000_000, "0 3 2000000 bytes"),
-    (GREATEST_VALUE_LIMIT, 1, 8_388_607, "0 3 8388608 bytes"),
+    (MAX_VALUE_LIMIT, 1, 8_388_607, "0 3 8388608 bytes"),
 ];
 
 /// The first of two shards, with this value limit.
 fn limited_shard(rt: &HostRuntime, alloc: Global, limit: usize) -> Result<Shard, Fail> {
-    let limit = limit.min(GREATEST_VALUE_LIMIT);
+    let limit = limit.min(MAX_VALUE_LIMIT);
     let hasher = RandomState::new(rt)?;
     Ok(Shard::new(alloc, hasher, 0, 2, 16_777_216, 0, limit)?)
 }
@@ -683,7 +683,7 @@ fn recache_and_stale_marks(rt: HostRuntime) -> Result<(), Fail> {
 }
 
 /// The operations of the rows, with their times.
-fn list_of(alloc: Global, rows: &[Row]) -> Result<Vec<(Op, u64)>, WireFault> {
+fn list_of(alloc: Global, rows: &[Row]) -> Result<Vec<(Op, u64)>, WireError> {
     let mut asked = Vec::with_capacity(alloc, rows.len())?;
     for (at, key, ask, _) in rows {
         let op = op_of(alloc, *key, *ask)?;
@@ -831,7 +831,7 @@ static SHORT: [(Row, bool); 18] = [
 ];
 
 /// Makes the operation; tries again if memory was refused.
-fn op_in_the_end(alloc: Global, row: Row) -> Result<Op, WireFault> {
+fn op_in_the_end(alloc: Global, row: Row) -> Result<Op, WireError> {
     match op_of(alloc, row.1, row.2) {
         Ok(op) => Ok(op),
         Err(_) => op_of(alloc, row.1, row.2),
@@ -844,7 +844,7 @@ fn answer_in_the_end(
     shard: &mut Shard,
     row: Row,
     is_free: bool,
-) -> Result<Answer, WireFault> {
+) -> Result<Answer, WireError> {
     let op = op_in_the_end(alloc, row)?;
     match shard.run(alloc, op, row.0) {
         Answer::NoMemory if !is_free => {

@@ -1,12 +1,12 @@
-//! Tests of what no contract states: values from outside, success with ample memory, and outlets
+//! Tests of what no contract states: values from outside, success with ample memory, and sinks
 //! that take one byte per write and fail within a text.
 ghost use Rattle.std.specs.Prelude.{◌<◌};
-ghost use Rattle.mc_wire.specs.Outlet.{Listed, sight_out};
+ghost use Rattle.mc_wire.specs.Sink.{Listed, sight_out};
 
 use crate::asserting::{equal, holds};
 use mc_wire::{
-    BASE64_LIMIT, DECODED_KEY_LIMIT, KEY_LIMIT, Key, OutFault, Outlet, WireFault, base64_is_text,
-    key_fault, number_i64, number_u64, put_all, put_parts, words,
+    BASE64_LIMIT, DECODED_KEY_LIMIT, KEY_LIMIT, Key, Sink, SinkError, WireError, base64_is_text,
+    key_fault, number_i64, number_u64, put_parts, words, write_all,
 };
 use std::alloc::Global;
 use std::process::Abort;
@@ -20,21 +20,21 @@ struct Dripping {
     failed: bool,
 }
 
-impl Outlet for Dripping {
+impl Sink for Dripping {
     ghost sight = { λ out. sight_out (Listed out.store.items) out.failed };
 
-    fn write(&mut self, bytes: &[u8]) -> Result<usize, OutFault> {
+    fn write(&mut self, bytes: &[u8]) -> Result<usize, SinkError> {
         if bytes.is_empty() && !self.failed {
             return Ok(0);
         }
         if self.failed || self.writes_left == 0 {
             self.failed = true;
-            return Err(OutFault);
+            return Err(SinkError);
         }
         self.writes_left -= 1;
         if self.store.extend_from_slice(bytes.split_at(1).0).is_err() {
             self.failed = true;
-            return Err(OutFault);
+            return Err(SinkError);
         }
         Ok(1)
     }
@@ -52,23 +52,23 @@ fn words_are_the_runs_between_spaces(rt: HostRuntime) {
     equal(&rt, walk.next(), None);
 }
 
-static UNSIGNED: [(&[u8], Result<u64, WireFault>); 6] = [
+static UNSIGNED: [(&[u8], Result<u64, WireError>); 6] = [
     (b"00000000000000000042", Ok(42)),
-    (b"000000000000000000042", Err(WireFault::NotNumber)),
+    (b"000000000000000000042", Err(WireError::NotNumber)),
     (b"18446744073709551615", Ok(u64::MAX)),
-    (b"18446744073709551616", Err(WireFault::NotNumber)),
-    (b"-1", Err(WireFault::NotNumber)),
-    (b"", Err(WireFault::NotNumber)),
+    (b"18446744073709551616", Err(WireError::NotNumber)),
+    (b"-1", Err(WireError::NotNumber)),
+    (b"", Err(WireError::NotNumber)),
 ];
 
-static SIGNED: [(&[u8], Result<i64, WireFault>); 7] = [
+static SIGNED: [(&[u8], Result<i64, WireError>); 7] = [
     (b"9223372036854775807", Ok(i64::MAX)),
-    (b"9223372036854775808", Err(WireFault::NotNumber)),
+    (b"9223372036854775808", Err(WireError::NotNumber)),
     (b"-9223372036854775808", Ok(i64::MIN)),
-    (b"-9223372036854775809", Err(WireFault::NotNumber)),
+    (b"-9223372036854775809", Err(WireError::NotNumber)),
     (b"-00000000000000000001", Ok(-1)),
-    (b"--1", Err(WireFault::NotNumber)),
-    (b"-", Err(WireFault::NotNumber)),
+    (b"--1", Err(WireError::NotNumber)),
+    (b"-", Err(WireError::NotNumber)),
 ];
 
 #[test]
@@ -82,20 +82,20 @@ fn numbers_end_where_64_bits_end(rt: HostRuntime) {
 }
 
 /// The number of the shard of this word's key, of this number of shards.
-fn place_of(alloc: Global, word: &[u8], places: usize) -> Result<usize, WireFault>
+fn place_of(alloc: Global, word: &[u8], places: usize) -> Result<usize, WireError>
     requires { 0 < places }
 {
     Ok(Key::from_word(alloc, word)?.place(places))
 }
 
 /// Whether the keys of both words are equal.
-fn are_alike(alloc: Global, one: &[u8], other: &[u8]) -> Result<bool, WireFault> {
+fn are_alike(alloc: Global, one: &[u8], other: &[u8]) -> Result<bool, WireError> {
     let one = Key::from_word(alloc, one)?;
     Ok(Key::from_word(alloc, other)? == one)
 }
 
 /// Whether this word's key and its clone have the word's bytes, and are equal.
-fn keeps_its_bytes(alloc: Global, word: &[u8]) -> Result<bool, WireFault> {
+fn keeps_its_bytes(alloc: Global, word: &[u8]) -> Result<bool, WireError> {
     let key = Key::from_word(alloc, word)?;
     let clone = key.clone()?;
     Ok(key.bytes() == word && clone.bytes() == word && clone == key)
@@ -179,22 +179,22 @@ fn the_longest_keys_in_base64(rt: HostRuntime) -> Result<(), Fail> {
     Ok(())
 }
 
-static FAULTS: [(&[u8], Option<WireFault>, WireFault); 7] = [
-    (b"", Some(WireFault::NoKey), WireFault::NoKey),
-    (b"a b", Some(WireFault::KeyByte), WireFault::NotBase64),
-    (b"\x7f", Some(WireFault::KeyByte), WireFault::NotBase64),
-    (b"YR==", None, WireFault::NotBase64),
-    (b"YQ=", None, WireFault::NotBase64),
-    (b"-_==", None, WireFault::NotBase64),
+static FAULTS: [(&[u8], Option<WireError>, WireError); 7] = [
+    (b"", Some(WireError::NoKey), WireError::NoKey),
+    (b"a b", Some(WireError::KeyByte), WireError::NotBase64),
+    (b"\x7f", Some(WireError::KeyByte), WireError::NotBase64),
+    (b"YR==", None, WireError::NotBase64),
+    (b"YQ=", None, WireError::NotBase64),
+    (b"-_==", None, WireError::NotBase64),
     (
         &[b'A'; 251],
-        Some(WireFault::KeyTooLong),
-        WireFault::KeyTooLong,
+        Some(WireError::KeyTooLong),
+        WireError::KeyTooLong,
     ),
 ];
 
 /// The error of a key, if there is one.
-fn fault_of(key: Result<Key, WireFault>) -> Option<WireFault> {
+fn fault_of(key: Result<Key, WireError>) -> Option<WireError> {
     key.err()
 }
 
@@ -213,7 +213,7 @@ fn faults_of_words_take_no_memory(rt: HostRuntime) {
 }
 
 /// Whether a key was parsed and can be cloned.
-fn is_cloned(key: Result<Key, WireFault>) -> bool {
+fn is_cloned(key: Result<Key, WireError>) -> bool {
     match &key {
         Ok(key) => key.clone().is_ok(),
         Err(_) => false,
@@ -233,10 +233,10 @@ fn short_keys_take_no_memory(rt: HostRuntime) {
 static LONG_KEY: [u8; 39] = [b'a'; 39];
 
 /// Asserts that it is the long key, or that its memory was refused.
-fn is_long_key(rt: &impl Abort, key: Result<Key, WireFault>) {
+fn is_long_key(rt: &impl Abort, key: Result<Key, WireError>) {
     match &key {
         Ok(key) => equal(rt, key.bytes(), LONG_KEY.as_slice()),
-        Err(fault) => equal(rt, *fault, WireFault::Memory),
+        Err(fault) => equal(rt, *fault, WireError::Memory),
     }
 }
 
@@ -249,7 +249,7 @@ fn memory_is_the_only_other_fault(rt: HostRuntime) {
 }
 
 #[test]
-fn a_failing_outlet_has_taken_a_front(rt: HostRuntime) -> Result<(), Fail> {
+fn a_failing_sink_has_taken_a_front(rt: HostRuntime) -> Result<(), Fail> {
     let whole = b"VALUE a 0\r\n";
     for writes in 0..=11 {
         let mut at_once = Dripping {
@@ -263,8 +263,12 @@ fn a_failing_outlet_has_taken_a_front(rt: HostRuntime) -> Result<(), Fail> {
             failed: false,
         };
         let parts = [b"VALUE ".as_slice(), b"a", b"", b" 0\r\n"];
-        let want = if writes == 11 { Ok(()) } else { Err(OutFault) };
-        equal(&rt, (writes, put_all(&mut at_once, whole)), (writes, want));
+        let want = if writes == 11 { Ok(()) } else { Err(SinkError) };
+        equal(
+            &rt,
+            (writes, write_all(&mut at_once, whole)),
+            (writes, want),
+        );
         equal(
             &rt,
             (writes, put_parts(&mut in_parts, &parts)),

@@ -1,5 +1,6 @@
 -- Worked texts with their commands, and worked streams.
-use Rattle.std.proofs.Common.{◌≡◌, ℕ, ◌<◌, Bool, false, ◌||◌, List, [], ◌∷◌, ◌++◌, length, ◌==◌, refl, codes, pos, lit<, None}
+use Rattle.std.proofs.Common.{◌≡◌, ℕ, ◌<◌, Bool, false, ◌||◌, List, [], ◌∷◌, ◌++◌, length, ◌==◌, refl, codes, pos, lit<}
+use Rattle.std.proofs.Common.{None}
 use Rattle.std.proofs.lemmas.Bool.{or_parts}
 use Rattle.std.specs.Int.{int_wrap}
 use Rattle.mc_wire.specs.declared.TheConstants.{DEFAULT_LINE_LIMIT, DEFAULT_VALUE_LIMIT}
@@ -9,7 +10,7 @@ use Rattle.mc_command.specs.Rules.{drop_in, own}
 use Rattle.mc_command.specs.declared.command.Command.{Command}
 use Rattle.mc_command.specs.declared.command.Command.TheVariants as command
 use Rattle.mc_command.specs.declared.command.StoreMode.TheVariants.{Set}
-use Rattle.mc_command.specs.declared.refusal.Refusal.TheVariants.{Unknown, BadFormat, TooLarge, BadChunk, Hidden}
+use Rattle.mc_command.specs.declared.error.CommandError.TheVariants.{Unknown, BadFormat, TooLarge, BadChunk, Hidden}
 use Rattle.mc_command.specs.Field.{is_key}
 use Rattle.mc_command.specs.Line.{bytes_behind}
 use Rattle.mc_command.specs.Meta.{meta_line_of}
@@ -30,11 +31,29 @@ no_end [] e = tt
 no_end (x ∷ xs) e = let parts = or_parts (x == 10) (has_end xs) e in (parts.0, no_end xs parts.1)
 
 -- a line with the bytes behind it
-spelled : (line tail : List ℕ) (entry : Command) → has_end line ≡ false → length line < DEFAULT_LINE_LIMIT → length tail ≡ bytes_behind (line_says (own DEFAULT_VALUE_LIMIT) line) → entry ≡ entry_after (own DEFAULT_VALUE_LIMIT) (line_says (own DEFAULT_VALUE_LIMIT) line) tail → Spells (own DEFAULT_VALUE_LIMIT) (line ++ 10 ∷ tail) entry
-spelled line tail entry none short long is = lined (own DEFAULT_VALUE_LIMIT) line tail entry (no_end line none) short long is
+spelled : (line tail : List ℕ) (entry : Command) → has_end line ≡ false → length line < DEFAULT_LINE_LIMIT → length tail
+    ≡ bytes_behind (line_says (own DEFAULT_VALUE_LIMIT) line) → entry
+    ≡ entry_after (own DEFAULT_VALUE_LIMIT) (line_says (own DEFAULT_VALUE_LIMIT) line) tail
+    → Spells (own DEFAULT_VALUE_LIMIT) (line ++ 10 ∷ tail) entry
+spelled line tail entry none short long is =
+    lined (own DEFAULT_VALUE_LIMIT) line tail entry (no_end line none) short long is
 
 abbrev stored : List ℕ → ℕ → List ℕ → Command
-stored key flags bytes = command.Store (record { asked = record { key = key; mode = Set; compare = None; unique = None; flags = flags; exptime = pos 0; value = bytes }; noreply = false; lenient = false })
+stored key flags bytes =
+    command.Store (record {
+      asked =
+          record {
+            key = key;
+            mode = Set;
+            compare = None;
+            unique = None;
+            flags = flags;
+            exptime = pos 0;
+            value = bytes;
+          };
+      noreply = false;
+      lenient = false;
+    })
 
 -- a line, ended by CR LF or by LF alone
 noop : Spells (own DEFAULT_VALUE_LIMIT) (codes "mn\r\n") command.MetaNoop
@@ -64,7 +83,8 @@ unfolding line_of words_of name_of number_of is_key
 blocks = (
   spelled (codes "set a 5 0 3\r") (codes "abc\r\n") (stored (codes "a") 5 (codes "abc")) refl (lit< tt) refl refl,
   spelled (codes "set b 0 0 0\r") (codes "\r\n") (stored (codes "b") 0 []) refl (lit< tt) refl refl,
-  spelled (codes "set a 0 0 6\r") (codes "get a\n\r\n") (stored (codes "a") 0 (codes "get a\n")) refl (lit< tt) refl refl,
+  spelled (codes "set a 0 0 6\r") (codes "get a\n\r\n") (stored (codes "a") 0 (codes "get a\n")) refl (lit< tt) refl
+      refl,
   spelled (codes "set a 0 0 3\r") (codes "abcde") (command.Refused BadChunk) refl (lit< tt) refl refl,
   spelled (codes "set a 0 0 1\r") (codes "x\nm") (command.Refused BadChunk) refl (lit< tt) refl refl,
   spelled (codes "set a x 0 3\r") (codes "abcde") (command.Refused BadFormat) refl (lit< tt) refl refl,
@@ -80,12 +100,16 @@ other_ends :
 unfolding line_of words_of name_of number_of is_key meta_line_of int_wrap
 other_ends = (
   spelled (codes "set a 0 0 3 noreply\r") (codes "abcde") (command.Refused BadChunk) refl (lit< tt) refl refl,
-  lined (drop_in DEFAULT_VALUE_LIMIT) (codes "set a 0 0 3 noreply\r") (codes "abcde") (command.Refused Hidden) (no_end (codes "set a 0 0 3 noreply\r") refl) (lit< tt) refl refl,
-  lined (drop_in DEFAULT_VALUE_LIMIT) (codes "set a 0 0 3\r") (codes "abcde") (command.Refused BadChunk) (no_end (codes "set a 0 0 3\r") refl) (lit< tt) refl refl,
-  lined (drop_in DEFAULT_VALUE_LIMIT) (codes "ms a 3 q\r") (codes "abcde") (command.Refused BadChunk) (no_end (codes "ms a 3 q\r") refl) (lit< tt) refl refl,
+  lined (drop_in DEFAULT_VALUE_LIMIT) (codes "set a 0 0 3 noreply\r") (codes "abcde") (command.Refused Hidden)
+      (no_end (codes "set a 0 0 3 noreply\r") refl) (lit< tt) refl refl,
+  lined (drop_in DEFAULT_VALUE_LIMIT) (codes "set a 0 0 3\r") (codes "abcde") (command.Refused BadChunk)
+      (no_end (codes "set a 0 0 3\r") refl) (lit< tt) refl refl,
+  lined (drop_in DEFAULT_VALUE_LIMIT) (codes "ms a 3 q\r") (codes "abcde") (command.Refused BadChunk)
+      (no_end (codes "ms a 3 q\r") refl) (lit< tt) refl refl,
 )
 
-too_large : (bytes : List ℕ) → length bytes ≡ 1048579 → Spells (own DEFAULT_VALUE_LIMIT) (codes "set a 0 0 1048577\r\n" ++ bytes) (command.Refused TooLarge)
+too_large : (bytes : List ℕ) → length bytes ≡ 1048579
+    → Spells (own DEFAULT_VALUE_LIMIT) (codes "set a 0 0 1048577\r\n" ++ bytes) (command.Refused TooLarge)
 unfolding line_of words_of name_of number_of is_key
 too_large bytes long = spelled (codes "set a 0 0 1048577\r") bytes (command.Refused TooLarge) refl (lit< tt) long refl
 
@@ -94,13 +118,33 @@ unfolding line_of words_of name_of
 quit = spelled (codes "quit\r") [] command.Quit refl (lit< tt) refl refl
 
 -- nothing behind quit is a command
-quit_closes : AreCommands (own DEFAULT_VALUE_LIMIT) (codes "mn\r\nquit\r\nmn\r\n") (command.MetaNoop ∷ command.Quit ∷ [])
-quit_closes = (codes "mn\r\n", (codes "mn\r\n", codes "quit\r\nmn\r\n", refl, noop, (codes "quit\r\n", codes "mn\r\n", refl, quit, (refl, refl))), tt)
+quit_closes : AreCommands (own DEFAULT_VALUE_LIMIT) (codes "mn\r\nquit\r\nmn\r\n")
+    (command.MetaNoop ∷ command.Quit ∷ [])
+quit_closes = (
+  codes "mn\r\n",
+  (
+    codes "mn\r\n",
+    codes "quit\r\nmn\r\n",
+    refl,
+    noop,
+    (codes "quit\r\n", codes "mn\r\n", refl, quit, (refl, refl)),
+  ),
+  tt,
+)
 
 -- a stream that stops in a line, and one that stops in a block
 unfinished_line : AreCommands (own DEFAULT_VALUE_LIMIT) (codes "mn\r\nget a") (command.MetaNoop ∷ [])
-unfinished_line = (codes "get a", (codes "mn\r\n", codes "get a", refl, noop, refl), nothing_without_end (own DEFAULT_VALUE_LIMIT) (codes "get a") (no_end (codes "get a") refl) (lit< tt))
+unfinished_line = (
+  codes "get a",
+  (codes "mn\r\n", codes "get a", refl, noop, refl),
+  nothing_without_end (own DEFAULT_VALUE_LIMIT) (codes "get a") (no_end (codes "get a") refl) (lit< tt),
+)
 
 unfinished_block : AreCommands (own DEFAULT_VALUE_LIMIT) (codes "set a 0 0 5\r\nab") []
 unfolding line_of words_of name_of number_of is_key
-unfinished_block = (codes "set a 0 0 5\r\nab", refl, nothing_yet (own DEFAULT_VALUE_LIMIT) (codes "set a 0 0 5\r") (codes "ab") (no_end (codes "set a 0 0 5\r") refl) (lit< tt) (lit< tt))
+unfinished_block = (
+  codes "set a 0 0 5\r\nab",
+  refl,
+  nothing_yet (own DEFAULT_VALUE_LIMIT) (codes "set a 0 0 5\r") (codes "ab") (no_end (codes "set a 0 0 5\r") refl)
+      (lit< tt) (lit< tt),
+)

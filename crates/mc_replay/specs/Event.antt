@@ -15,7 +15,8 @@ both make first second = option_and_then (λ one. option_map (λ two. make one t
 -- open c, send c, hand c, end c, break c
 abbrev pub seat_events : ℕ → List (List ℕ × Event)
 seat_events seat =
-    (codes "open", Open seat) ∷ (codes "send", Send seat) ∷ (codes "hand", Hand seat) ∷ (codes "end", End seat) ∷ (codes "break", Break seat) ∷ []
+    (codes "open", Open seat) ∷ (codes "send", Send seat) ∷ (codes "hand", Hand seat) ∷ (codes "end", End seat) ∷
+    (codes "break", Break seat) ∷ []
 
 -- the event of that name of a seat alone
 abbrev pub seat_event : List ℕ → ℕ → Option Event

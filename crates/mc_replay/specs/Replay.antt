@@ -2,7 +2,7 @@
 use Rattle.std.specs.Prelude.{ℕ, ◌≡◌, ◌+◌, List, [], ◌∷◌, ◌++◌, length, Result, Ok, Err, Vec}
 use Rattle.std.specs.List.{flat_map}
 use Rattle.std.specs.declared.alloc.Global.{Global}
-use Rattle.mc_wire.specs.Outlet.{BreaksOff, Sight, took}
+use Rattle.mc_wire.specs.Sink.{BreaksOff, Sight, took}
 use Rattle.mc_sizes.specs.Sizes.{AreWithin, IsFirstOut}
 use Rattle.mc_sizes.specs.declared.sizes.Sizes.{Sizes}
 use Rattle.mc_model.specs.World.{Link, World, empty_world}
@@ -15,8 +15,8 @@ use Rattle.mc_sim.specs.Stands.{line_of}
 use Rattle.mc_replay.specs.Report.{connection_line, counts_line, entry_line}
 use Rattle.mc_replay.specs.Schedule.{events_of}
 use Rattle.mc_replay.specs.declared.schedule.Schedule as schedule
-use Rattle.mc_replay.specs.declared.run.ReplayFault.{ReplayFault}
-use Rattle.mc_replay.specs.declared.run.ReplayFault.TheVariants.{Gone, Memory, Size}
+use Rattle.mc_replay.specs.declared.run.ReplayError.{ReplayError}
+use Rattle.mc_replay.specs.declared.run.ReplayError.TheVariants.{Gone, Memory, Size}
 
 -- the lines of these connections of a world, the first of which has this number
 abbrev pub connection_lines : Sizes → World → ℕ → List Link → List ℕ
@@ -44,14 +44,14 @@ pub record IsReport (sizes : Sizes) (events : List Event) (text : List ℕ) : Ty
   pub text_is : text ≡ report sizes w done idle
 
 -- For a server of valid sizes, the text is a report; otherwise the schedule is refused, or memory was.
-abbrev pub GivesReport : schedule.Schedule → Result (Vec ℕ Global) ReplayFault → Type 0
+abbrev pub GivesReport : schedule.Schedule → Result (Vec ℕ Global) ReplayError → Type 0
 GivesReport plan (Ok text) = IsReport plan.sizes (events_of plan) text.items
 GivesReport plan (Err (Size fault)) = IsFirstOut plan.sizes fault
 GivesReport plan (Err Memory) = AreWithin plan.sizes
 GivesReport plan (Err Gone) = ⊥
 
--- The whole report was written, or a prefix of it if the outlet failed; nothing if the schedule was refused.
-abbrev pub Replays : {X : Type 0} → schedule.Schedule → Result X ReplayFault → Sight → Sight → Type 0
+-- The whole report was written, or a prefix of it if the sink failed; nothing if the schedule was refused.
+abbrev pub Replays : {X : Type 0} → schedule.Schedule → Result X ReplayError → Sight → Sight → Type 0
 Replays plan (Ok all) old new = (text : List ℕ) × IsReport plan.sizes (events_of plan) text × (new ≡ took text old)
 Replays plan (Err Gone) old new = (text : List ℕ) × IsReport plan.sizes (events_of plan) text × BreaksOff text old new
 Replays plan (Err (Size fault)) old new = IsFirstOut plan.sizes fault × (new ≡ old)

@@ -12,7 +12,8 @@ handed_word (byte ∷ bytes) = encode_lower (byte ∷ bytes)
 -- conn K seat C HEX
 abbrev pub connection_line : ℕ → ℕ → List ℕ → List ℕ
 connection_line number seat handed =
-    concat (codes "conn " ∷ decimal number ∷ codes " seat " ∷ decimal seat ∷ codes " " ∷ handed_word handed ∷ codes "\n" ∷ [])
+    concat (codes "conn " ∷ decimal number ∷ codes " seat " ∷ decimal seat ∷ codes " " ∷ handed_word handed ∷ codes "\n"
+    ∷ [])
 
 -- log SHARD CONNECTION TICKET PART TIME
 abbrev pub entry_line : LogEntry → List ℕ

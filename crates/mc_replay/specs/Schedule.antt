@@ -1,5 +1,6 @@
 -- The content of a replay file: its header, then one event per line; or the number of its first invalid line.
-use Rattle.std.specs.Prelude.{ℕ, ◌≡◌, ◌+◌, List, [], ◌∷◌, ◌++◌, length, map, drop, Option, Some, None, MatchOption, Result, Ok, Err, Vec}
+use Rattle.std.specs.Prelude.{ℕ, ◌≡◌, ◌+◌, List, [], ◌∷◌, ◌++◌, length, map, drop, Option, Some, None, MatchOption}
+use Rattle.std.specs.Prelude.{Result, Ok, Err, Vec}
 use Rattle.std.specs.declared.alloc.Global.{Global}
 use Rattle.mc_sizes.specs.declared.sizes.Sizes.{Sizes}
 use Rattle.mc_model.specs.Events.{Event}
@@ -9,8 +10,8 @@ use Rattle.mc_replay.specs.Text.{lines_of, words_in}
 use Rattle.mc_replay.specs.Header.{header_of}
 use Rattle.mc_replay.specs.Event.{event_of}
 use Rattle.mc_replay.specs.declared.schedule.Schedule as schedule
-use Rattle.mc_replay.specs.declared.schedule.ScheduleFault.{ScheduleFault}
-use Rattle.mc_replay.specs.declared.schedule.ScheduleFault.TheVariants.{Bad, Memory}
+use Rattle.mc_replay.specs.declared.schedule.ScheduleError.{ScheduleError}
+use Rattle.mc_replay.specs.declared.schedule.ScheduleError.TheVariants.{Bad, Memory}
 
 -- the events of a schedule
 abbrev pub events_of : schedule.Schedule → List Event
@@ -34,13 +35,16 @@ pub record IsFirstBad (sizes : Sizes) (lines : List (List ℕ)) (number : ℕ) :
 
 -- The result is the events of the lines behind the header, or the first invalid line, unless memory was
 -- refused.
-abbrev pub SpellsEvents : Sizes → List (List ℕ) → Result (Vec code.Event Global) ScheduleFault → Type 0
+abbrev pub SpellsEvents : Sizes → List (List ℕ) → Result (Vec code.Event Global) ScheduleError → Type 0
 SpellsEvents sizes lines (Ok events) = events_in sizes lines ≡ map Some (map shown events.items)
 SpellsEvents sizes lines (Err (Bad number)) = IsFirstBad sizes lines number
 SpellsEvents sizes lines (Err Memory) = Unit {0}
 
 -- The result is the schedule in the file, or its first invalid line, unless memory was refused.
-abbrev pub SpellsSchedule : List ℕ → Result schedule.Schedule ScheduleFault → Type 0
-SpellsSchedule text (Ok plan) = (header_in (lines_of text) ≡ Some plan.sizes) × (events_in plan.sizes (drop 1 (lines_of text)) ≡ map Some (events_of plan))
-SpellsSchedule text (Err (Bad number)) = MatchOption (header_in (lines_of text)) (number ≡ 1) (λ sizes. IsFirstBad sizes (drop 1 (lines_of text)) number)
+abbrev pub SpellsSchedule : List ℕ → Result schedule.Schedule ScheduleError → Type 0
+SpellsSchedule text (Ok plan) =
+    (header_in (lines_of text) ≡ Some plan.sizes)
+    × (events_in plan.sizes (drop 1 (lines_of text)) ≡ map Some (events_of plan))
+SpellsSchedule text (Err (Bad number)) =
+    MatchOption (header_in (lines_of text)) (number ≡ 1) (λ sizes. IsFirstBad sizes (drop 1 (lines_of text)) number)
 SpellsSchedule text (Err Memory) = Unit {0}

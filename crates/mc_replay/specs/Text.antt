@@ -1,6 +1,7 @@
 -- The lines of a replay file and the words of a line: lines are ended by the byte 10, words are separated by
 -- one space.
-use Rattle.std.specs.Prelude.{ℕ, ◌-◌, List, ◌∷◌, length, take, drop, Option, Some, None, Result, Ok, codes, if◌then◌else◌, ◌==◌}
+use Rattle.std.specs.Prelude.{ℕ, ◌-◌, List, ◌∷◌, length, take, drop, Option, Some, None, Result, Ok, codes}
+use Rattle.std.specs.Prelude.{if◌then◌else◌, ◌==◌}
 use Rattle.std.specs.List.{slice_split}
 use Rattle.std.specs.Str.{bytes_eq}
 use Rattle.hex.specs.Hex.{decode_of}
@@ -12,7 +13,8 @@ parts_of separator text = slice_split (λ byte. byte == separator) text
 
 -- the text without the end of its last line, which is optional
 abbrev pub without_last_end : List ℕ → List ℕ
-without_last_end text = if bytes_eq (drop (length text - 1) text) (codes "\n") then take (length text - 1) text else text
+without_last_end text =
+    if bytes_eq (drop (length text - 1) text) (codes "\n") then take (length text - 1) text else text
 
 -- the lines of a file
 abbrev pub lines_of : List ℕ → List (List ℕ)

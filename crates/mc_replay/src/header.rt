@@ -9,12 +9,11 @@ use crate::number::number_within;
 use crate::parts::{PartWalk, parts};
 use mc_command::Profile;
 use mc_sizes::{
-    DEFAULT_WINDOW, GREATEST_BUDGET, GREATEST_RING, GREATEST_SEATS, GREATEST_SHARDS,
-    GREATEST_WINDOW, LEAST, LEAST_BUDGET, Sizes,
+    DEFAULT_WINDOW, MAX_BUDGET, MAX_RING, MAX_SEATS, MAX_SHARDS, MAX_WINDOW, MIN, MIN_BUDGET, Sizes,
 };
 use mc_wire::{
-    DEFAULT_LINE_LIMIT, DEFAULT_VALUE_LIMIT, DROP_IN_LINE_LIMIT, GREATEST_LINE_LIMIT,
-    GREATEST_VALUE_LIMIT, LEAST_LINE_LIMIT, LEAST_VALUE_LIMIT,
+    DEFAULT_LINE_LIMIT, DEFAULT_VALUE_LIMIT, DROP_IN_LINE_LIMIT, MAX_LINE_LIMIT, MAX_VALUE_LIMIT,
+    MIN_LINE_LIMIT, MIN_VALUE_LIMIT,
 };
 
 /// Parses a header: `sim SEATS SHARDS BYTES RING [VALUE WINDOW [LINE] [drop-in]]`
@@ -45,13 +44,14 @@ fn read_sizes(
 {
     let sizes = Sizes {
         profile: Profile::Own,
-        seats: number_within(seats, LEAST, GREATEST_SEATS)?,
-        shards: number_within(shards, LEAST, GREATEST_SHARDS)?,
-        bytes: number_within(bytes, LEAST_BUDGET, GREATEST_BUDGET)?,
-        ring: number_within(ring, LEAST, GREATEST_RING)?,
+        seats: number_within(seats, MIN, MAX_SEATS)?,
+        shards: number_within(shards, MIN, MAX_SHARDS)?,
+        bytes: number_within(bytes, MIN_BUDGET, MAX_BUDGET)?,
+        ring: number_within(ring, MIN, MAX_RING)?,
         value: DEFAULT_VALUE_LIMIT,
         line: DEFAULT_LINE_LIMIT,
         window: DEFAULT_WINDOW,
+        shutdown: false,
     };
     with_limits(sizes, more)
 }
@@ -65,8 +65,8 @@ fn with_limits(sizes: Sizes, mut more: PartWalk<'_>) -> Option<Sizes>
         (None, _) => Some(sizes),
         (Some(value), Some(window)) => {
             let sizes = Sizes {
-                value: number_within(value, LEAST_VALUE_LIMIT, GREATEST_VALUE_LIMIT)?,
-                window: number_within(window, LEAST, GREATEST_WINDOW)?,
+                value: number_within(value, MIN_VALUE_LIMIT, MAX_VALUE_LIMIT)?,
+                window: number_within(window, MIN, MAX_WINDOW)?,
                 ..sizes
             };
             with_rules(sizes, more)
@@ -124,7 +124,7 @@ fn with_line(sizes: Sizes, word: &[u8]) -> Option<Sizes>
     ensures { result ≡ with_line sizes word.now }
 {
     Some(Sizes {
-        line: number_within(word, LEAST_LINE_LIMIT, GREATEST_LINE_LIMIT)?,
+        line: number_within(word, MIN_LINE_LIMIT, MAX_LINE_LIMIT)?,
         ..sizes
     })
 }

@@ -10,5 +10,5 @@ mod run;
 mod schedule;
 mod text;
 
-pub use run::{ReplayFault, replay};
-pub use schedule::{Schedule, ScheduleFault, read_schedule};
+pub use run::{ReplayError, replay};
+pub use schedule::{Schedule, ScheduleError, read_schedule};

@@ -1,4 +1,4 @@
-//! Splitting text at a separator: lines of a file, or words of a line.
+//! Splitting text at a separator: lines of a file, or words of a line. See docs/DECISIONS.md, Y2.
 ghost use Rattle.std.specs.Prelude.{◌≡◌, ◌∷◌, ◌==◌, []};
 ghost use Rattle.std.specs.Option.{option_map_or};
 ghost use Rattle.std.specs.List.{position};

@@ -9,85 +9,86 @@ ghost use Rattle.mc_sim.specs.Runs.{Runs};
 ghost use Rattle.mc_sim.specs.Stands.{Stands};
 ghost use Rattle.mc_replay.specs.Report.{connection_line, entry_line};
 ghost use Rattle.mc_replay.specs.Replay.{Replays, GivesReport, connection_lines, report};
-ghost use Rattle.mc_replay.specs.declared.run.ReplayFault.TheVariants.{Memory};
+ghost use Rattle.mc_replay.specs.declared.run.ReplayError.TheVariants.{Memory};
 
 use crate::report::{push_connection, push_counts, push_entry};
 use crate::schedule::Schedule;
 use mc_item::NoMemory;
 use mc_model::Event;
-use mc_sim::{LogEntry, Sim, SimRefusal};
-use mc_sizes::SizeFault;
-use mc_wire::{Outlet, put_all};
+use mc_sim::{LogEntry, Sim, SimError};
+use mc_sizes::SizeError;
+use mc_wire::{Sink, write_all};
 use std::alloc::{AllocError, Global};
 use std::random::RandomSource;
 use thiserror::Error;
 
 /// Why a schedule wasn't replayed completely.
 #[derive(Clone, Copy, Debug, PartialEq, Eq, Error)]
-pub enum ReplayFault {
+pub enum ReplayError {
     /// A size of the server is out of range. Nothing was written.
     #[error(transparent)]
-    Size(SizeFault),
+    Size(SizeError),
     /// Memory was refused. Nothing was written.
     #[error("out of memory")]
     Memory,
-    /// The outlet has failed; a prefix of the report was written.
+    /// The sink has failed; a prefix of the report was written.
     #[error("cannot write")]
     Gone,
 }
 
-impl From<AllocError> for ReplayFault {
+impl From<AllocError> for ReplayError {
     ghost from_gives = { λ _ fault. fault ≡ Memory };
 
-    fn from(_error: AllocError) -> ReplayFault {
-        ReplayFault::Memory
+    fn from(_error: AllocError) -> ReplayError {
+        ReplayError::Memory
     }
 }
 
-/// Runs the events of a schedule, then writes the report to the outlet: the replies to each
+/// Runs the events of a schedule, then writes the report to the sink: the replies to each
 /// connection, the log of the shards, and the numbers of events done and idle.
-pub fn replay<R: RandomSource, O: Outlet>(
+pub fn replay<R: RandomSource, O: Sink>(
     rt: &R,
     alloc: Global,
     schedule: &Schedule,
     out: &mut O,
-) -> Result<(), ReplayFault>
+) -> Result<(), ReplayError>
     ensures { Replays schedule.now result (O.sight out.old) (O.sight out.new) }
 {
     let text = tell(rt, alloc, schedule)?;
-    match put_all(out, &text) {
+    match write_all(out, &text) {
         Ok(()) => Ok(()),
-        Err(_) => Err(ReplayFault::Gone),
+        Err(_) => Err(ReplayError::Gone),
     }
 }
 
 /// The report of a schedule after its events were run.
-fn tell<R: RandomSource>(rt: &R, alloc: Global, schedule: &Schedule) -> Result<Vec<u8>, ReplayFault>
+fn tell<R: RandomSource>(rt: &R, alloc: Global, schedule: &Schedule) -> Result<Vec<u8>, ReplayError>
     ensures { GivesReport schedule.now result }
 {
     let mut sim = match Sim::new(rt, alloc, schedule.sizes) {
         Ok(sim) => sim,
-        Err(SimRefusal::Size(fault)) => return Err(ReplayFault::Size(fault)),
-        Err(SimRefusal::Memory) => return Err(ReplayFault::Memory),
+        Err(SimError::Size(fault)) => return Err(ReplayError::Size(fault)),
+        Err(SimError::Memory) => return Err(ReplayError::Memory),
     };
     let Ok(done) = run_all(alloc, &mut sim, &schedule.events) else {
-        return Err(ReplayFault::Memory);
+        return Err(ReplayError::Memory);
     };
     let idle = (schedule.events.len() as u64).saturating_sub(done);
     match report(alloc, &sim, done, idle) {
         Ok(text) => Ok(text),
-        Err(_) => Err(ReplayFault::Memory),
+        Err(_) => Err(ReplayError::Memory),
     }
 }
 
 /// Runs all events and returns the number of those done. Fails at the first event that is refused
-/// memory; nothing is reported then.
-fn run_all(alloc: Global, sim: &mut Sim, events: &[Event]) -> Result<u64, ReplayFault>
+/// memory; nothing is reported then. A report is complete before it is written (docs/DECISIONS.md,
+/// Y4).
+fn run_all(alloc: Global, sim: &mut Sim, events: &[Event]) -> Result<u64, ReplayError>
     ensures { IfOk result (λ done. Runs sim.old (map event_of events.now) done sim.new) }
 {
     match sim.run(alloc, events) {
         Ok(done) => Ok(done),
-        Err(NoMemory) => Err(ReplayFault::Memory),
+        Err(NoMemory) => Err(ReplayError::Memory),
     }
 }
 

@@ -3,7 +3,7 @@ ghost use Rattle.std.specs.Prelude.{◌≡◌};
 ghost use Rattle.mc_replay.specs.Text.{without_last_end};
 ghost use Rattle.mc_replay.specs.Schedule.{SpellsSchedule, SpellsEvents};
 ghost use Rattle.mc_replay.specs.internal.Parts.{parts_left};
-ghost use Rattle.mc_replay.specs.declared.schedule.ScheduleFault.TheVariants.{Memory};
+ghost use Rattle.mc_replay.specs.declared.schedule.ScheduleError.TheVariants.{Memory};
 
 use crate::event::read_event;
 use crate::header::read_header;
@@ -24,7 +24,7 @@ pub struct Schedule {
 
 /// Why a replay file is invalid.
 #[derive(Clone, Copy, Debug, Error)]
-pub enum ScheduleFault {
+pub enum ScheduleError {
     /// The number, counted from 1, of the first line that is no header or no event.
     #[error("line {0}: bad event")]
     Bad(usize),
@@ -33,21 +33,21 @@ pub enum ScheduleFault {
     Memory,
 }
 
-impl From<AllocError> for ScheduleFault {
+impl From<AllocError> for ScheduleError {
     ghost from_gives = { λ _ fault. fault ≡ Memory };
 
-    fn from(_error: AllocError) -> ScheduleFault {
-        ScheduleFault::Memory
+    fn from(_error: AllocError) -> ScheduleError {
+        ScheduleError::Memory
     }
 }
 
 /// Parses a replay file completely, before any event runs.
-pub fn read_schedule(alloc: Global, text: &[u8]) -> Result<Schedule, ScheduleFault>
+pub fn read_schedule(alloc: Global, text: &[u8]) -> Result<Schedule, ScheduleError>
     ensures { SpellsSchedule text.now result }
 {
     let mut lines = parts(without_last_end(text), b'\n');
     let Some(sizes) = lines.next().and_then(read_header) else {
-        return Err(ScheduleFault::Bad(1));
+        return Err(ScheduleError::Bad(1));
     };
     let events = read_events(alloc, lines, sizes)?;
     Ok(Schedule { sizes, events })
@@ -66,7 +66,7 @@ fn read_events(
     alloc: Global,
     lines: PartWalk<'_>,
     sizes: Sizes,
-) -> Result<Vec<Event>, ScheduleFault>
+) -> Result<Vec<Event>, ScheduleError>
     ensures { SpellsEvents sizes (parts_left lines.entry) result }
 {
     let mut events = Vec::new(alloc);
@@ -74,10 +74,10 @@ fn read_events(
         match read_event(alloc, line, sizes)? {
             Some(event) => {
                 if events.push(event).is_err() {
-                    return Err(ScheduleFault::Memory);
+                    return Err(ScheduleError::Memory);
                 }
             }
-            None => return Err(ScheduleFault::Bad(events.len() + 2)),
+            None => return Err(ScheduleError::Bad(events.len() + 2)),
         }
     }
     Ok(events)

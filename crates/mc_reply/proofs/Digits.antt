@@ -13,6 +13,7 @@ decimal_two n least most = rw (decimal_step n least (omega arith), decimal_digit
 
 -- A number from 100 to 999 is its hundreds, its tens and its ones.
 pub decimal_three : (n : ℕ) → 100 ≤ n → n < 1000 → decimal n ≡ (48 + n / 100) ∷ (48 + n / 10 % 10) ∷ (48 + n % 10) ∷ []
-decimal_three n least most = rw (decimal_step n (omega arith) (omega arith), decimal_two (n / 10) (omega arith) (omega arith), tens) where
-  tens : n / 10 / 10 ≡ n / 100
-  tens = omega arith
+decimal_three n least most =
+    rw (decimal_step n (omega arith) (omega arith), decimal_two (n / 10) (omega arith) (omega arith), tens) where
+      tens : n / 10 / 10 ≡ n / 100
+      tens = omega arith

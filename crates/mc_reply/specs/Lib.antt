@@ -1,5 +1,5 @@
 pub mod Server
-pub mod Shape
+pub mod ReplyKind
 pub mod Slots
 pub mod Text
 pub mod TextLaws

@@ -1,11 +1,11 @@
--- What `stats` shows beside the counts of the shards, and where a form holds it.
+-- What `stats` shows beside the counts of the shards, and where a pending reply holds it.
 use Rattle.std.specs.Prelude.{Bool, true, false}
 use Rattle.mc_command.specs.declared.command.Command.{Command}
 use Rattle.mc_command.specs.declared.command.Command.TheVariants as command
 use Rattle.mc_command.specs.declared.command.StatsRequest.TheVariants.{General}
-use Rattle.mc_reply.specs.declared.form.Form.{Form}
-use Rattle.mc_reply.specs.declared.form.Shape.{Shape}
-use Rattle.mc_reply.specs.declared.form.Shape.TheVariants as shape
+use Rattle.mc_reply.specs.declared.pending_reply.PendingReply.{PendingReply}
+use Rattle.mc_reply.specs.declared.pending_reply.ReplyKind.{ReplyKind}
+use Rattle.mc_reply.specs.declared.pending_reply.ReplyKind.TheVariants as reply_kind
 use Rattle.mc_reply.specs.declared.server_stats.ServerStats.{ServerStats}
 
 -- nothing is known of the server
@@ -31,10 +31,11 @@ shows_server (command.Stats General) = true
 shows_server other = false
 
 -- the shape of the same reply, of this server
-abbrev pub of_server : ServerStats → Shape → Shape
-of_server server (shape.Stats other) = shape.Stats server
+abbrev pub of_server : ServerStats → ReplyKind → ReplyKind
+of_server server (reply_kind.Stats other) = reply_kind.Stats server
 of_server server other = other
 
--- the form of the same reply, of this server
-abbrev pub form_of_server : ServerStats → Form → Form
-form_of_server server form = record form { shape = of_server server form.shape }
+-- the pending reply of the same reply, of this server
+abbrev pub pending_reply_of_server : ServerStats → PendingReply → PendingReply
+pending_reply_of_server server pending_reply =
+    record pending_reply { reply_kind = of_server server pending_reply.reply_kind }

@@ -1,9 +1,9 @@
--- The slots of a form, in whatever storage.
+-- The slots of a pending reply, in whatever storage.
 use Rattle.std.specs.Prelude.{ℕ, List, [], ◌∷◌, Option, count_by}
 use Rattle.std.specs.Option.{is_none}
 use Rattle.mc_item.specs.declared.answer.Answer.{Answer}
-use Rattle.mc_reply.specs.declared.form.Kept.{Kept}
-use Rattle.mc_reply.specs.declared.form.Kept.TheVariants.{One, Many}
+use Rattle.mc_reply.specs.declared.pending_reply.Kept.{Kept}
+use Rattle.mc_reply.specs.declared.pending_reply.Kept.TheVariants.{One, Many}
 
 -- the answers by part
 abbrev pub answers_in : Kept → List (Option Answer)

@@ -1,35 +1,38 @@
 -- The texts of replies, as functions of the whole list of answers (protocol.txt, the reply lines of each
 -- command).
-use Rattle.std.specs.Prelude.{ℕ, ◌/◌, ◌^◌, ◌%◌, Bool, true, false, ◌&&◌, List, [], ◌∷◌, ◌++◌, length, take, drop, codes, decimal, Option, Some, None, if◌then◌else◌}
+use Rattle.std.specs.Prelude.{ℕ, ◌/◌, ◌^◌, ◌%◌, Bool, true, false, ◌&&◌, List, [], ◌∷◌, ◌++◌, length, take, drop, codes}
+use Rattle.std.specs.Prelude.{decimal, Option, Some, None, if◌then◌else◌}
 use Rattle.std.specs.List.{concat, flat_map, list_any, sum_by, zip}
 use Rattle.mc_command.specs.declared.command.Command.{Command}
 use Rattle.mc_command.specs.declared.meta.MetaFlags.{MetaFlags}
 use Rattle.mc_command.specs.declared.meta.ReturnFlag.{ReturnFlag}
 use Rattle.mc_command.specs.declared.meta.ReturnFlag.TheVariants as return_flag
-use Rattle.mc_command.specs.declared.refusal.Refusal.{Refusal}
+use Rattle.mc_command.specs.declared.error.CommandError.{CommandError}
 use Rattle.mc_command.specs.declared.rules.Profile.{Profile}
 use Rattle.mc_command.specs.declared.rules.Profile.TheVariants as profile
-use Rattle.mc_command.specs.declared.refusal.Refusal.TheVariants as refusal
+use Rattle.mc_command.specs.declared.error.CommandError.TheVariants as refusal
 use Rattle.mc_item.specs.declared.answer.Answer.{Answer}
-use Rattle.mc_item.specs.declared.answer.Answer.TheVariants.{Stored, NotStored, Exists, NotFound, TooLarge, NoCas, NoMemory, Hit, Miss, Number, NonNumeric, Deleted, Touched, Done, Reset}
+use Rattle.mc_item.specs.declared.answer.Answer.TheVariants.{Stored, NotStored, Exists, NotFound, TooLarge, NoCas}
+use Rattle.mc_item.specs.declared.answer.Answer.TheVariants.{NoMemory, Hit, Miss, Number, NonNumeric, Deleted, Touched}
+use Rattle.mc_item.specs.declared.answer.Answer.TheVariants.{Done, Reset}
 use Rattle.mc_item.specs.declared.answer.Answer.TheVariants as answer
 use Rattle.mc_item.specs.declared.answer.Marks.{Marks}
 use Rattle.mc_item.specs.declared.stat.Stat.{Stat}
 use Rattle.mc_item.specs.declared.stat.Stat.TheVariants as stat
 use Rattle.mc_item.specs.Stat.{all_stats, row_of}
-use Rattle.mc_reply.specs.declared.form.Fixed.{Fixed}
-use Rattle.mc_reply.specs.declared.form.Fixed.TheVariants as fixed
+use Rattle.mc_reply.specs.declared.pending_reply.Fixed.{Fixed}
+use Rattle.mc_reply.specs.declared.pending_reply.Fixed.TheVariants as fixed
 use Rattle.mc_command.specs.declared.meta.MetaKind.{MetaKind}
 use Rattle.mc_command.specs.declared.meta.MetaKind.TheVariants as kind
-use Rattle.mc_reply.specs.declared.form.Shape.{Shape}
-use Rattle.mc_reply.specs.declared.form.Shape.TheVariants as shape
+use Rattle.mc_reply.specs.declared.pending_reply.ReplyKind.{ReplyKind}
+use Rattle.mc_reply.specs.declared.pending_reply.ReplyKind.TheVariants as reply_kind
 use Rattle.mc_reply.specs.declared.server_stats.ServerStats.{ServerStats}
 use Rattle.mc_reply.specs.Server.{of_server}
-use Rattle.mc_reply.specs.Shape.{shape_of}
+use Rattle.mc_reply.specs.ReplyKind.{reply_kind_of}
 use Rattle.mc_wire.specs.Base64Key.{base64_of}
 
 -- the line of a refusal (protocol.txt, "Error strings"; the words after the first are this server's)
-abbrev pub refusal_line : Refusal → List ℕ
+abbrev pub refusal_line : CommandError → List ℕ
 refusal_line refusal.Unknown = codes "ERROR\r\n"
 refusal_line refusal.BadFormat = codes "CLIENT_ERROR bad command line format\r\n"
 refusal_line refusal.BadKey = codes "CLIENT_ERROR bad key\r\n"
@@ -42,6 +45,8 @@ refusal_line refusal.LineTooLong = codes "CLIENT_ERROR line too long\r\n"
 refusal_line refusal.Memory = codes "SERVER_ERROR out of memory\r\n"
 refusal_line refusal.WordCount = codes "ERROR\r\n"
 refusal_line refusal.Hidden = []
+refusal_line refusal.ShutdownDisabled = codes "ERROR: shutdown not enabled\r\n"
+refusal_line refusal.ShutdownMode = codes "CLIENT_ERROR invalid shutdown mode\r\n"
 
 -- the memcached release whose rules are followed; clients compare its parts as numbers
 abbrev pub release : List ℕ
@@ -109,7 +114,8 @@ item_text with_unique key answer = []
 
 -- the items found, in the order of the keys, and the line that ends them
 abbrev pub values_text : List (List ℕ) → Bool → List Answer → List ℕ
-values_text keys with_unique answers = flat_map (λ pair. item_text with_unique pair.0 pair.1) (zip keys answers) ++ codes "END\r\n"
+values_text keys with_unique answers =
+    flat_map (λ pair. item_text with_unique pair.0 pair.1) (zip keys answers) ++ codes "END\r\n"
 
 -- a line of `stats` (protocol.txt, "General-purpose statistics")
 abbrev pub stat_text : List ℕ → List ℕ → List ℕ
@@ -130,31 +136,38 @@ number_lines lines = flat_map (λ line. stat_text line.0 (decimal line.1)) lines
 
 -- the lines of the process
 abbrev pub process_text : ServerStats → List ℕ
-process_text server = number_lines ((codes "pid", server.pid) ∷ (codes "uptime", server.uptime) ∷ (codes "time", server.time) ∷ [])
+process_text server =
+    number_lines ((codes "pid", server.pid) ∷ (codes "uptime", server.uptime) ∷ (codes "time", server.time) ∷ [])
 
 -- the lines of its CPU time: hundredths of a second as seconds, with six digits behind the point
 abbrev pub times_text : ServerStats → List ℕ
 times_text server =
-    concat (codes "STAT rusage_user " ∷ decimal (server.user_time / 100) ∷ codes "." ∷ decimal (server.user_time / 10 % 10) ∷ decimal (server.user_time % 10)
-    ∷ codes "0000\r\nSTAT rusage_system " ∷ decimal (server.system_time / 100) ∷ codes "." ∷ decimal (server.system_time / 10 % 10) ∷ decimal (server.system_time % 10)
+    concat (codes "STAT rusage_user " ∷ decimal (server.user_time / 100) ∷ codes "." ∷ decimal
+    (server.user_time / 10 % 10) ∷ decimal (server.user_time % 10)
+    ∷ codes "0000\r\nSTAT rusage_system " ∷ decimal (server.system_time / 100) ∷ codes "." ∷ decimal
+    (server.system_time / 10 % 10) ∷ decimal (server.system_time % 10)
     ∷ codes "0000\r\n" ∷ [])
 
 -- the lines of the connections
 abbrev pub connections_text : ServerStats → List ℕ
 connections_text server =
-    number_lines ((codes "max_connections", server.max_connections) ∷ (codes "curr_connections", server.curr_connections)
-    ∷ (codes "total_connections", server.total_connections) ∷ (codes "rejected_connections", server.rejected_connections) ∷ [])
+    number_lines ((codes "max_connections", server.max_connections) ∷
+    (codes "curr_connections", server.curr_connections)
+    ∷ (codes "total_connections", server.total_connections) ∷
+    (codes "rejected_connections", server.rejected_connections) ∷ [])
 
 -- what is known of the server, with the release, in memcached's order
 abbrev pub server_text : ServerStats → List ℕ
-server_text server = concat (process_text server ∷ stat_text (codes "version") release ∷ times_text server ∷ connections_text server ∷ [])
+server_text server =
+    concat (process_text server ∷ stat_text (codes "version") release ∷ times_text server ∷ connections_text server ∷
+    [])
 
 -- The numbers of commands come before the traffic, and those of items behind how many threads there are.
 abbrev pub command_stats : List Stat
-command_stats = take 17 all_stats
+command_stats = take 18 all_stats
 
 abbrev pub item_stats : List Stat
-item_stats = drop 18 all_stats
+item_stats = drop 19 all_stats
 
 -- the lines of numbers of all shards together
 abbrev pub shard_lines : List Answer → List Stat → List ℕ
@@ -225,14 +238,17 @@ failed_flag kind.Set profile.DropIn text return_flag.Unique = codes " c0"
 failed_flag kind profile text flag = text flag
 
 abbrev pub failed_text : MetaKind → MetaFlags → Option (List ℕ) → Answer → List ℕ
-failed_text kind flags key answer = flat_map (failed_flag kind flags.profile (flag_text flags key answer)) flags.returned
+failed_text kind flags key answer =
+    flat_map (failed_flag kind flags.profile (flag_text flags key answer)) flags.returned
 
 -- the marks of a hit, behind its flags; memcached's order is reversed
 abbrev pub marks_text : Profile → Marks → List ℕ
 marks_text profile.DropIn marks =
-    concat ((if marks.sent then codes " Z" else []) ∷ (if marks.stale then codes " X" else []) ∷ (if marks.won then codes " W" else []) ∷ [])
+    concat ((if marks.sent then codes " Z" else []) ∷ (if marks.stale then codes " X" else []) ∷
+    (if marks.won then codes " W" else []) ∷ [])
 marks_text profile.Own marks =
-    concat ((if marks.won then codes " W" else []) ∷ (if marks.stale then codes " X" else []) ∷ (if marks.sent then codes " Z" else []) ∷ [])
+    concat ((if marks.won then codes " W" else []) ∷ (if marks.stale then codes " X" else []) ∷
+    (if marks.sent then codes " Z" else []) ∷ [])
 
 -- a reply without a value: the code, the flags, the marks
 abbrev pub head_text : List ℕ → List ℕ → List ℕ → List ℕ
@@ -247,8 +263,10 @@ value_text false value flags marks = head_text (codes "HD") flags marks
 -- the reply of a meta command, with its value or number if that is requested (protocol.txt, "Meta Commands");
 -- an error line has no flags
 abbrev pub coded_text : MetaKind → MetaFlags → Option (List ℕ) → Answer → Bool → List ℕ
-coded_text kind flags key (answer.MetaHit hit) value = value_text value hit.value (flags_text flags key (answer.MetaHit hit)) (marks_text flags.profile hit.marks)
-coded_text kind flags key (answer.MetaDone done) value = value_text value (decimal done.number) (flags_text flags key (answer.MetaDone done)) []
+coded_text kind flags key (answer.MetaHit hit) value =
+    value_text value hit.value (flags_text flags key (answer.MetaHit hit)) (marks_text flags.profile hit.marks)
+coded_text kind flags key (answer.MetaDone done) value =
+    value_text value (decimal done.number) (flags_text flags key (answer.MetaDone done)) []
 coded_text kind flags key Deleted value = head_text (codes "HD") (flags_text flags key Deleted) []
 coded_text kind flags key Done value = head_text (codes "HD") (flags_text flags key Done) []
 coded_text kind flags key Miss value = head_text (codes "EN") (flags_text flags key Miss) []
@@ -263,13 +281,16 @@ meta_text kind flags value key lenient answer =
     if flags.quiet && is_hidden kind value answer then [] else coded_text kind flags key (told answer lenient) value
 
 -- the text of a reply of this shape, from the answers of all parts
-unfoldable pub shape_text : Shape → List Answer → List ℕ
-shape_text (shape.Fixed fixed) answers = fixed_text fixed
-shape_text (shape.Line noreply lenient) answers = if noreply then [] else unless_no_memory answers (of_first (λ answer. answer_line (told answer lenient)) answers)
-shape_text (shape.Values keys with_unique) answers = unless_no_memory answers (values_text keys with_unique answers)
-shape_text (shape.Stats server) answers = unless_no_memory answers (stats_text server answers)
-shape_text (shape.Meta kind flags value key lenient) answers = unless_no_memory answers (of_first (meta_text kind flags value key lenient) answers)
+unfoldable pub reply_kind_text : ReplyKind → List Answer → List ℕ
+reply_kind_text (reply_kind.Fixed fixed) answers = fixed_text fixed
+reply_kind_text (reply_kind.Line noreply lenient) answers =
+    if noreply then [] else unless_no_memory answers (of_first (λ answer. answer_line (told answer lenient)) answers)
+reply_kind_text (reply_kind.Values keys with_unique) answers =
+    unless_no_memory answers (values_text keys with_unique answers)
+reply_kind_text (reply_kind.Stats server) answers = unless_no_memory answers (stats_text server answers)
+reply_kind_text (reply_kind.Meta kind flags value key lenient) answers =
+    unless_no_memory answers (of_first (meta_text kind flags value key lenient) answers)
 
 -- the reply of this server to a command, from the answers of all its pieces
 abbrev pub text_of : ServerStats → Command → List Answer → List ℕ
-text_of server command answers = shape_text (of_server server (shape_of command)) answers
+text_of server command answers = reply_kind_text (of_server server (reply_kind_of command)) answers

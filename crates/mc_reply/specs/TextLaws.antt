@@ -6,8 +6,8 @@ use Rattle.mc_command.specs.declared.command.Command.{Command}
 use Rattle.mc_command.specs.declared.command.Command.TheVariants as command
 use Rattle.mc_command.specs.declared.meta.MetaFlags.{MetaFlags}
 use Rattle.mc_command.specs.declared.meta.ReturnFlag.{ReturnFlag}
-use Rattle.mc_command.specs.declared.refusal.Refusal.{Refusal}
-use Rattle.mc_command.specs.declared.refusal.Refusal.TheVariants as refusal
+use Rattle.mc_command.specs.declared.error.CommandError.{CommandError}
+use Rattle.mc_command.specs.declared.error.CommandError.TheVariants as refusal
 use Rattle.mc_command.specs.FlagOrder.{returned_in, with_returned}
 use Rattle.mc_item.specs.declared.answer.Answer.{Answer}
 use Rattle.mc_command.specs.declared.meta.MetaKind.{MetaKind}
@@ -22,12 +22,12 @@ hides kind flags value [] = false
 hides kind flags value (answer ∷ answers) = flags.quiet && is_hidden kind value answer
 
 -- The refusal is not reported.
-abbrev pub is_hidden_refusal : Refusal → Bool
+abbrev pub is_hidden_refusal : CommandError → Bool
 is_hidden_refusal refusal.Hidden = true
 is_hidden_refusal refused = false
 
--- The command has no reply: `quit`, with `noreply`, or if `q` hides the answer. A refusal that isn't hidden
--- is always reported, and so is a get.
+-- The command has no reply: `quit` and `shutdown`, with `noreply`, or if `q` hides the answer. A refusal that isn't
+-- hidden is always reported, and so is a get.
 abbrev pub is_silent : Command → List Answer → Bool
 is_silent (command.Store storage) answers = storage.noreply
 is_silent (command.Get retrieval) answers = false
@@ -39,6 +39,7 @@ is_silent (command.Version profile) answers = false
 is_silent (command.Verbosity noreply) answers = noreply
 is_silent (command.Stats asked) answers = false
 is_silent command.Quit answers = true
+is_silent command.Shutdown answers = true
 is_silent command.MetaNoop answers = false
 is_silent (command.MetaGet get) answers = hides kind.Get get.flags get.value answers
 is_silent (command.MetaSet set) answers = hides kind.Set set.flags false answers
@@ -63,11 +64,13 @@ loud (command.Version profile) = command.Version profile
 loud (command.Verbosity noreply) = command.Verbosity false
 loud (command.Stats asked) = command.Stats asked
 loud command.Quit = command.Quit
+loud command.Shutdown = command.Shutdown
 loud command.MetaNoop = command.MetaNoop
 loud (command.MetaGet get) = command.MetaGet (record get { flags = without_quiet get.flags })
 loud (command.MetaSet set) = command.MetaSet (record set { flags = without_quiet set.flags })
 loud (command.MetaDelete delete) = command.MetaDelete (record delete { flags = without_quiet delete.flags })
-loud (command.MetaArithmetic arithmetic) = command.MetaArithmetic (record arithmetic { flags = without_quiet arithmetic.flags })
+loud (command.MetaArithmetic arithmetic) =
+    command.MetaArithmetic (record arithmetic { flags = without_quiet arithmetic.flags })
 loud (command.Refused refusal) = command.Refused refusal
 loud (command.Discard key refusal) = command.Discard key refusal
 
@@ -86,8 +89,11 @@ pub record DiffersInOrder (flags others : List ReturnFlag) (text other : List �
 
 -- Another order of the flags changes only the order of the returned ones.
 abbrev pub OrdersFlags : Type 0
-OrdersFlags = (server : ServerStats) (command : Command) (returned : List ReturnFlag) → IsPermutation (returned_in command) returned → (answers : List Answer) →
-    DiffersInOrder (returned_in command) returned (text_of server command answers) (text_of server (with_returned command returned) answers)
+OrdersFlags =
+    (server : ServerStats) (command : Command) (returned : List ReturnFlag)
+    → IsPermutation (returned_in command) returned → (answers : List Answer) →
+    DiffersInOrder (returned_in command) returned (text_of server command answers)
+    (text_of server (with_returned command returned) answers)
 
 -- Only the reply to `stats` depends on what is known of the server.
 abbrev pub ShowsServerByStats : Type 0

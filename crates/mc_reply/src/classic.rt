@@ -1,7 +1,7 @@
 //! Replies of the classic commands.
 ghost use Rattle.std.specs.Prelude.{◌≡◌, ◌≤◌, ◌+◌, ◌∷◌, [], ◌++◌, length, codes, decimal};
 ghost use Rattle.std.specs.List.{concat, list_any};
-ghost use Rattle.mc_wire.specs.Outlet.{Writes};
+ghost use Rattle.mc_wire.specs.Sink.{Writes};
 ghost use Rattle.mc_wire.specs.Words.{words_left};
 ghost use Rattle.mc_command.specs.Field.{AreKeys};
 ghost use Rattle.mc_reply.specs.Text.{answer_line, told, item_text};
@@ -15,7 +15,7 @@ use crate::header::{
 use itoa::Buffer;
 use mc_command::Keys;
 use mc_item::{Answer, Value};
-use mc_wire::{KEY_LIMIT, OutFault, Outlet, WordWalk, put_all, put_parts};
+use mc_wire::{KEY_LIMIT, Sink, SinkError, WordWalk, put_parts, write_all};
 
 /// Whether some answer reports that memory was refused.
 pub fn any_lacks_memory(slots: &[Option<Answer>]) -> bool
@@ -31,28 +31,28 @@ fn slot_lacks_memory(slot: &Option<Answer>) -> bool
 }
 
 /// Writes the line of the first answer. With `lenient`, too large counts as not stored.
-pub fn put_first_line<O: Outlet>(
+pub fn put_first_line<O: Sink>(
     out: &mut O,
     lenient: bool,
     slots: &[Option<Answer>],
-) -> Result<(), OutFault>
+) -> Result<(), SinkError>
     ensures { Writes (first_text (λ answer. answer_line (told answer lenient)) slots.now) result
         (O.sight out.old) (O.sight out.new) }
 {
     match slots {
-        [Some(Answer::TooLarge), ..] if lenient => put_all(out, b"NOT_STORED\r\n"),
+        [Some(Answer::TooLarge), ..] if lenient => write_all(out, b"NOT_STORED\r\n"),
         [Some(answer), ..] => put_line(out, answer),
-        [None, ..] | [] => put_all(out, b""),
+        [None, ..] | [] => write_all(out, b""),
     }
 }
 
 /// Writes the line of an answer; nothing if it has none.
-pub fn put_line<O: Outlet>(out: &mut O, answer: &Answer) -> Result<(), OutFault>
+pub fn put_line<O: Sink>(out: &mut O, answer: &Answer) -> Result<(), SinkError>
     ensures { Writes (answer_line answer.now) result (O.sight out.old) (O.sight out.new) }
 {
     match answer {
         Answer::Number(number) => put_number_line(out, *number),
-        answer => put_all(out, line_of(answer)),
+        answer => write_all(out, line_of(answer)),
     }
 }
 
@@ -82,7 +82,7 @@ pub fn line_of(answer: &Answer) -> &'static [u8]
     }
 }
 
-fn put_number_line<O: Outlet>(out: &mut O, number: u64) -> Result<(), OutFault>
+fn put_number_line<O: Sink>(out: &mut O, number: u64) -> Result<(), SinkError>
     ensures { Writes (concat (decimal number ∷ codes "\r\n" ∷ [])) result (O.sight out.old)
         (O.sight out.new) }
 {
@@ -91,31 +91,31 @@ fn put_number_line<O: Outlet>(out: &mut O, number: u64) -> Result<(), OutFault>
 }
 
 /// Writes the items found, in the order of the keys, and `END`.
-pub fn put_values<O: Outlet>(
+pub fn put_values<O: Sink>(
     out: &mut O,
     keys: &Keys,
     with_unique: bool,
     slots: &[Option<Answer>],
-) -> Result<(), OutFault>
+) -> Result<(), SinkError>
     ensures { Writes (items_text with_unique keys.now slots.now ++ codes "END\r\n") result
         (O.sight out.old) (O.sight out.new) }
 {
     let (first, others) = keys.parts();
     let Some((slot, more)) = slots.split_first() else {
-        return put_all(out, b"END\r\n");
+        return write_all(out, b"END\r\n");
     };
     put_slot(out, first.bytes(), with_unique, slot)?;
     put_items(out, others, with_unique, more)?;
-    put_all(out, b"END\r\n")
+    write_all(out, b"END\r\n")
 }
 
 /// Writes the items found.
-fn put_items<O: Outlet>(
+fn put_items<O: Sink>(
     out: &mut O,
     mut keys: WordWalk<'_>,
     with_unique: bool,
     slots: &[Option<Answer>],
-) -> Result<(), OutFault>
+) -> Result<(), SinkError>
     requires { AreKeys (words_left keys) }
     ensures { Writes (items_text with_unique (words_left keys.entry) slots.now) result
         (O.sight out.old) (O.sight out.new) }
@@ -130,28 +130,28 @@ fn put_items<O: Outlet>(
 }
 
 /// Writes an item, if one was found.
-fn put_slot<O: Outlet>(
+fn put_slot<O: Sink>(
     out: &mut O,
     key: &[u8],
     with_unique: bool,
     slot: &Option<Answer>,
-) -> Result<(), OutFault>
+) -> Result<(), SinkError>
     requires { length key.now ≤ KEY_LIMIT }
     ensures { Writes (slot_text (item_text with_unique key.now) slot.now) result (O.sight out.old)
         (O.sight out.new) }
 {
     match slot {
         Some(answer) => put_item(out, key, with_unique, answer),
-        None => put_all(out, b""),
+        None => write_all(out, b""),
     }
 }
 
-fn put_item<O: Outlet>(
+fn put_item<O: Sink>(
     out: &mut O,
     key: &[u8],
     with_unique: bool,
     answer: &Answer,
-) -> Result<(), OutFault>
+) -> Result<(), SinkError>
     requires { length key.now ≤ KEY_LIMIT }
     ensures { Writes (item_text with_unique key.now answer.now) result (O.sight out.old)
         (O.sight out.new) }
@@ -186,17 +186,17 @@ fn put_item<O: Outlet>(
         | Answer::MetaHit(_)
         | Answer::MetaDone(_)
         | Answer::Stats(_)
-        | Answer::Reset => put_all(out, b""),
+        | Answer::Reset => write_all(out, b""),
     }
 }
 
 /// Writes an item whose header, with a short value, fits into `ROOM` bytes.
-fn put_plain_item<O: Outlet, const ROOM: usize>(
+fn put_plain_item<O: Sink, const ROOM: usize>(
     out: &mut O,
     key: &[u8],
     flags: u32,
     value: &Value,
-) -> Result<(), OutFault>
+) -> Result<(), SinkError>
     requires room { length key.now + BESIDE_KEY ≤ ROOM }
     requires small { ROOM ≤ HEADER_LIMIT }
     ensures { Writes (plain_item key.now flags value.now) result (O.sight out.old)
@@ -208,18 +208,18 @@ fn put_plain_item<O: Outlet, const ROOM: usize>(
     if value.len() <= SHORT_VALUE {
         let end = place(&mut room, end, value.bytes());
         let end = place(&mut room, end, b"\r\n");
-        return put_all(out, room.split_at(end).0);
+        return write_all(out, room.split_at(end).0);
     }
     put_block(out, room.split_at(end).0, value)
 }
 
-fn put_unique_item<O: Outlet>(
+fn put_unique_item<O: Sink>(
     out: &mut O,
     key: &[u8],
     flags: u32,
     unique: u64,
     value: &Value,
-) -> Result<(), OutFault>
+) -> Result<(), SinkError>
     requires { length key.now ≤ KEY_LIMIT }
     ensures { Writes (unique_item key.now flags unique value.now) result (O.sight out.old)
         (O.sight out.new) }

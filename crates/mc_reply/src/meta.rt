@@ -3,7 +3,7 @@ ghost use Rattle.std.specs.Prelude.{◌≡◌, ◌∷◌, ◌++◌, [], codes, d
 ghost use Rattle.std.specs.List.{concat};
 ghost use Rattle.mc_item.specs.declared.answer.Answer.TheVariants as answers;
 ghost use Rattle.mc_command.specs.declared.meta.MetaKind.{MetaKind};
-ghost use Rattle.mc_wire.specs.Outlet.{Writes};
+ghost use Rattle.mc_wire.specs.Sink.{Writes};
 ghost use Rattle.mc_reply.specs.Text.{meta_text, coded_text, failed_flag, failed_text, head_text, told, flags_text, flag_text, item_flag, key_flag, left_flag};
 ghost use Rattle.mc_reply.specs.Text as spec;
 
@@ -13,14 +13,14 @@ use crate::header::sized;
 use itoa::Buffer;
 use mc_command::{MetaFlags, MetaKind, Profile, ReturnFlag};
 use mc_item::{Answer, Marks, MetaDone, MetaHit};
-use mc_wire::{BASE64_LIMIT, Key, OutFault, Outlet, put_all, put_parts};
+use mc_wire::{BASE64_LIMIT, Key, Sink, SinkError, put_parts, write_all};
 
 /// Buffer size for `VA` and the size of a value.
 const SIZE_LIMIT: usize = 48;
 
 /// Writes the reply of a meta command; nothing if `q` hides it. With `lenient`, too large counts as
 /// not stored.
-pub fn put_meta<O: Outlet>(
+pub fn put_meta<O: Sink>(
     out: &mut O,
     kind: MetaKind,
     flags: &MetaFlags,
@@ -28,12 +28,12 @@ pub fn put_meta<O: Outlet>(
     key: &Option<Key>,
     lenient: bool,
     answer: &Answer,
-) -> Result<(), OutFault>
+) -> Result<(), SinkError>
     ensures { Writes (meta_text kind flags.now value key.now lenient answer.now) result
         (O.sight out.old) (O.sight out.new) }
 {
     if flags.quiet && is_hidden(kind, value, answer) {
-        return put_all(out, b"");
+        return write_all(out, b"");
     }
     put_coded(out, kind, flags, value, key, lenient, answer)
 }
@@ -53,7 +53,7 @@ pub fn is_hidden(kind: MetaKind, value: bool, answer: &Answer) -> bool
     }
 }
 
-fn put_coded<O: Outlet>(
+fn put_coded<O: Sink>(
     out: &mut O,
     kind: MetaKind,
     flags: &MetaFlags,
@@ -61,7 +61,7 @@ fn put_coded<O: Outlet>(
     key: &Option<Key>,
     lenient: bool,
     answer: &Answer,
-) -> Result<(), OutFault>
+) -> Result<(), SinkError>
     ensures { Writes (coded_text kind flags.now key.now (told answer.now lenient) value) result
         (O.sight out.old) (O.sight out.new) }
 {
@@ -89,14 +89,14 @@ fn put_coded<O: Outlet>(
 }
 
 /// Writes the reply of a hit of `mg`.
-fn put_found<O: Outlet>(
+fn put_found<O: Sink>(
     out: &mut O,
     flags: &MetaFlags,
     value: bool,
     key: &Option<Key>,
     answer: &Answer,
     hit: &MetaHit,
-) -> Result<(), OutFault>
+) -> Result<(), SinkError>
     requires { answer.now ≡ answers.MetaHit hit.now }
     ensures { (kind : MetaKind) →
         Writes (coded_text kind flags.now key.now answer.now value) result (O.sight out.old)
@@ -111,14 +111,14 @@ fn put_found<O: Outlet>(
 }
 
 /// Writes the reply to a successful `ms` or `ma`, with the number if `v` asks for it.
-fn put_done<O: Outlet>(
+fn put_done<O: Sink>(
     out: &mut O,
     flags: &MetaFlags,
     value: bool,
     key: &Option<Key>,
     answer: &Answer,
     done: &MetaDone,
-) -> Result<(), OutFault>
+) -> Result<(), SinkError>
     requires { answer.now ≡ answers.MetaDone done.now }
     ensures { (kind : MetaKind) →
         Writes (coded_text kind flags.now key.now answer.now value) result (O.sight out.old)
@@ -134,48 +134,48 @@ fn put_done<O: Outlet>(
 }
 
 /// Writes a reply without a value: code, flags and line end.
-fn put_head<O: Outlet>(
+fn put_head<O: Sink>(
     out: &mut O,
     code: &[u8],
     flags: &MetaFlags,
     key: &Option<Key>,
     answer: &Answer,
     end: &[u8],
-) -> Result<(), OutFault>
+) -> Result<(), SinkError>
     ensures { Writes (code.now ++ (flags_text flags.now key.now answer.now ++ end.now)) result
         (O.sight out.old) (O.sight out.new) }
 {
-    put_all(out, code)?;
+    write_all(out, code)?;
     put_flags(out, flags, key, answer)?;
-    put_all(out, end)
+    write_all(out, end)
 }
 
 /// Writes the reply to a command that stored or changed nothing.
-fn put_failed<O: Outlet>(
+fn put_failed<O: Sink>(
     out: &mut O,
     code: &[u8],
     kind: MetaKind,
     flags: &MetaFlags,
     key: &Option<Key>,
     answer: &Answer,
-) -> Result<(), OutFault>
+) -> Result<(), SinkError>
     ensures { Writes (head_text code.now (failed_text kind flags.now key.now answer.now) []) result
         (O.sight out.old) (O.sight out.new) }
 {
-    put_all(out, code)?;
+    write_all(out, code)?;
     put_failed_flags(out, kind, flags, key, answer)?;
-    put_all(out, b"\r\n")
+    write_all(out, b"\r\n")
 }
 
 /// Writes the returned flags of a command that stored or changed nothing, in the order of the
 /// request.
-fn put_failed_flags<O: Outlet>(
+fn put_failed_flags<O: Sink>(
     out: &mut O,
     kind: MetaKind,
     flags: &MetaFlags,
     key: &Option<Key>,
     answer: &Answer,
-) -> Result<(), OutFault>
+) -> Result<(), SinkError>
     ensures { Writes (failed_text kind flags.now key.now answer.now) result (O.sight out.old)
         (O.sight out.new) }
 {
@@ -187,37 +187,37 @@ fn put_failed_flags<O: Outlet>(
 
 /// Writes one such flag. By memcached's rules, `ms` returns unique 0 for an item that it didn't
 /// store.
-fn put_failed_flag<O: Outlet>(
+fn put_failed_flag<O: Sink>(
     out: &mut O,
     kind: MetaKind,
     flags: &MetaFlags,
     key: &Option<Key>,
     answer: &Answer,
     flag: ReturnFlag,
-) -> Result<(), OutFault>
+) -> Result<(), SinkError>
     ensures { Writes
         (failed_flag kind flags.now.profile (flag_text flags.now key.now answer.now) flag) result
         (O.sight out.old) (O.sight out.new) }
 {
     match (kind, flags.profile, flag) {
-        (MetaKind::Set, Profile::DropIn, ReturnFlag::Unique) => put_all(out, b" c0"),
+        (MetaKind::Set, Profile::DropIn, ReturnFlag::Unique) => write_all(out, b" c0"),
         _ => put_flag(out, flags, key, answer, flag),
     }
 }
 
 /// Writes the start of a reply with a value: size and flags.
-fn put_size<O: Outlet>(
+fn put_size<O: Sink>(
     out: &mut O,
     size: usize,
     flags: &MetaFlags,
     key: &Option<Key>,
     answer: &Answer,
-) -> Result<(), OutFault>
+) -> Result<(), SinkError>
     ensures { Writes (codes "VA " ++ (decimal size ++ flags_text flags.now key.now answer.now))
         result (O.sight out.old) (O.sight out.new) }
 {
     let mut room = [0; SIZE_LIMIT];
-    put_all(out, sized(&mut room, size))?;
+    write_all(out, sized(&mut room, size))?;
     put_flags(out, flags, key, answer)
 }
 
@@ -264,12 +264,12 @@ fn own_marks(marks: Marks) -> &'static [u8]
 }
 
 /// Writes the returned flags, in the order of the request.
-fn put_flags<O: Outlet>(
+fn put_flags<O: Sink>(
     out: &mut O,
     flags: &MetaFlags,
     key: &Option<Key>,
     answer: &Answer,
-) -> Result<(), OutFault>
+) -> Result<(), SinkError>
     ensures { Writes (flags_text flags.now key.now answer.now) result (O.sight out.old)
         (O.sight out.new) }
 {
@@ -279,13 +279,13 @@ fn put_flags<O: Outlet>(
     Ok(())
 }
 
-fn put_flag<O: Outlet>(
+fn put_flag<O: Sink>(
     out: &mut O,
     flags: &MetaFlags,
     key: &Option<Key>,
     answer: &Answer,
     flag: ReturnFlag,
-) -> Result<(), OutFault>
+) -> Result<(), SinkError>
     ensures { Writes (flag_text flags.now key.now answer.now flag) result (O.sight out.old)
         (O.sight out.new) }
 {
@@ -302,11 +302,11 @@ fn put_flag<O: Outlet>(
 }
 
 /// Writes the flag `k`, followed by ` b` if the key is in base64.
-fn put_key<O: Outlet>(out: &mut O, base64: bool, key: &Option<Key>) -> Result<(), OutFault>
+fn put_key<O: Sink>(out: &mut O, base64: bool, key: &Option<Key>) -> Result<(), SinkError>
     ensures { Writes (key_flag base64 key.now) result (O.sight out.old) (O.sight out.new) }
 {
     match key {
-        None => put_all(out, b""),
+        None => write_all(out, b""),
         Some(key) if base64 => {
             let mut room = [0; BASE64_LIMIT];
             put_parts(out, &[b" k", key.to_base64(&mut room), b" b"])
@@ -316,7 +316,7 @@ fn put_key<O: Outlet>(out: &mut O, base64: bool, key: &Option<Key>) -> Result<()
 }
 
 /// Writes a flag of the item that was found, stored or changed.
-fn put_item_flag<O: Outlet>(out: &mut O, answer: &Answer, flag: ReturnFlag) -> Result<(), OutFault>
+fn put_item_flag<O: Sink>(out: &mut O, answer: &Answer, flag: ReturnFlag) -> Result<(), SinkError>
     ensures { Writes (item_flag answer.now flag) result (O.sight out.old) (O.sight out.new) }
 {
     match answer {
@@ -337,27 +337,27 @@ fn put_item_flag<O: Outlet>(out: &mut O, answer: &Answer, flag: ReturnFlag) -> R
         | Answer::Touched
         | Answer::Done
         | Answer::Stats(_)
-        | Answer::Reset => put_all(out, b""),
+        | Answer::Reset => write_all(out, b""),
     }
 }
 
-fn put_hit_flag<O: Outlet>(out: &mut O, hit: &MetaHit, flag: ReturnFlag) -> Result<(), OutFault>
+fn put_hit_flag<O: Sink>(out: &mut O, hit: &MetaHit, flag: ReturnFlag) -> Result<(), SinkError>
     ensures { Writes (item_flag (answers.MetaHit hit.now) flag) result (O.sight out.old)
         (O.sight out.new) }
 {
     match flag {
         ReturnFlag::Unique => put_number(out, b" c", hit.unique),
         ReturnFlag::ClientFlags => put_number(out, b" f", u64::from(hit.flags)),
-        ReturnFlag::Fetched if hit.fetched => put_all(out, b" h1"),
-        ReturnFlag::Fetched => put_all(out, b" h0"),
+        ReturnFlag::Fetched if hit.fetched => write_all(out, b" h1"),
+        ReturnFlag::Fetched => write_all(out, b" h0"),
         ReturnFlag::LastAccess => put_number(out, b" l", hit.idle),
         ReturnFlag::Size => put_number(out, b" s", hit.value.bytes().len() as u64),
         ReturnFlag::TimeLeft => put_left(out, hit.left),
-        ReturnFlag::Key | ReturnFlag::Opaque => put_all(out, b""),
+        ReturnFlag::Key | ReturnFlag::Opaque => write_all(out, b""),
     }
 }
 
-fn put_done_flag<O: Outlet>(out: &mut O, done: &MetaDone, flag: ReturnFlag) -> Result<(), OutFault>
+fn put_done_flag<O: Sink>(out: &mut O, done: &MetaDone, flag: ReturnFlag) -> Result<(), SinkError>
     ensures { Writes (item_flag (answers.MetaDone done.now) flag) result (O.sight out.old)
         (O.sight out.new) }
 {
@@ -369,22 +369,22 @@ fn put_done_flag<O: Outlet>(out: &mut O, done: &MetaDone, flag: ReturnFlag) -> R
         | ReturnFlag::Fetched
         | ReturnFlag::LastAccess
         | ReturnFlag::Key
-        | ReturnFlag::Opaque => put_all(out, b""),
+        | ReturnFlag::Opaque => write_all(out, b""),
     }
 }
 
 /// Writes the flag `t`: seconds to live, or -1 if the item doesn't expire.
-fn put_left<O: Outlet>(out: &mut O, left: Option<u64>) -> Result<(), OutFault>
+fn put_left<O: Sink>(out: &mut O, left: Option<u64>) -> Result<(), SinkError>
     ensures { Writes (left_flag left) result (O.sight out.old) (O.sight out.new) }
 {
     match left {
         Some(seconds) => put_number(out, b" t", seconds),
-        None => put_all(out, b" t-1"),
+        None => write_all(out, b" t-1"),
     }
 }
 
 /// Writes a flag's letter and a number.
-fn put_number<O: Outlet>(out: &mut O, letter: &[u8], number: u64) -> Result<(), OutFault>
+fn put_number<O: Sink>(out: &mut O, letter: &[u8], number: u64) -> Result<(), SinkError>
     ensures { Writes (concat (letter.now ∷ decimal number ∷ [])) result (O.sight out.old)
         (O.sight out.new) }
 {

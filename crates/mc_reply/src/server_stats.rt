@@ -2,8 +2,8 @@
 ghost use Rattle.std.specs.Prelude.{◌≡◌};
 ghost use Rattle.mc_reply.specs.Server.{no_server};
 
-/// A server's process, connections and traffic when a `stats` was taken. No shard has them: whoever takes the command hands
-/// them in.
+/// A server's process, connections and traffic when a `stats` was taken. No shard has them: whoever
+/// takes the command hands them in.
 #[derive(Clone, Copy)]
 pub struct ServerStats {
     /// The id of the process.

@@ -1,38 +1,39 @@
 //! The reply to `stats` (protocol.txt, "General-purpose statistics").
 ghost use Rattle.std.specs.Prelude.{◌≡◌, ◌%◌, ◌^◌, decimal, length};
 ghost use Rattle.std.specs.List.{flat_map, sum_by};
-ghost use Rattle.mc_wire.specs.Outlet.{Writes};
+ghost use Rattle.mc_wire.specs.Sink.{Writes};
 ghost use Rattle.mc_reply.specs.Text.{command_stats, connections_text, item_stats, process_text, server_text, stat_text, times_text, traffic_text};
 ghost use Rattle.mc_reply.specs.internal.SlotTexts.{slot_stat, sums_text, stats_over};
 
 use crate::server_stats::ServerStats;
 use itoa::Buffer;
 use mc_item::{Answer, Stat};
-use mc_wire::{OutFault, Outlet, put_all, put_parts};
+use mc_wire::{Sink, SinkError, put_parts, write_all};
 
 /// The memcached release that is reported with `--drop-in`.
 const RELEASE: &[u8] = b"1.6.18";
 
 /// How many numbers of the shards are of commands, and come before the traffic.
-const COMMANDS: usize = 17;
+const COMMANDS: usize = 18;
 
-/// Writes what is known of the server, and the counts of all shards together, each of which has its slot.
-pub fn put_stats<O: Outlet>(
+/// Writes what is known of the server, and the counts of all shards together, each of which has its
+/// slot.
+pub fn put_stats<O: Sink>(
     out: &mut O,
     server: &ServerStats,
     slots: &[Option<Answer>],
-) -> Result<(), OutFault>
+) -> Result<(), SinkError>
     ensures { Writes (stats_over server.now slots.now) result (O.sight out.old) (O.sight out.new) }
 {
     put_server(out, server)?;
     put_commands(out, slots)?;
     put_traffic(out, server, slots)?;
     put_items(out, slots)?;
-    put_all(out, b"END\r\n")
+    write_all(out, b"END\r\n")
 }
 
 /// Writes what is known of the process and of the connections.
-fn put_server<O: Outlet>(out: &mut O, server: &ServerStats) -> Result<(), OutFault>
+fn put_server<O: Sink>(out: &mut O, server: &ServerStats) -> Result<(), SinkError>
     ensures { Writes (server_text server.now) result (O.sight out.old) (O.sight out.new) }
 {
     put_process(out, server)?;
@@ -42,7 +43,7 @@ fn put_server<O: Outlet>(out: &mut O, server: &ServerStats) -> Result<(), OutFau
 }
 
 /// Writes what the process is, and how long it has run.
-fn put_process<O: Outlet>(out: &mut O, server: &ServerStats) -> Result<(), OutFault>
+fn put_process<O: Sink>(out: &mut O, server: &ServerStats) -> Result<(), SinkError>
     ensures { Writes (process_text server.now) result (O.sight out.old) (O.sight out.new) }
 {
     put_numbers(
@@ -56,7 +57,7 @@ fn put_process<O: Outlet>(out: &mut O, server: &ServerStats) -> Result<(), OutFa
 }
 
 /// Writes its CPU time.
-fn put_times<O: Outlet>(out: &mut O, server: &ServerStats) -> Result<(), OutFault>
+fn put_times<O: Sink>(out: &mut O, server: &ServerStats) -> Result<(), SinkError>
     ensures { Writes (times_text server.now) result (O.sight out.old) (O.sight out.new) }
 {
     let (user, system) = (server.user_time, server.system_time);
@@ -81,7 +82,7 @@ fn put_times<O: Outlet>(out: &mut O, server: &ServerStats) -> Result<(), OutFaul
 }
 
 /// Writes how many connections there are and were.
-fn put_connections<O: Outlet>(out: &mut O, server: &ServerStats) -> Result<(), OutFault>
+fn put_connections<O: Sink>(out: &mut O, server: &ServerStats) -> Result<(), SinkError>
     ensures { Writes (connections_text server.now) result (O.sight out.old) (O.sight out.new) }
 {
     put_numbers(
@@ -95,12 +96,13 @@ fn put_connections<O: Outlet>(out: &mut O, server: &ServerStats) -> Result<(), O
     )
 }
 
-/// Writes the traffic, what the items may cost, and how many shards there are, each of which has a thread.
-fn put_traffic<O: Outlet>(
+/// Writes the traffic, what the items may cost, and how many shards there are, each of which has a
+/// thread.
+fn put_traffic<O: Sink>(
     out: &mut O,
     server: &ServerStats,
     slots: &[Option<Answer>],
-) -> Result<(), OutFault>
+) -> Result<(), SinkError>
     ensures { Writes (traffic_text server.now
         (sum_by (slot_stat Stat.LimitMaxbytes) slots.now % 2 ^ 64) (length slots.now))
         result (O.sight out.old) (O.sight out.new) }
@@ -118,7 +120,7 @@ fn put_traffic<O: Outlet>(
 }
 
 /// Writes what the shards were asked.
-fn put_commands<O: Outlet>(out: &mut O, slots: &[Option<Answer>]) -> Result<(), OutFault>
+fn put_commands<O: Sink>(out: &mut O, slots: &[Option<Answer>]) -> Result<(), SinkError>
     ensures { Writes (sums_text slots.now command_stats) result (O.sight out.old)
         (O.sight out.new) }
 {
@@ -127,7 +129,7 @@ fn put_commands<O: Outlet>(out: &mut O, slots: &[Option<Answer>]) -> Result<(), 
 }
 
 /// Writes what the shards hold. The limit comes with the traffic.
-fn put_items<O: Outlet>(out: &mut O, slots: &[Option<Answer>]) -> Result<(), OutFault>
+fn put_items<O: Sink>(out: &mut O, slots: &[Option<Answer>]) -> Result<(), SinkError>
     ensures { Writes (sums_text slots.now item_stats) result (O.sight out.old) (O.sight out.new) }
 {
     let (_, items) = Stat::all().split_at(COMMANDS + 1);
@@ -135,11 +137,7 @@ fn put_items<O: Outlet>(out: &mut O, slots: &[Option<Answer>]) -> Result<(), Out
 }
 
 /// Writes each number of the shards.
-fn put_sums<O: Outlet>(
-    out: &mut O,
-    slots: &[Option<Answer>],
-    stats: &[Stat],
-) -> Result<(), OutFault>
+fn put_sums<O: Sink>(out: &mut O, slots: &[Option<Answer>], stats: &[Stat]) -> Result<(), SinkError>
     ensures { Writes (sums_text slots.now stats.now) result (O.sight out.old) (O.sight out.new) }
 {
     for stat in stats {
@@ -171,7 +169,7 @@ fn number_in(stat: Stat, slot: &Option<Answer>) -> u64
 }
 
 /// Writes lines whose values are numbers.
-fn put_numbers<O: Outlet>(out: &mut O, lines: &[(&[u8], u64)]) -> Result<(), OutFault>
+fn put_numbers<O: Sink>(out: &mut O, lines: &[(&[u8], u64)]) -> Result<(), SinkError>
     ensures { Writes (flat_map (λ line. stat_text line.0.now (decimal line.1)) lines.now) result
         (O.sight out.old) (O.sight out.new) }
 {
@@ -182,7 +180,7 @@ fn put_numbers<O: Outlet>(out: &mut O, lines: &[(&[u8], u64)]) -> Result<(), Out
 }
 
 /// Writes a `STAT` line with a number.
-fn put_number<O: Outlet>(out: &mut O, name: &[u8], number: u64) -> Result<(), OutFault>
+fn put_number<O: Sink>(out: &mut O, name: &[u8], number: u64) -> Result<(), SinkError>
     ensures { Writes (stat_text name.now (decimal number)) result (O.sight out.old)
         (O.sight out.new) }
 {
@@ -191,7 +189,7 @@ fn put_number<O: Outlet>(out: &mut O, name: &[u8], number: u64) -> Result<(), Ou
 }
 
 /// Writes a `STAT` line.
-fn put_stat<O: Outlet>(out: &mut O, name: &[u8], value: &[u8]) -> Result<(), OutFault>
+fn put_stat<O: Sink>(out: &mut O, name: &[u8], value: &[u8]) -> Result<(), SinkError>
     ensures { Writes (stat_text name.now value.now) result (O.sight out.old) (O.sight out.new) }
 {
     put_parts(out, &[b"STAT ", name, b" ", value, b"\r\n"])

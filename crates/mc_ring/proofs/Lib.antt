@@ -1,4 +1,6 @@
 pub mod Lists
 pub mod Prefixes
 pub mod SameEnds
-pub mod LaneLoops
+pub mod Stamping
+pub mod Sides
+pub mod ChannelLoops

@@ -1,10 +1,11 @@
--- What follows where the ends of a seat or a shard have changed at one lane.
-use Rattle.std.proofs.Common.{◌≡◌, ◌≢◌, ℕ, zero, suc, List, [], ◌∷◌, ◌++◌, length, map, refl, ap, sym, ◌∙◌, slice_set, Some, inl, inr}
+-- What follows where the ends of a seat or a shard have changed at one channel.
+use Rattle.std.proofs.Common.{◌≡◌, ◌≢◌, ℕ, zero, suc, List, [], ◌∷◌, ◌++◌, length, map, refl, ap, sym, ◌∙◌, slice_set}
+use Rattle.std.proofs.Common.{Some, inl, inr}
 use Rattle.std.specs.List.{slice_get}
 use Rattle.std.proofs.lemmas.Bool.Decides.{eqb_tells}
-use Rattle.mc_ring.specs.Lane.{Far, Near, Side}
-use Rattle.mc_ring.specs.Ends.{AtLane, AreSameEnds, Ends, list_at}
-use Rattle.mc_ring.specs.Made.{IsLane}
+use Rattle.mc_ring.specs.Channel.{Far, Near, Side}
+use Rattle.mc_ring.specs.Ends.{AtChannel, AreSameEnds, Ends, list_at}
+use Rattle.mc_ring.specs.Made.{IsChannel}
 
 module _ {A : Type 0} where
   -- another element is the same
@@ -22,7 +23,8 @@ module _ {A : Type 0} where
   get-set_same (z ∷ xs) (suc i) x y here = get-set_same xs i x y here
 
   -- what a function doesn't see
-  pub map-set : {B : Type 0} (f : A → B) (xs : List A) (i : ℕ) (x y : A) → slice_get xs i ≡ Some x → f y ≡ f x → map f (slice_set xs i y) ≡ map f xs
+  pub map-set : {B : Type 0} (f : A → B) (xs : List A) (i : ℕ) (x y : A) → slice_get xs i ≡ Some x → f y ≡ f x
+      → map f (slice_set xs i y) ≡ map f xs
   map-set f [] i x y here same = refl
   map-set f (z ∷ xs) zero x y here same = let e : z ≡ x = cc in ap (λ w. w ∷ map f xs) (same ∙ ap f (sym e))
   map-set f (z ∷ xs) (suc i) x y here same = ap (λ ws. f z ∷ ws) (map-set f xs i x y here same)
@@ -32,55 +34,74 @@ module _ {A : Type 0} where
   length-slice_set (x ∷ xs) zero y = refl
   length-slice_set (x ∷ xs) (suc i) y = ap suc (length-slice_set xs i y)
 
--- The lists of another lane are the same.
-pub at_lane-other : {End B : Type 0} (says : End → End → Type 0) (read : End → List B) (i j : ℕ) (old new : Ends End) → AtLane says i old new → j ≢ i → list_at read new.lanes j ≡ list_at read old.lanes j
-at_lane-other says read i j old new changed ne = rw changed.set (rw (get-set_other old.lanes i j changed.after ne) refl)
+-- The lists of another channel are the same.
+pub at_channel-other : {End B : Type 0} (says : End → End → Type 0) (read : End → List B) (i j : ℕ) (old new : Ends End)
+    → AtChannel says i old new → j ≢ i → list_at read new.channels j ≡ list_at read old.channels j
+at_channel-other says read i j old new changed ne =
+    rw changed.set (rw (get-set_other old.channels i j changed.after ne) refl)
 
--- the lists of the lane itself, before and after
-pub at_lane-before : {End B : Type 0} (says : End → End → Type 0) (read : End → List B) (i : ℕ) (old new : Ends End) (changed : AtLane says i old new) → list_at read old.lanes i ≡ read changed.before
-at_lane-before says read i old new changed = rw changed.here refl
+-- the lists of the channel itself, before and after
+pub at_channel-before : {End B : Type 0} (says : End → End → Type 0) (read : End → List B) (i : ℕ) (old new : Ends End)
+    (changed : AtChannel says i old new) → list_at read old.channels i ≡ read changed.before
+at_channel-before says read i old new changed = rw changed.here refl
 
-pub at_lane-after : {End B : Type 0} (says : End → End → Type 0) (read : End → List B) (i : ℕ) (old new : Ends End) (changed : AtLane says i old new) → list_at read new.lanes i ≡ read changed.after
-at_lane-after says read i old new changed = rw changed.set (rw (get-set_same old.lanes i changed.before changed.after changed.here) refl)
+pub at_channel-after : {End B : Type 0} (says : End → End → Type 0) (read : End → List B) (i : ℕ) (old new : Ends End)
+    (changed : AtChannel says i old new) → list_at read new.channels i ≡ read changed.after
+at_channel-after says read i old new changed =
+    rw changed.set (rw (get-set_same old.channels i changed.before changed.after changed.here) refl)
 
--- a list that is longer at the lane
-pub at_lane-longer : {End B : Type 0} (says : End → End → Type 0) (read : End → List B) (i : ℕ) (more : List B) (old new : Ends End) → ((x y : End) → says x y → read y ≡ read x ++ more) → AtLane says i old new → list_at read new.lanes i ≡ list_at read old.lanes i ++ more
-at_lane-longer says read i more old new longer changed =
-    at_lane-after says read i old new changed ∙ longer changed.before changed.after changed.said ∙ ap (λ xs. xs ++ more) (sym (at_lane-before says read i old new changed))
+-- a list that is longer at the channel
+pub at_channel-longer : {End B : Type 0} (says : End → End → Type 0) (read : End → List B) (i : ℕ) (more : List B)
+    (old new : Ends End) → ((x y : End) → says x y → read y ≡ read x ++ more) → AtChannel says i old new
+    → list_at read new.channels i ≡ list_at read old.channels i ++ more
+at_channel-longer says read i more old new longer changed =
+    at_channel-after says read i old new changed ∙ longer changed.before changed.after changed.said
+    ∙ ap (λ xs. xs ++ more) (sym (at_channel-before says read i old new changed))
 
--- a list that the change leaves alone, of whatever lane
-pub at_lane-kept : {End B : Type 0} (says : End → End → Type 0) (read : End → List B) (i j : ℕ) (old new : Ends End) → ((x y : End) → says x y → read y ≡ read x) → AtLane says i old new → list_at read new.lanes j ≡ list_at read old.lanes j
-at_lane-kept says read i j old new kept changed = elim (eqb_tells j i) [
-  | inl same ↦ rw same.1 (at_lane-after says read i old new changed ∙ kept changed.before changed.after changed.said ∙ sym (at_lane-before says read i old new changed))
-  | inr other ↦ at_lane-other says read i j old new changed other.1
+-- a list that the change leaves alone, of whatever channel
+pub at_channel-kept : {End B : Type 0} (says : End → End → Type 0) (read : End → List B) (i j : ℕ) (old new : Ends End)
+    → ((x y : End) → says x y → read y ≡ read x) → AtChannel says i old new → list_at read new.channels j
+    ≡ list_at read old.channels j
+at_channel-kept says read i j old new kept changed = elim (eqb_tells j i) [
+  | inl same ↦ rw same.1 (at_channel-after says read i old new changed ∙ kept changed.before changed.after changed.said
+      ∙ sym (at_channel-before says read i old new changed))
+  | inr other ↦ at_channel-other says read i j old new changed other.1
 ]
 
--- what is the same of each lane
-pub at_lane-map : {End B : Type 0} (says : End → End → Type 0) (read : End → B) (i : ℕ) (old new : Ends End) → ((x y : End) → says x y → read y ≡ read x) → AtLane says i old new → map read new.lanes ≡ map read old.lanes
-at_lane-map says read i old new same changed = rw changed.set (map-set read old.lanes i changed.before changed.after changed.here (same changed.before changed.after changed.said))
+-- what is the same of each channel
+pub at_channel-map : {End B : Type 0} (says : End → End → Type 0) (read : End → B) (i : ℕ) (old new : Ends End)
+    → ((x y : End) → says x y → read y ≡ read x) → AtChannel says i old new → map read new.channels
+    ≡ map read old.channels
+at_channel-map says read i old new same changed =
+    rw changed.set (map-set read old.channels i changed.before changed.after changed.here
+    (same changed.before changed.after changed.said))
 
 -- The ends are the same ones.
-pub at_lane-same_ends : {Out In : Type 0} (says : Side Out In → Side Out In → Type 0) (i : ℕ) (old new : Ends (Side Out In)) → ((x y : Side Out In) → says x y → y.past.lane ≡ x.past.lane) → AtLane says i old new → AreSameEnds old new
-at_lane-same_ends says i old new same changed = record {
+pub at_channel-same_ends : {Out In : Type 0} (says : Side Out In → Side Out In → Type 0) (i : ℕ)
+    (old new : Ends (Side Out In)) → ((x y : Side Out In) → says x y → y.past.channel ≡ x.past.channel)
+    → AtChannel says i old new → AreSameEnds old new
+at_channel-same_ends says i old new same changed = record {
   number = rw changed.set refl;
-  count = rw changed.set (length-slice_set old.lanes i changed.after);
-  lanes = at_lane-map says (λ end. end.past.lane) i old new same changed;
+  count = rw changed.set (length-slice_set old.channels i changed.after);
+  channels = at_channel-map says (λ end. end.past.channel) i old new same changed;
 }
 
--- Ends that have a lane have it whatever has passed on them.
-pub lane_kept : (seat seat' : Ends Near) (shard shard' : Ends Far) → AreSameEnds seat seat' → AreSameEnds shard shard' → IsLane seat shard → IsLane seat' shard'
-lane_kept seat seat' shard shard' same same' is = record {
-  lane = is.lane;
-  near = rw (same.lanes, same'.number) is.near;
-  far = rw (same'.lanes, same.number) is.far;
+-- Ends that have a channel have it whatever has passed on them.
+pub channel_kept : (seat seat' : Ends Near) (shard shard' : Ends Far) → AreSameEnds seat seat'
+    → AreSameEnds shard shard' → IsChannel seat shard → IsChannel seat' shard'
+channel_kept seat seat' shard shard' same same' is = record {
+  channel = is.channel;
+  near = rw (same.channels, same'.number) is.near;
+  far = rw (same'.channels, same.number) is.far;
 }
 
 pub same_ends-refl : {Out In : Type 0} (ends : Ends (Side Out In)) → AreSameEnds ends ends
-same_ends-refl ends = record { number = refl; count = refl; lanes = refl }
+same_ends-refl ends = record { number = refl; count = refl; channels = refl }
 
-pub same_ends-trans : {Out In : Type 0} (a b c : Ends (Side Out In)) → AreSameEnds a b → AreSameEnds b c → AreSameEnds a c
+pub same_ends-trans : {Out In : Type 0} (a b c : Ends (Side Out In)) → AreSameEnds a b → AreSameEnds b c
+    → AreSameEnds a c
 same_ends-trans a b c first second = record {
   number = second.number ∙ first.number;
   count = second.count ∙ first.count;
-  lanes = second.lanes ∙ first.lanes;
+  channels = second.channels ∙ first.channels;
 }

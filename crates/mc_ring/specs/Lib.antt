@@ -1,5 +1,7 @@
 pub mod Reply
-pub mod Lane
+pub mod Route
+pub mod Stamps
+pub mod Channel
 pub mod Ends
 pub mod EndsLaws
 pub mod Made

@@ -1,17 +1,20 @@
-//! What goes between the seats of connections and the shards, and the lanes on which it goes: parcels one way, replies
-//! the other.
+//! What goes between the seats of connections and the shards, and the channels on which it goes:
+//! requests one way, replies the other.
 #![tactic(auto)]
 
 mod making;
 mod pair;
-mod parcel;
 mod reply;
+mod request;
 mod seat;
 mod shard;
+mod stamped;
+mod token;
 
-pub use making::{RingRefusal, lanes};
+pub use making::{RingError, channels, channels_with};
 pub use pair::beside;
-pub use parcel::Parcel;
 pub use reply::Reply;
+pub use request::Request;
 pub use seat::SeatEnds;
 pub use shard::ShardEnds;
+pub use token::{Source, Token};

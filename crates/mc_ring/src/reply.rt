@@ -5,7 +5,8 @@ ghost use Rattle.mc_item.specs.Kind.{is_lawful};
 use mc_item::{Answer, Kind};
 use mc_reply::Ticket;
 
-/// The answer to one piece. Whoever receives it knows that the answer is lawful for the piece's kind.
+/// The answer to one piece. Whoever receives it knows that the answer is lawful for the piece's
+/// kind.
 pub struct Reply {
     /// The piece's ticket.
     pub ticket: Ticket,

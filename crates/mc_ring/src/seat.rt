@@ -1,67 +1,77 @@
-//! A seat's ends of its lanes: it sends parcels to the shards and receives their replies.
-ghost use Rattle.std.specs.Prelude.{◌≡◌, ◌<◌, length};
+//! A seat's ends of its channels: it sends requests to the shards and receives their replies.
+ghost use Rattle.std.specs.Prelude.{◌≡◌, ◌<◌, IfSome, length};
 ghost use Rattle.mc_ring.specs.Reply.{shown};
-ghost use Rattle.mc_ring.specs.Ends.{AreSameEnds, AtLane, LooksFor, Receives, Sends};
+ghost use Rattle.mc_ring.specs.Ends.{AreSameEnds, AtChannel, HoldsAt, LooksFor, Receives, Sends};
 
-use crate::parcel::Parcel;
 use crate::reply::Reply;
+use crate::request::Request;
+use crate::stamped::Stamped;
+use crate::token::{Replies, Requests, Token};
 use rtrb::{Consumer, Producer};
+use std::alloc::Global;
 use std::marker::Model;
 
-/// A seat's end of one lane.
+/// A seat's end of one channel.
 #[derive(Drop)]
-pub(crate) struct SeatLane {
-    pub(crate) parcels: Producer<Parcel>,
-    pub(crate) replies: Consumer<Reply>,
+pub(crate) struct SeatChannel<T: Token> {
+    pub(crate) requests: Producer<Stamped<Request, T>, Global, Requests<T>>,
+    pub(crate) replies: Consumer<Stamped<Reply, T>, Global, Replies<T>>,
 }
 
-impl Model for SeatLane {
-    ghost use Rattle.std.specs.Prelude.{map};
+impl<T: Token> Model for SeatChannel<T> {
+    ghost use Rattle.std.specs.Prelude.{◌≡◌, map};
     ghost use Rattle.mc_ring.specs.Reply.{shown};
     ghost use Rattle.rtrb.specs.Ring.{sent, received, producer_capacity, known_items, known_free};
-    ghost use Rattle.mc_ring.specs.Lane.{Near, ring_in, ring_out, HasRoom};
+    ghost use Rattle.mc_ring.specs.Channel.{Near, ring_in, ring_out, HasRoom};
+    ghost use Rattle.mc_ring.specs.Stamps.{IsBegun, behind, item_seen, route_at};
 
     ghost Value = { Near };
 
     ghost view = { λ end. record {
       past = record {
-        lane = record {
-          parcels = ring_in end.parcels;
+        channel = record {
+          requests = ring_in end.requests;
           replies = ring_out end.replies;
-          capacity = producer_capacity end.parcels;
+          capacity = producer_capacity end.requests;
+          route = route_at T.name (sent end.requests);
         };
-        sent = sent end.parcels;
-        received = map shown (received end.replies);
+        sent = behind (λ request. request) (sent end.requests);
+        received = behind shown (received end.replies);
       };
-      ahead = map shown (known_items end.replies);
-      free = known_free end.parcels;
+      ahead = map (item_seen shown) (known_items end.replies);
+      free = known_free end.requests;
     } };
 
-    ghost invariant = { λ end. HasRoom end.parcels };
+    ghost invariant = { λ end. HasRoom end.requests
+        × IsBegun (sent end.requests) × IsBegun (received end.replies)
+        × (route_at T.name (received end.replies) ≡ route_at T.name (sent end.requests)) };
 }
 
-impl SeatLane {
-    /// Sends a parcel, or hands it back where the ring is full.
+impl<T: Token + Drop> SeatChannel<T> {
+    /// Sends a request, or hands it back where the ring is full. The token is dropped then.
     #[inline(always)]
-    pub(crate) fn send(&mut self, parcel: Parcel) -> Result<(), Parcel>
-        ensures { Sends (λ sent. sent) parcel result self.old self.new }
+    pub(crate) fn send(&mut self, request: Request, token: T) -> Result<(), Request>
+        requires { T.may_send self.old.past.channel.route self.old.past.sent request token }
+        ensures { Sends (λ sent. sent) request result self.old self.new }
     {
-        if self.parcels.is_full() {
-            return Err(parcel);
+        if self.requests.is_full() {
+            return Err(request);
         }
-        self.parcels.push_reserved(parcel);
+        self.requests.push_reserved(Stamped::new(request, token));
         Ok(())
     }
 
     /// Receives the reply that has waited longest, if one waits.
     #[inline(always)]
-    pub(crate) fn receive(&mut self) -> Option<Reply>
-        ensures { Receives shown result self.old self.new }
+    pub(crate) fn receive(&mut self) -> Option<(Reply, T)>
+        ensures receives { Receives (λ got. shown got.0) result self.old self.new }
+        ensures may { IfSome result (λ got. T.may_give self.old.past.channel.route
+            self.old.past.received (shown got.0) got.1) }
     {
         if self.replies.is_empty() {
             return None;
         }
-        Some(self.replies.pop_known())
+        Some(self.replies.pop_known().open())
     }
 
     /// Whether a reply waits. No memory is taken.
@@ -72,37 +82,39 @@ impl SeatLane {
     }
 }
 
-/// A seat's ends of its lanes, one to each shard.
-pub struct SeatEnds {
+/// A seat's ends of its channels, one to each shard. A token goes with each request and each reply.
+pub struct SeatEnds<T: Token = ()> {
     number: usize,
-    pub(crate) lanes: Vec<SeatLane>,
+    pub(crate) channels: Vec<SeatChannel<T>>,
 }
 
-impl Drop for SeatEnds {
+impl<T: Token + Drop> Drop for SeatEnds<T> {
     /// By hand, so that to let one go is one call for whoever holds it (docs/DECISIONS.md).
     fn drop(self) {
         let SeatEnds {
             number: _number,
-            lanes: _lanes,
+            channels: _channels,
         } = self;
     }
 }
 
-impl Model for SeatEnds {
-    ghost use Rattle.mc_ring.specs.Lane.{Near};
+impl<T: Token> Model for SeatEnds<T> {
+    ghost use Rattle.mc_ring.specs.Channel.{Near};
     ghost use Rattle.mc_ring.specs.Ends.{Ends};
 
     ghost Value = { Ends Near };
 
-    ghost view = { λ ends. record { number = ends.number; lanes = ends.lanes.items } };
+    ghost view = { λ ends. record { number = ends.number; channels = ends.channels.items } };
 }
 
-impl SeatEnds {
+impl<T: Token + Drop> SeatEnds<T> {
+    ghost use Rattle.mc_ring.specs.Channel.{Near};
+
     /// The ends of the seat of this number.
-    pub(crate) fn new(number: usize, lanes: Vec<SeatLane>) -> SeatEnds
-        ensures { result ≡ record { number = number; lanes = lanes.items } }
+    pub(crate) fn new(number: usize, channels: Vec<SeatChannel<T>>) -> SeatEnds<T>
+        ensures { result ≡ record { number = number; channels = channels.items } }
     {
-        SeatEnds { number, lanes }
+        SeatEnds { number, channels }
     }
 
     /// The seat's number.
@@ -114,35 +126,64 @@ impl SeatEnds {
 
     /// How many shards there are.
     pub fn shards(&self) -> usize
-        ensures { result ≡ length self.now.lanes }
+        ensures { result ≡ length self.now.channels }
     {
-        self.lanes.len()
+        self.channels.len()
     }
 
-    /// Sends a parcel to a shard, or hands it back where the ring is full. No memory is taken.
-    pub fn send(&mut self, shard: usize, parcel: Parcel) -> Result<(), Parcel>
-        requires { shard < length self.old.lanes }
-        ensures lane { AtLane (Sends (λ sent. sent) parcel result) shard self.old self.new }
+    /// Sends a request to a shard with a token that allows it there. Where the ring is full, the
+    /// request is handed back and the token dropped. No memory is taken.
+    pub fn send_with(&mut self, shard: usize, request: Request, token: T) -> Result<(), Request>
+        requires shard { shard < length self.old.channels }
+        requires may { HoldsAt
+            (λ (end : Near). T.may_send end.past.channel.route end.past.sent request token) shard
+            self.old }
+        ensures channel { AtChannel (Sends (λ sent. sent) request result) shard self.old self.new }
         ensures same { AreSameEnds self.old self.new }
     {
-        self.lanes[shard].send(parcel)
+        self.channels[shard].send(request, token)
     }
 
-    /// Receives the reply of a shard that has waited longest, if one waits. No memory is taken.
-    pub fn receive(&mut self, shard: usize) -> Option<Reply>
-        requires { shard < length self.old.lanes }
-        ensures lane { AtLane (Receives shown result) shard self.old self.new }
+    /// Receives the reply of a shard that has waited longest, if one waits, with the token that
+    /// allows it there. No memory is taken.
+    pub fn receive_with(&mut self, shard: usize) -> Option<(Reply, T)>
+        requires { shard < length self.old.channels }
+        ensures channel { AtChannel (Receives (λ got. shown got.0) result) shard self.old self.new }
+        ensures may { IfSome result (λ got. HoldsAt (λ (end : Near).
+            T.may_give end.past.channel.route end.past.received (shown got.0) got.1) shard
+            self.old) }
         ensures same { AreSameEnds self.old self.new }
     {
-        self.lanes[shard].receive()
+        self.channels[shard].receive()
     }
 
     /// Whether a reply of a shard waits. No memory is taken.
     pub fn has_reply(&mut self, shard: usize) -> bool
-        requires { shard < length self.old.lanes }
-        ensures lane { AtLane (LooksFor result) shard self.old self.new }
+        requires { shard < length self.old.channels }
+        ensures channel { AtChannel (LooksFor result) shard self.old self.new }
         ensures same { AreSameEnds self.old self.new }
     {
-        self.lanes[shard].has_reply()
+        self.channels[shard].has_reply()
+    }
+}
+
+impl SeatEnds<()> {
+    /// Sends a request to a shard, or hands it back where the ring is full. No memory is taken.
+    pub fn send(&mut self, shard: usize, request: Request) -> Result<(), Request>
+        requires { shard < length self.old.channels }
+        ensures channel { AtChannel (Sends (λ sent. sent) request result) shard self.old self.new }
+        ensures same { AreSameEnds self.old self.new }
+    {
+        self.send_with(shard, request, ())
+    }
+
+    /// Receives the reply of a shard that has waited longest, if one waits. No memory is taken.
+    pub fn receive(&mut self, shard: usize) -> Option<Reply>
+        requires { shard < length self.old.channels }
+        ensures channel { AtChannel (Receives shown result) shard self.old self.new }
+        ensures same { AreSameEnds self.old self.new }
+    {
+        let (reply, ()) = self.receive_with(shard)?;
+        Some(reply)
     }
 }

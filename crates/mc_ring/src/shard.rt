@@ -1,119 +1,131 @@
-//! A shard's ends of its lanes: it takes parcels of the seats and gives its replies.
-ghost use Rattle.std.specs.Prelude.{◌≡◌, ◌<◌, ◌++◌, ◌∷◌, [], OnOk, length};
+//! A shard's ends of its channels: it takes requests of the seats and gives its replies.
+ghost use Rattle.std.specs.Prelude.{◌≡◌, ◌<◌, ◌++◌, ◌∷◌, [], IfSome, OnOk, length};
 ghost use Rattle.mc_ring.specs.Reply.{shown};
-ghost use Rattle.mc_ring.specs.Ends.{AreSameEnds, AtLane, LooksFor, Receives, Sends};
+ghost use Rattle.mc_ring.specs.Ends.{AreSameEnds, AtChannel, HoldsAt, LooksFor, Receives, Sends};
 
-use crate::parcel::Parcel;
 use crate::reply::Reply;
+use crate::request::Request;
+use crate::stamped::Stamped;
+use crate::token::{Replies, Requests, Token};
 use rtrb::{Consumer, Producer};
 use std::alloc::{AllocError, Global};
 use std::marker::Model;
 
-/// A shard's end of one lane.
+/// A shard's end of one channel.
 #[derive(Drop)]
-pub(crate) struct ShardLane {
-    pub(crate) parcels: Consumer<Parcel>,
-    pub(crate) replies: Producer<Reply>,
+pub(crate) struct ShardChannel<T: Token> {
+    pub(crate) requests: Consumer<Stamped<Request, T>, Global, Requests<T>>,
+    pub(crate) replies: Producer<Stamped<Reply, T>, Global, Replies<T>>,
 }
 
-impl Model for ShardLane {
-    ghost use Rattle.std.specs.Prelude.{map};
+impl<T: Token> Model for ShardChannel<T> {
+    ghost use Rattle.std.specs.Prelude.{◌≡◌, map};
     ghost use Rattle.mc_ring.specs.Reply.{shown};
     ghost use Rattle.rtrb.specs.Ring.{sent, received, producer_capacity, known_items, known_free};
-    ghost use Rattle.mc_ring.specs.Lane.{Far, ring_in, ring_out, HasRoom};
+    ghost use Rattle.mc_ring.specs.Channel.{Far, ring_in, ring_out, HasRoom};
+    ghost use Rattle.mc_ring.specs.Stamps.{IsBegun, behind, item_seen, route_at};
 
     ghost Value = { Far };
 
     ghost view = { λ end. record {
       past = record {
-        lane = record {
-          parcels = ring_out end.parcels;
+        channel = record {
+          requests = ring_out end.requests;
           replies = ring_in end.replies;
           capacity = producer_capacity end.replies;
+          route = route_at T.name (received end.requests);
         };
-        sent = map shown (sent end.replies);
-        received = received end.parcels;
+        sent = behind shown (sent end.replies);
+        received = behind (λ request. request) (received end.requests);
       };
-      ahead = known_items end.parcels;
+      ahead = map (item_seen (λ request. request)) (known_items end.requests);
       free = known_free end.replies;
     } };
 
-    ghost invariant = { λ end. HasRoom end.replies };
+    ghost invariant = { λ end. HasRoom end.replies
+        × IsBegun (sent end.replies) × IsBegun (received end.requests)
+        × (route_at T.name (sent end.replies) ≡ route_at T.name (received end.requests)) };
 }
 
-impl ShardLane {
-    /// Takes the parcel that has waited longest, if one waits.
+impl<T: Token + Drop> ShardChannel<T> {
+    /// Takes the request that has waited longest, if one waits.
     #[inline(always)]
-    pub(crate) fn take(&mut self) -> Option<Parcel>
-        ensures { Receives (λ parcel. parcel) result self.old self.new }
+    pub(crate) fn take(&mut self) -> Option<(Request, T)>
+        ensures receives { Receives (λ got. got.0) result self.old self.new }
+        ensures may { IfSome result (λ got. T.may_send self.old.past.channel.route
+            self.old.past.received got.0 got.1) }
     {
-        if self.parcels.is_empty() {
+        if self.requests.is_empty() {
             return None;
         }
-        Some(self.parcels.pop_known())
+        Some(self.requests.pop_known().open())
     }
 
-    /// Gives a reply, or hands it back where the ring is full.
+    /// Gives a reply, or hands it back where the ring is full. The token is dropped then.
     #[inline(always)]
-    pub(crate) fn give(&mut self, reply: Reply) -> Result<(), Reply>
+    pub(crate) fn give(&mut self, reply: Reply, token: T) -> Result<(), Reply>
+        requires { T.may_give self.old.past.channel.route self.old.past.sent (shown reply) token }
         ensures { Sends shown reply result self.old self.new }
     {
         if self.replies.is_full() {
             return Err(reply);
         }
-        self.replies.push_reserved(reply);
+        self.replies.push_reserved(Stamped::new(reply, token));
         Ok(())
     }
 
-    /// Whether a parcel waits. No memory is taken.
-    pub(crate) fn has_parcel(&mut self) -> bool
+    /// Whether a request waits. No memory is taken.
+    pub(crate) fn has_request(&mut self) -> bool
         ensures { LooksFor result self.old self.new }
     {
-        !self.parcels.is_empty()
+        !self.requests.is_empty()
     }
 }
 
-/// A shard's ends of its lanes, one to each seat.
-pub struct ShardEnds {
+/// A shard's ends of its channels, one to each seat. A token goes with each request and each reply.
+pub struct ShardEnds<T: Token = ()> {
     number: usize,
-    pub(crate) lanes: Vec<ShardLane>,
+    pub(crate) channels: Vec<ShardChannel<T>>,
 }
 
-impl Drop for ShardEnds {
+impl<T: Token + Drop> Drop for ShardEnds<T> {
     /// By hand, so that to let one go is one call for whoever holds it (docs/DECISIONS.md).
     fn drop(self) {
         let ShardEnds {
             number: _number,
-            lanes: _lanes,
+            channels: _channels,
         } = self;
     }
 }
 
-impl Model for ShardEnds {
-    ghost use Rattle.mc_ring.specs.Lane.{Far};
+impl<T: Token> Model for ShardEnds<T> {
+    ghost use Rattle.mc_ring.specs.Channel.{Far};
     ghost use Rattle.mc_ring.specs.Ends.{Ends};
 
     ghost Value = { Ends Far };
 
-    ghost view = { λ ends. record { number = ends.number; lanes = ends.lanes.items } };
+    ghost view = { λ ends. record { number = ends.number; channels = ends.channels.items } };
 }
 
-impl ShardEnds {
-    /// The ends of the shard of this number, with no lane yet.
-    pub(crate) fn new(alloc: Global, number: usize) -> ShardEnds
-        ensures { result ≡ record { number = number; lanes = [] } }
+impl<T: Token + Drop> ShardEnds<T> {
+    ghost use Rattle.mc_ring.specs.Channel.{Far};
+
+    /// The ends of the shard of this number, with no channel yet.
+    pub(crate) fn new(alloc: Global, number: usize) -> ShardEnds<T>
+        ensures { result ≡ record { number = number; channels = [] } }
     {
         ShardEnds {
             number,
-            lanes: Vec::new(alloc),
+            channels: Vec::new(alloc),
         }
     }
 
-    /// Adds the shard's end of the next seat's lane.
-    pub(crate) fn add(&mut self, lane: ShardLane) -> Result<(), AllocError>
-        ensures { OnOk result (self.new ≡ record self.old { lanes = self.old.lanes ++ lane ∷ [] }) }
+    /// Adds the shard's end of the next seat's channel.
+    pub(crate) fn add(&mut self, channel: ShardChannel<T>) -> Result<(), AllocError>
+        ensures { OnOk result (self.new ≡
+            record self.old { channels = self.old.channels ++ channel ∷ [] }) }
     {
-        self.lanes.push(lane)?;
+        self.channels.push(channel)?;
         Ok(())
     }
 
@@ -126,35 +138,65 @@ impl ShardEnds {
 
     /// How many seats there are.
     pub fn seats(&self) -> usize
-        ensures { result ≡ length self.now.lanes }
+        ensures { result ≡ length self.now.channels }
     {
-        self.lanes.len()
+        self.channels.len()
     }
 
-    /// Takes the parcel of a seat that has waited longest, if one waits. No memory is taken.
-    pub fn take(&mut self, seat: usize) -> Option<Parcel>
-        requires { seat < length self.old.lanes }
-        ensures lane { AtLane (Receives (λ parcel. parcel) result) seat self.old self.new }
+    /// Takes the request of a seat that has waited longest, if one waits, with the token that
+    /// allows it there. No memory is taken.
+    pub fn take_with(&mut self, seat: usize) -> Option<(Request, T)>
+        requires { seat < length self.old.channels }
+        ensures channel { AtChannel (Receives (λ got. got.0) result) seat self.old self.new }
+        ensures may { IfSome result (λ got. HoldsAt (λ (end : Far).
+            T.may_send end.past.channel.route end.past.received got.0 got.1) seat
+            self.old) }
         ensures same { AreSameEnds self.old self.new }
     {
-        self.lanes[seat].take()
+        self.channels[seat].take()
+    }
+
+    /// Gives a reply to a seat with a token that allows it there. Where the ring is full, the reply
+    /// is handed back and the token dropped. No memory is taken.
+    pub fn give_with(&mut self, seat: usize, reply: Reply, token: T) -> Result<(), Reply>
+        requires seat { seat < length self.old.channels }
+        requires may { HoldsAt
+            (λ (end : Far). T.may_give end.past.channel.route end.past.sent (shown reply) token)
+            seat
+            self.old }
+        ensures channel { AtChannel (Sends shown reply result) seat self.old self.new }
+        ensures same { AreSameEnds self.old self.new }
+    {
+        self.channels[seat].give(reply, token)
+    }
+
+    /// Whether a request of a seat waits. No memory is taken.
+    pub fn has_request(&mut self, seat: usize) -> bool
+        requires { seat < length self.old.channels }
+        ensures channel { AtChannel (LooksFor result) seat self.old self.new }
+        ensures same { AreSameEnds self.old self.new }
+    {
+        self.channels[seat].has_request()
+    }
+}
+
+impl ShardEnds<()> {
+    /// Takes the request of a seat that has waited longest, if one waits. No memory is taken.
+    pub fn take(&mut self, seat: usize) -> Option<Request>
+        requires { seat < length self.old.channels }
+        ensures channel { AtChannel (Receives (λ request. request) result) seat self.old self.new }
+        ensures same { AreSameEnds self.old self.new }
+    {
+        let (request, ()) = self.take_with(seat)?;
+        Some(request)
     }
 
     /// Gives a reply to a seat, or hands it back where the ring is full. No memory is taken.
     pub fn give(&mut self, seat: usize, reply: Reply) -> Result<(), Reply>
-        requires { seat < length self.old.lanes }
-        ensures lane { AtLane (Sends shown reply result) seat self.old self.new }
+        requires { seat < length self.old.channels }
+        ensures channel { AtChannel (Sends shown reply result) seat self.old self.new }
         ensures same { AreSameEnds self.old self.new }
     {
-        self.lanes[seat].give(reply)
-    }
-
-    /// Whether a parcel of a seat waits. No memory is taken.
-    pub fn has_parcel(&mut self, seat: usize) -> bool
-        requires { seat < length self.old.lanes }
-        ensures lane { AtLane (LooksFor result) seat self.old self.new }
-        ensures same { AreSameEnds self.old self.new }
-    {
-        self.lanes[seat].has_parcel()
+        self.give_with(seat, reply, ())
     }
 }

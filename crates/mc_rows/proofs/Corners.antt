@@ -18,7 +18,7 @@ use Rattle.mc_item.specs.declared.answer.Answer.TheVariants.{NotStored, Exists, 
 use Rattle.mc_item.specs.declared.op.Op.{Op}
 use Rattle.mc_item.specs.declared.op.Op.TheVariants as op
 use Rattle.mc_item.specs.Kind.{key_of}
-use Rattle.mc_item.specs.Tally.{no_counts}
+use Rattle.mc_item.specs.OpStats.{no_counts}
 use Rattle.mc_item.specs.Value.{number_in}
 use Rattle.mc_item.specs.Expiry.{expiry_of, is_dead, seconds_left}
 use Rattle.mc_wire.specs.Base64Key.{base64_of, base64_bytes}
@@ -28,8 +28,8 @@ use Rattle.mc_wire.specs.Number.{number_of}
 use Rattle.mc_store.specs.State.{State, Used, with_given, first, entered}
 use Rattle.mc_store.specs.Step.{step_of}
 use Rattle.mc_split.specs.Pieces.{pieces_of}
-use Rattle.mc_reply.specs.Text.{shape_text}
-use Rattle.mc_reply.specs.Shape.{shape_of}
+use Rattle.mc_reply.specs.Text.{reply_kind_text}
+use Rattle.mc_reply.specs.ReplyKind.{reply_kind_of}
 use Rattle.mc_rows.specs.Conversation.{Sent, replies, reply_on, outcomes_on, step_on, found_by}
 
 -- The table of outcomes equals the step, whatever item is under the key.
@@ -57,18 +57,44 @@ block text behind = record { line = text; behind = behind }
 
 -- the first of two shards, which has given this number of uniques
 abbrev shard : ℕ → State
-shard given = record { items = empty; turns = []; uses = 0; time = 1000; flush = None; given = given; index = 0; shards = 2; budget = 16777216; limit = 1048576; tally = no_counts; evicted = 0 }
+shard given =
+    record {
+      items = empty;
+      turns = [];
+      uses = 0;
+      time = 1000;
+      flush = None;
+      given = given;
+      index = 0;
+      shards = 2;
+      budget = 16777216;
+      limit = 1048576;
+      op_stats = no_counts;
+      evicted = 0;
+    }
 
 -- an item with this value and the unique 1, just stored
 abbrev item : List ℕ → Item
-item value = record { value = value; flags = 0; expiry = Never; unique = 1; last_access = 1000; fetched = false; stale = false; sent = false }
+item value =
+    record {
+      value = value;
+      flags = 0;
+      expiry = Never;
+      unique = 1;
+      last_access = 1000;
+      fetched = false;
+      stale = false;
+      sent = false;
+    }
 
 abbrev there : Item → Option Used
 there item = Some (record { item = item; number = 0 })
 
 -- what all rows compute with
 computing : Unit {0}
-unfolding decoded_of groups_error groups_bytes scan_steps encode_symbols line_of words_of name_of word_count_refusal number_of is_key keys_of meta_line_of decoded_key base64_bytes pieces_of shape_of shape_text fnv_of base64_of key_of number_in expiry_of is_dead seconds_left digits
+unfolding decoded_of groups_error groups_bytes scan_steps encode_symbols line_of words_of name_of word_count_refusal
+    number_of is_key keys_of meta_line_of decoded_key base64_bytes pieces_of reply_kind_of reply_kind_text fnv_of
+    base64_of key_of number_in expiry_of is_dead seconds_left digits
 computing = tt
 
 -- Lines
@@ -92,22 +118,32 @@ record Lines : Type 0 where
   upper_case : replies 1000 (line (codes "SET a 0 0 2\r") ∷ [])
       ≡ codes "ERROR\r\n"
   -- A storage line with a fault skips its block.
-  bad_key_with_block : replies 1000 (block (codes "set kkkkkkkkkkkkkkkkkkkkkkkkkkkkkkkkkkkkkkkkkkkkkkkkkkkkkkkkkkkkkkkkkkkkkkkkkkkkkkkkkkkkkkkkkkkkkkkkkkkkkkkkkkkkkkkkkkkkkkkkkkkkkkkkkkkkkkkkkkkkkkkkkkkkkkkkkkkkkkkkkkkkkkkkkkkkkkkkkkkkkkkkkkkkkkkkkkkkkkkkkkkkkkkkkkkkkkkkkkkkkkkkkkkkkkkkkkkkkkkkkkkkkkkkkkk 0 0 2\r") (codes "mn\r\n") ∷ [])
+  bad_key_with_block : replies 1000
+      (block
+      (codes
+      "set kkkkkkkkkkkkkkkkkkkkkkkkkkkkkkkkkkkkkkkkkkkkkkkkkkkkkkkkkkkkkkkkkkkkkkkkkkkkkkkkkkkkkkkkkkkkkkkkkkkkkkkkkkkkkkkkkkkkkkkkkkkkkkkkkkkkkkkkkkkkkkkkkkkkkkkkkkkkkkkkkkkkkkkkkkkkkkkkkkkkkkkkkkkkkkkkkkkkkkkkkkkkkkkkkkkkkkkkkkkkkkkkkkkkkkkkkkkkkkkkkkkkkkkkkkk 0 0 2\r")
+      (codes "mn\r\n") ∷ [])
       ≡ codes "CLIENT_ERROR bad key\r\n"
   -- A skipped block is not looked at.
   skipped_without_an_end : replies 1000 (block (codes "set a x 0 2\r") (codes "abcd") ∷ [])
       ≡ codes "CLIENT_ERROR bad command line format\r\n"
   -- A wrong number of words skips a block too, if the length is in its place.
-  too_many_words : replies 1000 (block (codes "set a 0 0 1 noreply x\r") (codes "z\r\n") ∷ block (codes "cas a 0 0 1\r") (codes "z\r\n") ∷ [])
+  too_many_words : replies 1000
+      (block (codes "set a 0 0 1 noreply x\r") (codes "z\r\n") ∷ block (codes "cas a 0 0 1\r") (codes "z\r\n") ∷ [])
       ≡ codes "CLIENT_ERROR bad command line format\r\nCLIENT_ERROR bad command line format\r\n"
   -- Without a count in its place nothing is skipped; 21 digits are no number.
   no_count : replies 1000 (line (codes "set a 0 1\r") ∷ line (codes "set a 0 0 000000000000000000001\r") ∷ [])
       ≡ codes "CLIENT_ERROR bad command line format\r\nCLIENT_ERROR bad command line format\r\n"
   -- A value that is too large is reported only if nothing else is wrong, and `noreply` does not hide it.
-  too_large_is_the_last_fault : replies 1000 (block (codes "set a 0 0 1048577 x\r") [] ∷ block (codes "set a 0 0 1048577 noreply\r") [] ∷ [])
+  too_large_is_the_last_fault : replies 1000
+      (block (codes "set a 0 0 1048577 x\r") [] ∷ block (codes "set a 0 0 1048577 noreply\r") [] ∷ [])
       ≡ codes "CLIENT_ERROR bad command line format\r\nSERVER_ERROR object too large for cache\r\n"
   -- Of a meta line the flags are judged first, then the key, then the count.
-  flags_before_the_key : replies 1000 (line (codes "mg kkkkkkkkkkkkkkkkkkkkkkkkkkkkkkkkkkkkkkkkkkkkkkkkkkkkkkkkkkkkkkkkkkkkkkkkkkkkkkkkkkkkkkkkkkkkkkkkkkkkkkkkkkkkkkkkkkkkkkkkkkkkkkkkkkkkkkkkkkkkkkkkkkkkkkkkkkkkkkkkkkkkkkkkkkkkkkkkkkkkkkkkkkkkkkkkkkkkkkkkkkkkkkkkkkkkkkkkkkkkkkkkkkkkkkkkkkkkkkkkkkkkkkkkkkk ?\r") ∷ line (codes "ms a x ?\r") ∷ [])
+  flags_before_the_key : replies 1000
+      (line
+      (codes
+      "mg kkkkkkkkkkkkkkkkkkkkkkkkkkkkkkkkkkkkkkkkkkkkkkkkkkkkkkkkkkkkkkkkkkkkkkkkkkkkkkkkkkkkkkkkkkkkkkkkkkkkkkkkkkkkkkkkkkkkkkkkkkkkkkkkkkkkkkkkkkkkkkkkkkkkkkkkkkkkkkkkkkkkkkkkkkkkkkkkkkkkkkkkkkkkkkkkkkkkkkkkkkkkkkkkkkkkkkkkkkkkkkkkkkkkkkkkkkkkkkkkkkkkkkkkkkk ?\r")
+      ∷ line (codes "ms a x ?\r") ∷ [])
       ≡ codes "CLIENT_ERROR invalid flag\r\nCLIENT_ERROR invalid flag\r\n"
   -- Base64 has one spelling for each key, and the block is skipped.
   base64_that_is_not_canonical : replies 1000 (block (codes "ms YR== 2 b\r") (codes "mn\r\n") ∷ [])
@@ -116,28 +152,39 @@ record Lines : Type 0 where
   duplicate_before_long_token : replies 1000 (line (codes "mg a O1 Oxxxxxxxxxxxxxxxxxxxxxxxxxxxxxxxxx\r") ∷ [])
       ≡ codes "CLIENT_ERROR duplicate flag\r\n"
   -- Each meta command has its own letters, and their case counts.
-  each_command_has_its_flags : replies 1000 (block (codes "ms a 0 v\r") (codes "\r\n") ∷ line (codes "mg a C1\r") ∷ line (codes "md a c\r") ∷ line (codes "ma a s\r") ∷ line (codes "mg a V\r") ∷ line (codes "ma a I\r") ∷ line (codes "md a x\r") ∷ [])
-      ≡ codes "CLIENT_ERROR invalid flag\r\nCLIENT_ERROR invalid flag\r\nCLIENT_ERROR invalid flag\r\nCLIENT_ERROR invalid flag\r\nCLIENT_ERROR invalid flag\r\nCLIENT_ERROR invalid flag\r\nCLIENT_ERROR invalid flag\r\n"
+  each_command_has_its_flags : replies 1000
+      (block (codes "ms a 0 v\r") (codes "\r\n") ∷ line (codes "mg a C1\r") ∷ line (codes "md a c\r") ∷ line
+      (codes "ma a s\r") ∷ line (codes "mg a V\r") ∷ line (codes "ma a I\r") ∷ line (codes "md a x\r") ∷ [])
+      ≡ codes
+      "CLIENT_ERROR invalid flag\r\nCLIENT_ERROR invalid flag\r\nCLIENT_ERROR invalid flag\r\nCLIENT_ERROR invalid flag\r\nCLIENT_ERROR invalid flag\r\nCLIENT_ERROR invalid flag\r\nCLIENT_ERROR invalid flag\r\n"
   -- `C` is allowed in mode S alone.
   compare_in_another_mode : replies 1000 (block (codes "ms a 2 C1 Ma\r") (codes "mn\r\n") ∷ [])
       ≡ codes "CLIENT_ERROR bad command line format\r\n"
   -- The words of `gat` are judged from left to right, and it wants a key.
-  exptime_before_the_keys : replies 1000 (line (codes "gat x a" ++ (127 ∷ []) ++ codes "\r") ∷ line (codes "gat 0 a" ++ (127 ∷ []) ++ codes "\r") ∷ line (codes "gat 0\r") ∷ [])
+  exptime_before_the_keys : replies 1000
+      (line (codes "gat x a" ++ (127 ∷ []) ++ codes "\r") ∷ line (codes "gat 0 a" ++ (127 ∷ []) ++ codes "\r") ∷ line
+      (codes "gat 0\r") ∷ [])
       ≡ codes "CLIENT_ERROR bad command line format\r\nCLIENT_ERROR bad key\r\nCLIENT_ERROR bad command line format\r\n"
   -- `append` ignores flags and exptime, but they have to be numbers.
   append_reads_what_it_ignores : replies 1000 (block (codes "append a 4294967296 0 2\r") (codes "mn\r\n") ∷ [])
       ≡ codes "CLIENT_ERROR bad command line format\r\n"
   -- `noreply` is the last word.
-  noreply_stands_last : replies 1000 (line (codes "delete a noreply 0\r") ∷ line (codes "flush_all noreply noreply\r") ∷ line (codes "verbosity noreply\r") ∷ [])
-      ≡ codes "CLIENT_ERROR bad command line format\r\nCLIENT_ERROR bad command line format\r\nCLIENT_ERROR bad command line format\r\n"
+  noreply_stands_last : replies 1000
+      (line (codes "delete a noreply 0\r") ∷ line (codes "flush_all noreply noreply\r") ∷ line
+      (codes "verbosity noreply\r") ∷ [])
+      ≡ codes
+      "CLIENT_ERROR bad command line format\r\nCLIENT_ERROR bad command line format\r\nCLIENT_ERROR bad command line format\r\n"
   -- An exptime has 64 bits.
   exptime_past_64_bits : replies 1000 (block (codes "set a 0 9223372036854775808 1\r") (codes "x\r\n") ∷ [])
       ≡ codes "CLIENT_ERROR bad command line format\r\n"
   -- `noreply` hides no fault of its line, nor of its block.
-  noreply_hides_no_refusal : replies 1000 (block (codes "set a 0 0 1 noreply\r") (codes "xyz") ∷ line (codes "incr a x noreply\r") ∷ [])
+  noreply_hides_no_refusal : replies 1000
+      (block (codes "set a 0 0 1 noreply\r") (codes "xyz") ∷ line (codes "incr a x noreply\r") ∷ [])
       ≡ codes "CLIENT_ERROR bad data chunk\r\nCLIENT_ERROR bad command line format\r\n"
   -- `mn`, `version` and `verbosity` answer at once.
-  words_behind_mn : replies 1000 (line (codes "mn k O1\r") ∷ line (codes "version x\r") ∷ line (codes "verbosity 1\r") ∷ line (codes "verbosity 1 noreply\r") ∷ [])
+  words_behind_mn : replies 1000
+      (line (codes "mn k O1\r") ∷ line (codes "version x\r") ∷ line (codes "verbosity 1\r") ∷ line
+      (codes "verbosity 1 noreply\r") ∷ [])
       ≡ codes "MN\r\nVERSION 1.6.0-sharded\r\nOK\r\n"
 
 lines_are : Lines
@@ -162,10 +209,12 @@ record Hidden : Type 0 where
   quiet_set : reply_on (shard 1) (block (codes "ms a 1 q\r") (codes "x\r\n")) None
       ≡ []
   -- but not NS,
-  quiet_set_that_is_not_stored : reply_on (shard 1) (block (codes "ms a 1 ME q\r") (codes "y\r\n")) (there (item (codes "x")))
+  quiet_set_that_is_not_stored : reply_on (shard 1) (block (codes "ms a 1 ME q\r") (codes "y\r\n"))
+      (there (item (codes "x")))
       ≡ codes "NS\r\n"
   -- nor EX,
-  quiet_set_of_another_unique : reply_on (shard 1) (block (codes "ms a 1 C9 q\r") (codes "y\r\n")) (there (item (codes "x")))
+  quiet_set_of_another_unique : reply_on (shard 1) (block (codes "ms a 1 C9 q\r") (codes "y\r\n"))
+      (there (item (codes "x")))
       ≡ codes "EX\r\n"
   -- nor NF.
   quiet_set_of_nothing : reply_on (shard 1) (block (codes "ms c 1 C9 q\r") (codes "y\r\n")) None
@@ -202,7 +251,8 @@ record Returned : Type 0 where
   errors_have_no_flags : reply_on (shard 1) (line (codes "ma a k O1\r")) (there (item (codes "x")))
       ≡ codes "CLIENT_ERROR cannot increment or decrement non-numeric value\r\n"
   -- Without success only the key and the opaque token are returned,
-  only_key_and_opaque_without_success : reply_on (shard 1) (block (codes "ms a 1 ME k s c O9\r") (codes "y\r\n")) (there (item (codes "x")))
+  only_key_and_opaque_without_success : reply_on (shard 1) (block (codes "ms a 1 ME k s c O9\r") (codes "y\r\n"))
+      (there (item (codes "x")))
       ≡ codes "NS ka O9\r\n"
   -- of a miss too.
   only_key_and_opaque_of_a_miss : reply_on (shard 1) (line (codes "mg c s O1 t k c f h l v\r")) None
@@ -236,19 +286,23 @@ record Times : Type 0 where
   time_left_is_the_new_one : reply_on (shard 1) (line (codes "mg a t T30\r")) (there (item (codes "x")))
       ≡ codes "HD t30\r\n"
   -- `T0` is for ever.
-  never_by_t_0 : reply_on (shard 1) (line (codes "mg a T0 t\r")) (there (record (item (codes "x")) { expiry = At 1010 }))
+  never_by_t_0 : reply_on (shard 1) (line (codes "mg a T0 t\r"))
+      (there (record (item (codes "x")) { expiry = At 1010 }))
       ≡ codes "HD t-1\r\n"
   -- `T-1` leaves no second, and this hit is still shown.
   dead_by_t_below_0 : reply_on (shard 1) (line (codes "mg a t T-1 v\r")) (there (item (codes "x")))
       ≡ codes "VA 1 t0\r\nx\r\n"
   -- `R` looks at the seconds left before `T`.
-  recache_by_the_time_before : reply_on (shard 1) (line (codes "mg a T100 R30 t\r")) (there (record (item (codes "x")) { expiry = At 1010 }))
+  recache_by_the_time_before : reply_on (shard 1) (line (codes "mg a T100 R30 t\r"))
+      (there (record (item (codes "x")) { expiry = At 1010 }))
       ≡ codes "HD t100 W\r\n"
   -- As many seconds left as `R` names are not fewer,
-  recache_of_equal_seconds : reply_on (shard 1) (line (codes "mg a R30\r")) (there (record (item (codes "x")) { expiry = At 1030 }))
+  recache_of_equal_seconds : reply_on (shard 1) (line (codes "mg a R30\r"))
+      (there (record (item (codes "x")) { expiry = At 1030 }))
       ≡ codes "HD\r\n"
   -- and one less is.
-  recache_of_fewer_seconds : reply_on (shard 1) (line (codes "mg a R31\r")) (there (record (item (codes "x")) { expiry = At 1030 }))
+  recache_of_fewer_seconds : reply_on (shard 1) (line (codes "mg a R31\r"))
+      (there (record (item (codes "x")) { expiry = At 1030 }))
       ≡ codes "HD W\r\n"
   -- A later client sees that another one was asked to recompute.
   someone_was_told : reply_on (shard 1) (line (codes "mg a\r")) (there (record (item (codes "x")) { sent = true }))
@@ -257,16 +311,19 @@ record Times : Type 0 where
   made_by_a_get : reply_on (shard 0) (line (codes "mg a N30 T99 R50 t h l f s c v\r")) None
       ≡ codes "VA 0 t30 h0 l0 f0 s0 c1 W\r\n\r\n"
   -- The next client sees that another one was asked.
-  made_before : reply_on (shard 1) (line (codes "mg a N60 t\r")) (there (record (item []) { expiry = At 1030; sent = true }))
+  made_before : reply_on (shard 1) (line (codes "mg a N60 t\r"))
+      (there (record (item []) { expiry = At 1030; sent = true }))
       ≡ codes "HD t30 Z\r\n"
   -- The first client to see a stale item is asked to recompute it,
   stale_and_told : reply_on (shard 2) (line (codes "mg a v\r")) (there (record (item (codes "6")) { stale = true }))
       ≡ codes "VA 1 W X\r\n6\r\n"
   -- the second one is not.
-  stale_and_not_told : reply_on (shard 2) (line (codes "mg a\r")) (there (record (item (codes "6")) { stale = true; sent = true }))
+  stale_and_not_told : reply_on (shard 2) (line (codes "mg a\r"))
+      (there (record (item (codes "6")) { stale = true; sent = true }))
       ≡ codes "HD X Z\r\n"
   -- ms in append ignores `F` and `T`; `s` is the size that is stored.
-  appended_by_ms : reply_on (shard 1) (block (codes "ms a 1 MA F9 T99 s c\r") (codes "y\r\n")) (there (record (item (codes "x")) { flags = 7; expiry = At 1030 }))
+  appended_by_ms : reply_on (shard 1) (block (codes "ms a 1 MA F9 T99 s c\r") (codes "y\r\n"))
+      (there (record (item (codes "x")) { flags = 7; expiry = At 1030 }))
       ≡ codes "HD s2 c3\r\n"
 
 times_are : Times
@@ -315,23 +372,37 @@ numbers_are = assumption refl
 -- What the shard holds after them
 record Shards : Type 0 where
   -- A refused add makes its item the most recently used one,
-  refused_add_is_a_use : outcomes_on (shard 1) (block (codes "add a 0 0 1\r") (codes "y\r\n")) (there (item (codes "x")))
+  refused_add_is_a_use : outcomes_on (shard 1) (block (codes "add a 0 0 1\r") (codes "y\r\n"))
+      (there (item (codes "x")))
       ≡ (NotStored, first (shard 1) (codes "a") (item (codes "x"))) ∷ []
   -- another refusal does not.
-  refused_cas_is_no_use : outcomes_on (shard 1) (block (codes "cas a 0 0 1 99\r") (codes "y\r\n")) (there (item (codes "x")))
+  refused_cas_is_no_use : outcomes_on (shard 1) (block (codes "cas a 0 0 1 99\r") (codes "y\r\n"))
+      (there (item (codes "x")))
       ≡ (Exists, shard 1) ∷ []
   -- touch is a use, and leaves what was fetched,
-  touch_keeps_fetched : outcomes_on (shard 1) (line (codes "touch a 30\r")) (there (record (item (codes "x")) { fetched = true }))
+  touch_keeps_fetched : outcomes_on (shard 1) (line (codes "touch a 30\r"))
+      (there (record (item (codes "x")) { fetched = true }))
       ≡ (Touched, first (shard 1) (codes "a") (record (item (codes "x")) { fetched = true; expiry = At 1030 })) ∷ []
   -- and so does incr, which leaves the marks too;
-  incr_keeps_fetched_and_stale : outcomes_on (shard 2) (line (codes "incr a 1\r")) (there (record (item (codes "5")) { fetched = true; stale = true; sent = true }))
-      ≡ (Number 6, entered (with_given (shard 2)) None (codes "a") (record (item (codes "6")) { unique = 5; fetched = true; stale = true; sent = true })) ∷ []
+  incr_keeps_fetched_and_stale : outcomes_on (shard 2) (line (codes "incr a 1\r"))
+      (there (record (item (codes "5")) { fetched = true; stale = true; sent = true }))
+      ≡ (
+        Number 6,
+        entered (with_given (shard 2)) None (codes "a")
+            (record (item (codes "6")) { unique = 5; fetched = true; stale = true; sent = true }),
+      ) ∷ []
   -- what append has made was not fetched yet;
-  append_clears_fetched : outcomes_on (shard 1) (block (codes "append a 9 9 1\r") (codes "y\r\n")) (there (record (item (codes "x")) { flags = 7; fetched = true }))
-      ≡ (Stored, entered (with_given (shard 1)) None (codes "a") (record (item (codes "xy")) { unique = 3; flags = 7 })) ∷ []
+  append_clears_fetched : outcomes_on (shard 1) (block (codes "append a 9 9 1\r") (codes "y\r\n"))
+      (there (record (item (codes "x")) { flags = 7; fetched = true }))
+      ≡ (Stored, entered (with_given (shard 1)) None (codes "a") (record (item (codes "xy")) { unique = 3; flags = 7 }))
+      ∷ []
   -- gat fetches, and sets the expiry.
   a_get_and_touch_fetches : outcomes_on (shard 1) (line (codes "gat 30 a\r")) (there (item (codes "x")))
-      ≡ (Hit 0 1 (codes "x"), first (shard 1) (codes "a") (record (item (codes "x")) { fetched = true; expiry = At 1030 })) ∷ []
+      ≡ (
+        Hit 0 1 (codes "x"),
+        first (shard 1) (codes "a")
+            (record (item (codes "x")) { fetched = true; expiry = At 1030 }),
+      ) ∷ []
 
 shards_are : Shards
 unfolding computing

@@ -15,7 +15,7 @@ use Rattle.mc_item.specs.declared.op.Op.{Op}
 use Rattle.mc_item.specs.declared.op.Op.TheVariants as op
 use Rattle.mc_item.specs.Expiry.{expiry_of}
 use Rattle.mc_item.specs.Kind.{key_of}
-use Rattle.mc_item.specs.Tally.{no_counts}
+use Rattle.mc_item.specs.OpStats.{no_counts}
 use Rattle.mc_command.specs.Rules.{own}
 use Rattle.mc_command.specs.declared.rules.Profile.TheVariants.{Own}
 use Rattle.mc_reader.specs.Spelling.{line_says, block_entry, skip_entry}
@@ -24,7 +24,8 @@ use Rattle.mc_model.specs.Alone.{alone}
 use Rattle.mc_split.specs.Pieces.{pieces_of}
 use Rattle.mc_reply.specs.Text.{text_of}
 use Rattle.mc_store.specs.State.{State, Used}
-use Rattle.mc_store.specs.Step.{Outcome, fetch_step, store_step, counting, count_step, delete_step, touch_step, flush_step, coming, meta_get_step, meta_delete_step, stats_of}
+use Rattle.mc_store.specs.Step.{Outcome, fetch_step, store_step, counting, count_step, delete_step, touch_step}
+use Rattle.mc_store.specs.Step.{flush_step, coming, meta_get_step, meta_delete_step, stats_of}
 use Rattle.mc_reply.specs.Server.{no_server}
 
 -- a line without its line end, and the bytes behind it that belong to it
@@ -46,7 +47,18 @@ abbrev pub taken_at : ℕ → Sent → Taken
 taken_at moment sent = record { entry = spelled sent; moment = moment; server = no_server; given_up = false }
 
 abbrev pub row_sizes : Sizes
-row_sizes = record { profile = Own; seats = 1; shards = 2; bytes = 65536; ring = 64; value = DEFAULT_VALUE_LIMIT; line = DEFAULT_LINE_LIMIT; window = 256 }
+row_sizes =
+    record {
+      profile = Own;
+      seats = 1;
+      shards = 2;
+      bytes = 65536;
+      ring = 64;
+      value = DEFAULT_VALUE_LIMIT;
+      line = DEFAULT_LINE_LIMIT;
+      window = 256;
+      shutdown = false;
+    }
 
 -- the replies of a server of two empty shards, at this time
 abbrev pub replies : ℕ → List Sent → List ℕ
@@ -63,7 +75,7 @@ step_on state (op.Discard key) found = delete_step state key found
 step_on state (op.Touch key exptime) found = touch_step state key exptime found
 step_on state (op.Flush delay) found = (Done, flush_step state (coming (expiry_of delay state.time) state.time))
 step_on state op.Stats found = (answer.Stats (stats_of state), state)
-step_on state op.ResetStats found = (answer.Reset, record state { tally = no_counts; evicted = 0 })
+step_on state op.ResetStats found = (answer.Reset, record state { op_stats = no_counts; evicted = 0 })
 step_on state (op.MetaGet asked) found = meta_get_step state asked found
 step_on state (op.MetaStore asked) found = store_step state asked (λ done. MetaDone done) found
 step_on state (op.MetaDelete asked) found =

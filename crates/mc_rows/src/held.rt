@@ -3,11 +3,11 @@
 use crate::escape::unescape;
 use mc_conn::{Conn, Taken};
 use mc_reply::ServerStats;
-use mc_wire::{DEFAULT_LINE_LIMIT, DEFAULT_VALUE_LIMIT, GREATEST_VALUE_LIMIT, LEAST_VALUE_LIMIT};
+use mc_wire::{DEFAULT_LINE_LIMIT, DEFAULT_VALUE_LIMIT, MAX_VALUE_LIMIT, MIN_VALUE_LIMIT};
 use std::alloc::Global;
 
 /// The value limits to try.
-const LIMITS: [usize; 3] = [LEAST_VALUE_LIMIT, DEFAULT_VALUE_LIMIT, GREATEST_VALUE_LIMIT];
+const LIMITS: [usize; 3] = [MIN_VALUE_LIMIT, DEFAULT_VALUE_LIMIT, MAX_VALUE_LIMIT];
 
 /// A window that no row fills.
 const MANY: usize = 4_096;
@@ -65,7 +65,7 @@ struct LongBlock {
 const BLOCKS: [LongBlock; 4] = [
     LongBlock {
         text: b"set a 0 0 1024\r\n{1024*x}\r\n{65000*y}",
-        limit: LEAST_VALUE_LIMIT,
+        limit: MIN_VALUE_LIMIT,
         least: 1_024,
         most: 66_562,
     },
@@ -77,7 +77,7 @@ const BLOCKS: [LongBlock; 4] = [
     },
     LongBlock {
         text: b"set a 0 0 8388608\r\n{8388608*x}\r\n{65000*y}",
-        limit: GREATEST_VALUE_LIMIT,
+        limit: MAX_VALUE_LIMIT,
         least: 8_388_608,
         most: 8_454_146,
     },
@@ -99,7 +99,7 @@ struct Watched {
 impl Watched {
     /// A new connection; `None` if memory is refused.
     fn new(alloc: Global, limit: usize, window: usize) -> Option<Watched> {
-        let limit = limit.min(GREATEST_VALUE_LIMIT);
+        let limit = limit.min(MAX_VALUE_LIMIT);
         let conn = Conn::new(alloc, 2, limit, window.max(1)).ok()?;
         Some(Watched { conn, most: 0 })
     }

@@ -1,8 +1,8 @@
 //! A line in memory that is cut into pieces and may fail.
 ghost use Rattle.std.specs.Prelude.{◌≡◌, None, IsTrue};
 
-use mc_seat::{Line, LineFault};
-use mc_wire::{OutFault, Outlet};
+use mc_seat::{Transport, TransportError};
+use mc_wire::{Sink, SinkError};
 use std::alloc::Global;
 
 /// How a line is cut, and where it fails.
@@ -85,8 +85,8 @@ impl<'a> MemoryLine<'a> {
     }
 }
 
-impl Outlet for MemoryLine<'_> {
-    ghost use Rattle.mc_wire.specs.Outlet.{Untold};
+impl Sink for MemoryLine<'_> {
+    ghost use Rattle.mc_wire.specs.Sink.{Untold};
 
     ghost sight = { λ line.
         record {
@@ -97,25 +97,25 @@ impl Outlet for MemoryLine<'_> {
           failed = line.failed;
         } };
 
-    fn write(&mut self, bytes: &[u8]) -> Result<usize, OutFault> {
+    fn write(&mut self, bytes: &[u8]) -> Result<usize, SinkError> {
         if self.fails() {
-            return Err(OutFault);
+            return Err(SinkError);
         }
         let count = bytes.len().min(self.cutting.portion.max(1));
         let (front, _) = bytes.split_at(count);
         if self.output.extend_from_slice(front).is_err() {
             self.failed = true;
-            return Err(OutFault);
+            return Err(SinkError);
         }
         Ok(count)
     }
 }
 
-impl Line for MemoryLine<'_> {
-    fn read(&mut self, room: &mut [u8]) -> Result<usize, LineFault> {
+impl Transport for MemoryLine<'_> {
+    fn read(&mut self, room: &mut [u8]) -> Result<usize, TransportError> {
         if self.fails() {
             self.failed_reading = true;
-            return Err(LineFault);
+            return Err(TransportError);
         }
         let rest = self.input;
         let rest = rest.split_at(self.given.min(rest.len())).1;

@@ -12,10 +12,10 @@ mod row;
 use held::{blocks_held, is_bounded};
 use line::{Cutting, MemoryLine};
 use mc_command::Profile;
-use mc_seat::{Line, Served};
-use mc_server::{StillClock, serve_one};
-use mc_sizes::{DEFAULT_RING, GREATEST_BUDGET, LEAST_BUDGET, Sizes};
-use mc_wire::{DEFAULT_LINE_LIMIT, GREATEST_VALUE_LIMIT};
+use mc_seat::{Served, Transport};
+use mc_server::{FixedClock, serve_one};
+use mc_sizes::{DEFAULT_RING, MAX_BUDGET, MIN_BUDGET, Sizes};
+use mc_wire::{DEFAULT_LINE_LIMIT, MAX_VALUE_LIMIT};
 use row::{Row, split_at_tab};
 use std::alloc::Global;
 use std::io::Print;
@@ -54,15 +54,15 @@ const FAILURES: usize = 200;
 
 /// Serves a line by new shards, at the row's time and with this window; `None` if the server
 /// refuses.
-fn served<R: Wait + RandomSource, L: Line>(
+fn served<R: Wait + RandomSource, L: Transport>(
     rt: &R,
     alloc: Global,
     row: &Row,
     window: usize,
     line: &mut L,
 ) -> Option<Served> {
-    let is_budget = row.bytes >= LEAST_BUDGET && row.bytes <= GREATEST_BUDGET;
-    if !is_budget || row.value > GREATEST_VALUE_LIMIT {
+    let is_budget = row.bytes >= MIN_BUDGET && row.bytes <= MAX_BUDGET;
+    if !is_budget || row.value > MAX_VALUE_LIMIT {
         return None;
     }
     let sizes = Sizes {
@@ -74,8 +74,9 @@ fn served<R: Wait + RandomSource, L: Line>(
         value: row.value,
         line: DEFAULT_LINE_LIMIT,
         window: window.max(1),
+        shutdown: false,
     };
-    serve_one(rt, alloc, line, sizes, &StillClock(row.moment)).ok()
+    serve_one(rt, alloc, line, sizes, &FixedClock(row.moment)).ok()
 }
 
 /// Whether a line that is cut in this way, and doesn't fail, gets this output.

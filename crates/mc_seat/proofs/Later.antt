@@ -1,10 +1,11 @@
 -- Replies that were handed out and wait for their line: what is seen of the line once it took them.
-use Rattle.std.proofs.Common.{◌≡◌, ℕ, ◌-◌, ◌<◌, ◌≤◌, inl, inr, Bool, true, List, [], ◌++◌, length, take, drop, refl, sym, ap, subst, ◌∙◌, arith, append_assoc, append-nil}
+use Rattle.std.proofs.Common.{◌≡◌, ℕ, ◌-◌, ◌<◌, ◌≤◌, inl, inr, Bool, true, List, [], ◌++◌, length, take, drop, refl}
+use Rattle.std.proofs.Common.{sym, ap, subst, ◌∙◌, arith, append_assoc, append-nil}
 use Rattle.std.specs.List.{concat}
 use Rattle.std.proofs.lemmas.List.{take-append-drop, take_all}
 use Rattle.std.proofs.lemmas.List.Folds.{concat-append}
-use Rattle.mc_wire.specs.Outlet.{Listed, Sight, Trace, broke, sight_out, took, with_bytes}
-use Rattle.mc_wire.proofs.Outlets.{took-append}
+use Rattle.mc_wire.specs.Sink.{Listed, Sight, Trace, broke, sight_out, took, with_bytes}
+use Rattle.mc_wire.proofs.Sinks.{took-append}
 use Rattle.mc_ring.specs.Reply.{Shown}
 use Rattle.mc_conn.specs.declared.conn.Conn.{Conn}
 use Rattle.mc_conn.specs.Conn.{HandsOut, IsConn}
@@ -21,10 +22,13 @@ use Rattle.mc_reader.proofs.Fronts.{begin_more}
 -- of a line that has taken what it is said to have taken since it began
 pub grown_since : (begin now : Sight) (bytes : List ℕ) → now.taken ≡ with_bytes begin.taken bytes → HasGrown begin now
 grown_since begin now bytes taken =
-    let P : Trace → Type 0 = λ trace. bytes_told begin.taken ≤ bytes_told trace in subst P (sym taken) (told-grows begin.taken bytes)
+    let P : Trace → Type 0 = λ trace. bytes_told begin.taken ≤ bytes_told trace in
+    subst P (sym taken) (told-grows begin.taken bytes)
 
 -- what was handed out waits behind what waited
-pub hands_waiting : (told : Told) (count : ℕ) (new : Conn) (waited waits : List ℕ) (was is : Bool) (now : Sight) → HandsOut told count new (sight_out (Listed waited) was) (sight_out (Listed waits) is) → HandsOut told count new (took waited now) (took waits now)
+pub hands_waiting : (told : Told) (count : ℕ) (new : Conn) (waited waits : List ℕ) (was is : Bool) (now : Sight)
+    → HandsOut told count new (sight_out (Listed waited) was) (sight_out (Listed waits) is)
+    → HandsOut told count new (took waited now) (took waits now)
 hands_waiting told count new waited waits was is now out =
     let text = waiting_text told in
     let listed : Listed waits ≡ Listed (waited ++ text) = ap (λ (s : Sight). s.taken) out.written in
@@ -39,7 +43,8 @@ hands_waiting told count new waited waits was is now out =
     }
 
 -- that a line has failed changes nothing of how it is served
-serving_broke : (received : ℕ → List Shown) (begin now : Sight) (unread : List ℕ) (told : Told) → Serving received begin now unread told → Serving received begin (broke now) unread told
+serving_broke : (received : ℕ → List Shown) (begin now : Sight) (unread : List ℕ) (told : Told)
+    → Serving received begin now unread told → Serving received begin (broke now) unread told
 serving_broke received begin now unread told serving = record {
   read_is = serving.read_is;
   ended_is = serving.ended_is;
@@ -52,7 +57,9 @@ serving_broke received begin now unread told serving = record {
 }
 
 -- the line broke while replies waited: it took a beginning of those handed out
-pub breaks_waiting : (received : ℕ → List Shown) (begin now : Sight) (waits unread : List ℕ) (told : Told) (conn : Conn) → IsConn conn (record told { broken = true }) → Breaks begin now (all_texts told) → HasGrown begin now → Serving received begin (took waits now) unread told → IsServed received begin now told true conn
+pub breaks_waiting : (received : ℕ → List Shown) (begin now : Sight) (waits unread : List ℕ) (told : Told) (conn : Conn)
+    → IsConn conn (record told { broken = true }) → Breaks begin now (all_texts told) → HasGrown begin now
+    → Serving received begin (took waits now) unread told → IsServed received begin now told true conn
 breaks_waiting received begin now waits unread told conn is breaks grown serving =
     let sound = is_sound conn (record told { broken = true }) is in
     let counted = serving.counted in
@@ -75,7 +82,8 @@ breaks_waiting received begin now waits unread told conn is breaks grown serving
         writes = (
           drop count text ++ concat rest,
           sym (append_assoc (take count text) (drop count text) (concat rest))
-              ∙ (ap (λ t. t ++ concat rest) (take-append-drop count text) ∙ (sym (concat-append texts rest) ∙ ap concat (sym all))),
+              ∙ (ap (λ t. t ++ concat rest) (take-append-drop count text)
+              ∙ (sym (concat-append texts rest) ∙ ap concat (sym all))),
         );
         may = sound.may;
         finished = λ e. absurd cc;
@@ -84,21 +92,42 @@ breaks_waiting received begin now waits unread told conn is breaks grown serving
       reads = λ f. record {
         reads = serving.reads;
         reads_are = serving.reads_are;
-        each = rw (all, ← append-nil (commands_of told.taken)) (all_owed_later told.rules begin (commands_of told.taken) [] texts rest serving.reads (omega (arith, counted, commands-length told.taken)) (serving.owes_nothing f));
+        each =
+            rw (all, ← append-nil (commands_of told.taken))
+            (all_owed_later told.rules begin (commands_of told.taken) [] texts rest serving.reads
+            (omega (arith, counted, commands-length told.taken)) (serving.owes_nothing f));
       };
     }
 
 -- the line was given up while replies waited
-pub breaks_given_up : (received : ℕ → List Shown) (begin now : Sight) (waits unread : List ℕ) (told : Told) (conn : Conn) → IsConn conn (record told { broken = true }) → told.handed < length (all_texts told) → HasGrown begin now → Serving received begin (took waits now) unread told → IsServed received begin now told true conn
+pub breaks_given_up : (received : ℕ → List Shown) (begin now : Sight) (waits unread : List ℕ) (told : Told)
+    (conn : Conn) → IsConn conn (record told { broken = true }) → told.handed < length (all_texts told)
+    → HasGrown begin now → Serving received begin (took waits now) unread told
+    → IsServed received begin now told true conn
 breaks_given_up received begin now waits unread told conn is more grown serving =
-    breaks_waiting received begin now waits unread told conn is (inr (record { count = told.handed; more = more; rest = waits; owed = serving.taken_is })) grown serving
+    breaks_waiting received begin now waits unread told conn is
+    (inr (record { count = told.handed; more = more; rest = waits; owed = serving.taken_is })) grown serving
 
 -- the line failed while it took replies that waited
-pub breaks_flushing : (received : ℕ → List Shown) (begin old new : Sight) (waited waits unread : List ℕ) (told : Told) (conn : Conn) → IsConn conn (record (all_handed told) { broken = true }) → 0 < length waits → took waits new ≡ broke (took waited old) → HasGrown begin new → Serving received begin (took waited old) unread (all_handed told) → IsServed received begin new told true conn
+pub breaks_flushing : (received : ℕ → List Shown) (begin old new : Sight) (waited waits unread : List ℕ) (told : Told)
+    (conn : Conn) → IsConn conn (record (all_handed told) { broken = true }) → 0 < length waits → took waits new
+    ≡ broke (took waited old) → HasGrown begin new → Serving received begin (took waited old) unread (all_handed told)
+    → IsServed received begin new told true conn
 breaks_flushing received begin old new waited waits unread told conn is some fails grown serving =
     let P : Sight → Type 0 = λ now. Serving received begin now unread (all_handed told) in
     let failed : new.failed ≡ true = ap (λ (s : Sight). s.failed) fails in
-    let whole : concat (handed_texts (all_handed told)) ≡ concat (all_texts told) = ap concat (take_all (length (all_texts told)) (all_texts told) (omega arith)) in
-    let owed : with_bytes new.taken waits ≡ with_bytes begin.taken (concat (all_texts told)) = ap (λ (s : Sight). s.taken) fails ∙ (serving.taken_is ∙ ap (λ bytes. with_bytes begin.taken bytes) whole) in
-    let served = breaks_waiting received begin new waits unread (all_handed told) conn is (inl (failed, inr (record { rest = waits; some = some; owed = owed }))) grown (subst P (sym fails) (serving_broke received begin (took waited old) unread (all_handed told) serving)) in
-    record { handed = served.handed; conn_is = served.conn_is; over = served.over; rest = served.rest; story = served.story; reads = served.reads }
+    let whole : concat (handed_texts (all_handed told)) ≡ concat (all_texts told) =
+    ap concat (take_all (length (all_texts told)) (all_texts told) (omega arith)) in
+    let owed : with_bytes new.taken waits ≡ with_bytes begin.taken (concat (all_texts told)) =
+    ap (λ (s : Sight). s.taken) fails ∙ (serving.taken_is ∙ ap (λ bytes. with_bytes begin.taken bytes) whole) in
+    let served = breaks_waiting received begin new waits unread (all_handed told) conn is
+    (inl (failed, inr (record { rest = waits; some = some; owed = owed }))) grown
+    (subst P (sym fails) (serving_broke received begin (took waited old) unread (all_handed told) serving)) in
+    record {
+      handed = served.handed;
+      conn_is = served.conn_is;
+      over = served.over;
+      rest = served.rest;
+      story = served.story;
+      reads = served.reads;
+    }

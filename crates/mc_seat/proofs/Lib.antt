@@ -9,3 +9,4 @@ pub mod Serving
 pub mod More
 pub mod Traces
 mod RowsLazy
+pub mod Clerking

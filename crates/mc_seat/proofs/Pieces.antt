@@ -1,18 +1,21 @@
 -- The pieces that one write offers are a beginning of what waits.
-use Rattle.std.proofs.Common.{◌≡◌, ◌==◌, Bool, true, false, not, IsTrue, ℕ, zero, suc, ◌+◌, ◌-◌, ◌<◌, ◌≤◌, List, [], ◌∷◌, ◌++◌, length, length-append, take, drop, refl, sym, ap, ◌∙◌, arith, append_assoc, append-nil, slice_get, Some, Result, Ok, Err, IfOk}
+use Rattle.std.proofs.Common.{◌≡◌, ◌==◌, Bool, true, false, not, IsTrue, ℕ, zero, suc, ◌+◌, ◌-◌, ◌<◌, ◌≤◌, List, []}
+use Rattle.std.proofs.Common.{◌∷◌, ◌++◌, length, length-append, take, drop, refl, sym, ap, ◌∙◌, arith, append_assoc}
+use Rattle.std.proofs.Common.{append-nil, slice_get, Some, Result, Ok, Err, IfOk}
 use Rattle.std.proofs.lemmas.Bool.{eqb-false}
 use Rattle.std.proofs.lemmas.List.{take-append-le}
 use Rattle.std.proofs.Math.Seq.{drop-append-add}
 use Rattle.std.specs.List.{flat_map}
 use Rattle.std.specs.Io.Slices.{io_slice_bytes, io_slices_bytes}
 use Rattle.std.specs.declared.io.slices.IoSlice.{IoSlice}
-use Rattle.mc_wire.specs.Outlet.{Sight, took}
-use Rattle.mc_seat.specs.declared.unwritten.Chunk.{Chunk}
+use Rattle.mc_wire.specs.Sink.{Sight, took}
+use Rattle.mc_seat.specs.declared.write_buffer.Chunk.{Chunk}
 use Rattle.mc_seat.specs.Chunks.{bytes_of}
 use Rattle.mc_seat.specs.Later.{piece_behind}
 
 -- At the place of a chunk, the bytes of that chunk wait.
-pub piece_chunk : (chunks : List Chunk) (tail : List ℕ) (place : ℕ) (chunk : Chunk) → slice_get chunks place ≡ Some chunk → piece_behind chunks tail place ≡ bytes_of chunk
+pub piece_chunk : (chunks : List Chunk) (tail : List ℕ) (place : ℕ) (chunk : Chunk) → slice_get chunks place
+    ≡ Some chunk → piece_behind chunks tail place ≡ bytes_of chunk
 piece_chunk [] tail place chunk found = absurd cc
 piece_chunk (first ∷ chunks) tail zero chunk found = let same : first ≡ chunk = cc in ap bytes_of same
 piece_chunk (first ∷ chunks) tail (suc place) chunk found = piece_chunk chunks tail place chunk found
@@ -23,7 +26,8 @@ piece_tail [] tail = refl
 piece_tail (first ∷ chunks) tail = piece_tail chunks tail
 
 -- Behind the tail, nothing waits.
-pub piece_past : (chunks : List Chunk) (tail : List ℕ) (place : ℕ) → length chunks < place → piece_behind chunks tail place ≡ []
+pub piece_past : (chunks : List Chunk) (tail : List ℕ) (place : ℕ) → length chunks < place
+    → piece_behind chunks tail place ≡ []
 piece_past [] tail zero past = absurd (omega (arith, past))
 piece_past [] tail (suc place) past = refl
 piece_past (first ∷ chunks) tail zero past = absurd (omega (arith, past))
@@ -42,22 +46,28 @@ four a b c d rest =
     ∙ ap (λ xs. c ++ xs) (append_assoc d [] rest)))
 
 abbrev pub offered_front : List ℕ → List Chunk → List ℕ → List ℕ
-offered_front front chunks tail = front ++ (piece_behind chunks tail 0 ++ (piece_behind chunks tail 1 ++ (piece_behind chunks tail 2 ++ [])))
+offered_front front chunks tail =
+    front ++ (piece_behind chunks tail 0 ++ (piece_behind chunks tail 1 ++ (piece_behind chunks tail 2 ++ [])))
 
-begins : (front : List ℕ) (chunks : List Chunk) (tail : List ℕ) → Begins (front ++ (flat_map bytes_of chunks ++ tail)) (offered_front front chunks tail)
+begins : (front : List ℕ) (chunks : List Chunk) (tail : List ℕ)
+    → Begins (front ++ (flat_map bytes_of chunks ++ tail)) (offered_front front chunks tail)
 begins front [] tail = record {
   rest = [];
   all_is = four front tail [] [] [] ∙ ap (λ xs. front ++ xs) (append-nil tail);
 }
 begins front (a ∷ []) tail = record {
   rest = [];
-  all_is = four front (bytes_of a) tail [] [] ∙ ap (λ xs. front ++ xs) (ap (λ xs. bytes_of a ++ xs) (append-nil tail) ∙ ap (λ xs. xs ++ tail) (sym (append-nil (bytes_of a))));
+  all_is =
+      four front (bytes_of a) tail [] []
+      ∙ ap (λ xs. front ++ xs)
+      (ap (λ xs. bytes_of a ++ xs) (append-nil tail) ∙ ap (λ xs. xs ++ tail) (sym (append-nil (bytes_of a))));
 }
 begins front (a ∷ b ∷ []) tail = record {
   rest = [];
   all_is = four front (bytes_of a) (bytes_of b) tail [] ∙ ap (λ xs. front ++ xs) (
       ap (λ xs. bytes_of a ++ (bytes_of b ++ xs)) (append-nil tail)
-      ∙ (sym (append_assoc (bytes_of a) (bytes_of b) tail) ∙ ap (λ xs. (bytes_of a ++ xs) ++ tail) (sym (append-nil (bytes_of b)))));
+      ∙ (sym (append_assoc (bytes_of a) (bytes_of b) tail)
+      ∙ ap (λ xs. (bytes_of a ++ xs) ++ tail) (sym (append-nil (bytes_of b)))));
 }
 begins front (a ∷ b ∷ c ∷ chunks) tail =
     let later = flat_map bytes_of chunks in
@@ -81,19 +91,30 @@ first_of all offered count begin within = record {
 }
 
 -- the first bytes of the buffers that one write offers
-pub first_offered : (front : List ℕ) (chunks : List Chunk) (tail : List ℕ) (one two three four : IoSlice) → io_slice_bytes one ≡ front → io_slice_bytes two ≡ piece_behind chunks tail 0 → io_slice_bytes three ≡ piece_behind chunks tail 1 → io_slice_bytes four ≡ piece_behind chunks tail 2 → (count : ℕ) → count ≤ length (io_slices_bytes (one ∷ two ∷ three ∷ four ∷ [])) → AreFirst (front ++ (flat_map bytes_of chunks ++ tail)) (io_slices_bytes (one ∷ two ∷ three ∷ four ∷ [])) count
+pub first_offered : (front : List ℕ) (chunks : List Chunk) (tail : List ℕ) (one two three four : IoSlice)
+    → io_slice_bytes one ≡ front → io_slice_bytes two ≡ piece_behind chunks tail 0 → io_slice_bytes three
+    ≡ piece_behind chunks tail 1 → io_slice_bytes four ≡ piece_behind chunks tail 2 → (count : ℕ)
+    → count ≤ length (io_slices_bytes (one ∷ two ∷ three ∷ four ∷ []))
+    → AreFirst (front ++ (flat_map bytes_of chunks ++ tail)) (io_slices_bytes (one ∷ two ∷ three ∷ four ∷ [])) count
 first_offered front chunks tail one two three four is_one is_two is_three is_four count within =
     let offered : io_slices_bytes (one ∷ two ∷ three ∷ four ∷ []) ≡ offered_front front chunks tail = cc in
-    first_of (front ++ (flat_map bytes_of chunks ++ tail)) (io_slices_bytes (one ∷ two ∷ three ∷ four ∷ [])) count (rw offered (begins front chunks tail)) within
+    first_of (front ++ (flat_map bytes_of chunks ++ tail)) (io_slices_bytes (one ∷ two ∷ three ∷ four ∷ [])) count
+    (rw offered (begins front chunks tail)) within
 
 -- A write that takes no more than it is offered takes no more than waits in all.
-pub offer_within : {E : Type 0} (result : Result ℕ E) (all offered : List ℕ) → ((count : ℕ) → count ≤ length offered → AreFirst all offered count) → IfOk result (λ count. count ≤ length offered) → IfOk result (λ count. count ≤ length all)
+pub offer_within : {E : Type 0} (result : Result ℕ E) (all offered : List ℕ)
+    → ((count : ℕ) → count ≤ length offered → AreFirst all offered count)
+    → IfOk result (λ count. count ≤ length offered) → IfOk result (λ count. count ≤ length all)
 offer_within (Ok count) all offered first within = (first count within).within
 offer_within (Err fault) all offered first within = within
 
 -- A write that takes a beginning of what it is offered takes that beginning of all that waits.
-pub offer_ok : {E : Type 0} (result : Result ℕ E) (all offered : List ℕ) (old new : Sight) → ((count : ℕ) → count ≤ length offered → AreFirst all offered count) → IfOk result (λ count. count ≤ length offered) → IfOk result (λ count. new ≡ took (take count offered) old) → IfOk result (λ count. new ≡ took (take count all) old)
-offer_ok (Ok count) all offered old new first within wrote = wrote ∙ ap (λ bytes. took bytes old) (first count within).same
+pub offer_ok : {E : Type 0} (result : Result ℕ E) (all offered : List ℕ) (old new : Sight)
+    → ((count : ℕ) → count ≤ length offered → AreFirst all offered count)
+    → IfOk result (λ count. count ≤ length offered) → IfOk result (λ count. new ≡ took (take count offered) old)
+    → IfOk result (λ count. new ≡ took (take count all) old)
+offer_ok (Ok count) all offered old new first within wrote =
+    wrote ∙ ap (λ bytes. took bytes old) (first count within).same
 offer_ok (Err fault) all offered old new first within wrote = wrote
 
 -- what is left to pass once the rest of the front was passed
@@ -102,7 +123,8 @@ pub record PassesOn (front after : List ℕ) (count left : ℕ) : Type 0 where
   pub same : drop left after ≡ drop count (front ++ after)
 
 -- To pass more bytes than the front has is to pass the rest of them in what stands behind the front.
-pub passes_on : (front after : List ℕ) (count : ℕ) → length front < count → count ≤ length (front ++ after) → PassesOn front after count (count - length front)
+pub passes_on : (front after : List ℕ) (count : ℕ) → length front < count → count ≤ length (front ++ after)
+    → PassesOn front after count (count - length front)
 passes_on front after count more within =
     let left = count - length front in
     let count_is : length front + left ≡ count = omega (arith, more) in
@@ -112,7 +134,8 @@ passes_on front after count more within =
     }
 
 -- Where what is left of the front isn't empty, something waits.
-pub some_waits : (rest offered behind : List ℕ) → offered ≡ rest → false ≡ (length offered == 0) → 0 < length (rest ++ behind)
+pub some_waits : (rest offered behind : List ℕ) → offered ≡ rest → false ≡ (length offered == 0)
+    → 0 < length (rest ++ behind)
 some_waits rest offered behind same some =
     let apart = eqb-false (length offered) 0 (sym some) in
     omega (arith, apart, ap length same, length-append rest behind)

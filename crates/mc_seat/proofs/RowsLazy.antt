@@ -1,8 +1,9 @@
 -- A server that reports a new line broken, unread and unanswered, is explained by no log.
-use Rattle.std.proofs.Common.{◌≡◌, ℕ, inl, inr, Bool, true, false, List, [], ◌∷◌, ◌++◌, length, length-append, map, Some, refl, ap, ◌∙◌, arith}
+use Rattle.std.proofs.Common.{◌≡◌, ℕ, inl, inr, Bool, true, false, List, [], ◌∷◌, ◌++◌, length, length-append, map}
+use Rattle.std.proofs.Common.{Some, refl, ap, ◌∙◌, arith}
 use Rattle.std.proofs.lemmas.List.{length-map, nil_from_length}
 use Rattle.std.specs.List.{concat}
-use Rattle.mc_wire.specs.Outlet.{Listed, Read, Sight}
+use Rattle.mc_wire.specs.Sink.{Listed, Read, Sight}
 use Rattle.mc_sizes.specs.declared.sizes.Sizes.{Sizes}
 use Rattle.mc_model.specs.Log.{Entry}
 use Rattle.mc_conn.specs.History.{text_done}
@@ -16,7 +17,8 @@ fresh failed = record { given = Listed []; ended = false; reads = Some []; taken
 unread : (failed : Bool) → FailsAtRead (fresh false) (fresh failed) → ⊥
 unread failed read =
     let mark : Read = record { given = Listed []; taken = Listed [] } in
-    let all : [] ≡ read.before ++ mark ∷ [] = (let e : Some [] ≡ Some (read.before ++ mark ∷ []) = read.reads_are in cc) in
+    let all : [] ≡ read.before ++ mark ∷ [] =
+    (let e : Some [] ≡ Some (read.before ++ mark ∷ []) = read.reads_are in cc) in
     omega (arith, ap length all, length-append read.before (mark ∷ []))
 
 unwritten : (failed : Bool) (texts : List (List ℕ)) → texts ≡ [] → FailsAtWrite (fresh false) (fresh failed) texts → ⊥
@@ -27,12 +29,15 @@ unwritten failed texts none write =
     omega (arith, some, ap length (all ∙ ap concat none))
 
 no_cause : (failed : Bool) (texts : List (List ℕ)) → texts ≡ [] → Breaks (fresh false) (fresh failed) texts → ⊥
-no_cause failed texts none (inl own) = elim own.1 [ inl read ↦ unread failed read | inr write ↦ unwritten failed texts none write ]
+no_cause failed texts none (inl own) =
+    elim own.1 [ inl read ↦ unread failed read | inr write ↦ unwritten failed texts none write ]
 no_cause failed texts none (inr up) = let more = up.more in omega (arith, more, ap length none)
 
 pub refused : (sizes : Sizes) (may_answer : ℕ → Type 0) (log : List Entry) (failed : Bool)
-    → ExplainsLine sizes may_answer log 0 (record { begin = fresh false; now = fresh failed; commands = 0; broke = true }) → ⊥
+    → ExplainsLine sizes may_answer log 0
+    (record { begin = fresh false; now = fresh failed; commands = 0; broke = true }) → ⊥
 refused sizes may_answer log failed explains =
     let counted = explains.counted in
-    let none : map text_done explains.history ≡ [] = nil_from_length _ (omega (arith, counted, length-map explains.history text_done)) in
+    let none : map text_done explains.history ≡ [] =
+    nil_from_length _ (omega (arith, counted, length-map explains.history text_done)) in
     no_cause failed _ none (explains.story.breaks refl)

@@ -1,28 +1,29 @@
 -- A line is served step by step, whatever its shards sent.
-use Rattle.std.proofs.Common.{◌≡◌, ℕ, ◌+◌, ◌-◌, ◌<◌, ◌≤◌, ◌^◌, min, Bool, List, [], ◌∷◌, ◌++◌, length, refl, sym, ap, subst, ◌∙◌, arith, append_assoc, append-nil, length-append}
+use Rattle.std.proofs.Common.{◌≡◌, ℕ, ◌+◌, ◌-◌, ◌<◌, ◌≤◌, ◌^◌, min, Bool, List, [], ◌∷◌, ◌++◌, length, refl, sym, ap}
+use Rattle.std.proofs.Common.{subst, ◌∙◌, arith, append_assoc, append-nil, length-append}
 use Rattle.std.specs.List.{slice_get}
 use Rattle.std.proofs.lemmas.List.{length-map}
-use Rattle.mc_wire.specs.Outlet.{Listed, Sight, sight_out, took}
-use Rattle.mc_wire.proofs.Outlets.{took-nil}
+use Rattle.mc_wire.specs.Sink.{Listed, Sight, sight_out, took}
+use Rattle.mc_wire.proofs.Sinks.{took-nil}
 use Rattle.mc_reply.specs.declared.ticket.Ticket.{Ticket}
 use Rattle.mc_ring.specs.Reply.{Shown}
 use Rattle.mc_conn.specs.declared.conn.Conn.{Conn}
 use Rattle.mc_conn.specs.declared.conn.Taken.{Taken as Took}
 use Rattle.mc_conn.specs.declared.conn.Taken.TheVariants as took
 use Rattle.mc_conn.specs.Conn.{HandsOut, IsConn, TakeSays, TakesCommand}
-use Rattle.mc_conn.specs.Due.{due, lane, pieces_from}
+use Rattle.mc_conn.specs.Due.{due, channel, pieces_from}
 use Rattle.mc_conn.specs.Fits.{KeysFit}
 use Rattle.mc_conn.specs.History.{Taken}
 use Rattle.mc_conn.specs.Told.{KeepsHanded, Told, all_texts, commands_of, told_nothing}
 use Rattle.mc_conn.proofs.Fitting.{due-append}
 use Rattle.mc_conn.proofs.Gets.{get_front}
 use Rattle.mc_conn.proofs.Staying.{is_sound, keeps_take}
-use Rattle.mc_seat.specs.declared.seat.Seat.{Seat}
-use Rattle.mc_seat.specs.declared.service.Service.{Service}
-use Rattle.mc_seat.specs.declared.unwritten.Unwritten.{Unwritten}
+use Rattle.mc_seat.specs.declared.read_side.ReadSide.{ReadSide}
+use Rattle.mc_seat.specs.declared.buffered_conn.BufferedConn.{BufferedConn}
+use Rattle.mc_seat.specs.declared.write_buffer.WriteBuffer.{WriteBuffer}
 use Rattle.mc_seat.specs.Later.{text_in}
 use Rattle.mc_seat.specs.Lines.{HasGrown}
-use Rattle.mc_seat.specs.Service.{HasStopped, IsNew, IsServing, ServesOn, TakesAll}
+use Rattle.mc_seat.specs.BufferedConn.{HasStopped, IsNew, IsServing, ServesOn, TakesAll}
 use Rattle.mc_seat.specs.internal.Stands.{Serving, handed_texts}
 use Rattle.mc_seat.specs.internal.Steps.{GoesOn, StopsAt, all_handed}
 use Rattle.mc_seat.proofs.Along.{serving_along, stops_along}
@@ -39,13 +40,17 @@ pub nothing_waits : (waits : List ℕ) (now : Sight) → waits ≡ [] → took w
 nothing_waits waits now none = ap (λ bytes. took bytes now) none ∙ took-nil now
 
 -- What is new serves a line that begins, of which nothing was taken and for which no reply was received.
-pub serving_first : (may_answer : ℕ → Type 0) (line : Sight) (shards : ℕ) (rules : Rules) (window : ℕ) (service : Service) → IsNew shards rules window service → IsServing (λ s. []) may_answer line line (told_nothing shards rules window) service
-serving_first may_answer line shards rules window service new = record {
+pub serving_first : (may_answer : ℕ → Type 0) (line : Sight) (shards : ℕ) (rules : Rules) (window : ℕ)
+    (buffered_conn : BufferedConn) → IsNew shards rules window buffered_conn
+    → IsServing (λ s. []) may_answer line line (told_nothing shards rules window) buffered_conn
+serving_first may_answer line shards rules window buffered_conn new = record {
   conn_is = new.conn_is;
   serving =
       let P : List ℕ → Type 0 = λ bytes. Serving (λ s. []) line line bytes (told_nothing shards rules window) in
-      let Q : Sight → Type 0 = λ seen. Serving (λ s. []) line seen service.seat.unread (told_nothing shards rules window) in
-      subst Q (sym (nothing_waits (text_in service.unwritten) line new.none_waits)) (subst P (sym new.none_read) (stands_first rules (KeysFit shards [] (λ s. [])) line));
+      let Q : Sight → Type 0 =
+      λ seen. Serving (λ s. []) line seen buffered_conn.seat.unread (told_nothing shards rules window) in
+      subst Q (sym (nothing_waits (text_in buffered_conn.unwritten) line new.none_waits))
+      (subst P (sym new.none_read) (stands_first rules (KeysFit shards [] (λ s. [])) line));
   grown = omega arith;
   moments = tt;
   unbroken = refl;
@@ -53,60 +58,103 @@ serving_first may_answer line shards rules window service new = record {
 }
 
 -- where the keys fit the pieces of more commands, they fit those of the first
-keys_before : (shards : ℕ) (taken : List Taken) (one : Taken) (received : ℕ → List Shown) → KeysFit shards (taken ++ one ∷ []) received → KeysFit shards taken received
+keys_before : (shards : ℕ) (taken : List Taken) (one : Taken) (received : ℕ → List Shown)
+    → KeysFit shards (taken ++ one ∷ []) received → KeysFit shards taken received
 keys_before shards taken one received keys s i p reply asked came =
-    let more = lane s (pieces_from shards (0 + length taken) (one ∷ [])) in
-    keys s i p reply (ap (λ ps. slice_get ps i) (due-append shards s taken (one ∷ [])) ∙ get_front (due shards s taken) more i p asked) came
+    let more = channel s (pieces_from shards (0 + length taken) (one ∷ [])) in
+    keys s i p reply (ap (λ ps. slice_get ps i) (due-append shards s taken (one ∷ []))
+    ∙ get_front (due shards s taken) more i p asked) came
 
 -- one more command was taken, at a moment that may be, and it is counted
-serving_take : {may_show : ServerStats → Type 0} (received : ℕ → List Shown) (may_answer : ℕ → Type 0) (begin now : Sight) (told : Told) (service : Service) (conn : Conn) (later moment : ℕ) (ticket : Ticket) → may_answer moment → (opens : TakesCommand told moment may_show ticket conn) → later ≡ min (ticket.0 + 1) (2 ^ 64 - 1) →
-    IsServing received may_answer begin now told service → IsServing received may_answer begin now (record told { taken = told.taken ++ opens.one ∷ [] }) (record service { conn = conn; commands = later })
-serving_take received may_answer begin now told service conn later moment ticket may opens later_is serves =
-    let seen = took (text_in service.unwritten) now in
-    let unread = service.seat.unread in
+serving_take : {may_show : ServerStats → Type 0} (received : ℕ → List Shown) (may_answer : ℕ → Type 0)
+    (begin now : Sight) (told : Told) (buffered_conn : BufferedConn) (conn : Conn) (later moment : ℕ) (ticket : Ticket)
+    → may_answer moment → (opens : TakesCommand told moment may_show ticket conn) → later
+    ≡ min (ticket.0 + 1) (2 ^ 64 - 1) →
+    IsServing received may_answer begin now told buffered_conn
+    → IsServing received may_answer begin now (record told { taken = told.taken ++ opens.one ∷ [] })
+    (record buffered_conn { conn = conn; commands = later })
+serving_take received may_answer begin now told buffered_conn conn later moment ticket may opens later_is serves =
+    let seen = took (text_in buffered_conn.unwritten) now in
+    let unread = buffered_conn.seat.unread in
     let taken : List Taken = told.taken ++ opens.one ∷ [] in
     let short = begins_length told.rules told.fed (commands_of taken) opens.next in
     let number = opens.number in
     record {
       conn_is = opens.now;
-      serving = serving_along told.rules received begin seen unread told.fed told.ended told.shards taken (handed_texts told) _ (sym (keeps_take service.conn told opens.one serves.conn_is).same)
-          (stands_take told.rules (KeysFit told.shards told.taken received) (KeysFit told.shards taken received) begin seen unread told.fed told.ended told.taken (handed_texts told) opens.one (keys_before told.shards told.taken opens.one received) serves.serving);
+      serving =
+          serving_along told.rules received begin seen unread told.fed told.ended told.shards taken (handed_texts told)
+          _ (sym (keeps_take buffered_conn.conn told opens.one serves.conn_is).same)
+          (stands_take told.rules (KeysFit told.shards told.taken received) (KeysFit told.shards taken received) begin
+          seen unread told.fed told.ended told.taken (handed_texts told) opens.one
+          (keys_before told.shards told.taken opens.one received) serves.serving);
       grown = serves.grown;
-      moments = all_push (λ (x : Taken). may_answer x.moment) told.taken opens.one serves.moments (rw opens.moment_is may);
+      moments =
+          all_push (λ (x : Taken). may_answer x.moment) told.taken opens.one serves.moments (rw opens.moment_is may);
       unbroken = serves.unbroken;
-      counted = omega (arith, later_is, number, short, length-map taken (λ (x : Taken). x.entry), length-append told.taken (opens.one ∷ []));
+      counted =
+          omega (
+            arith,
+            later_is,
+            number,
+            short,
+            length-map taken (λ (x : Taken). x.entry),
+            length-append told.taken (opens.one ∷ []),
+          );
     }
 
 -- some commands more were taken, in each round one
-pub record TakesSome (received : ℕ → List Shown) (may_answer : ℕ → Type 0) (begin now : Sight) (told : Told) (rounds : ℕ) (service : Service) : Type 0 where
+pub record TakesSome (received : ℕ → List Shown) (may_answer : ℕ → Type 0) (begin now : Sight) (told : Told)
+    (rounds : ℕ) (buffered_conn : BufferedConn) : Type 0 where
   pub taken : List Taken
   pub more : List Taken
   pub taken_is : taken ≡ told.taken ++ more
   pub rounds_are : rounds ≤ length more
-  pub serves : IsServing received may_answer begin now (record told { taken = taken }) service
+  pub serves : IsServing received may_answer begin now (record told { taken = taken }) buffered_conn
 
 -- Before any is taken it is served as it was.
-pub takes_none : (received : ℕ → List Shown) (may_answer : ℕ → Type 0) (begin now : Sight) (told : Told) (service : Service) → IsServing received may_answer begin now told service → TakesSome received may_answer begin now told 0 service
-takes_none received may_answer begin now told service serves = record { taken = told.taken; more = []; taken_is = sym (append-nil told.taken); rounds_are = omega arith; serves = serves }
+pub takes_none : (received : ℕ → List Shown) (may_answer : ℕ → Type 0) (begin now : Sight) (told : Told)
+    (buffered_conn : BufferedConn) → IsServing received may_answer begin now told buffered_conn
+    → TakesSome received may_answer begin now told 0 buffered_conn
+takes_none received may_answer begin now told buffered_conn serves =
+    record {
+      taken = told.taken;
+      more = [];
+      taken_is = sym (append-nil told.taken);
+      rounds_are = omega arith;
+      serves = serves;
+    }
 
 -- The next command was taken, at a moment that may be.
-pub takes_next : {may_show : ServerStats → Type 0} (received : ℕ → List Shown) (may_answer : ℕ → Type 0) (begin now : Sight) (told : Told) (rounds : ℕ) (service : Service) (conn : Conn) (later moment : ℕ) (ticket : Ticket) → may_answer moment → TakeSays service.conn moment may_show (took.Opened ticket) conn → later ≡ min (ticket.0 + 1) (2 ^ 64 - 1) →
-    TakesSome received may_answer begin now told rounds service → TakesSome received may_answer begin now told (rounds + 1) (record service { conn = conn; commands = later })
-takes_next {may_show} received may_answer begin now told rounds service conn later moment ticket may says later_is some =
-    let opens : TakesCommand (record told { taken = some.taken }) moment may_show ticket conn = says (record told { taken = some.taken }) some.serves.conn_is in
+pub takes_next : {may_show : ServerStats → Type 0} (received : ℕ → List Shown) (may_answer : ℕ → Type 0)
+    (begin now : Sight) (told : Told) (rounds : ℕ) (buffered_conn : BufferedConn) (conn : Conn) (later moment : ℕ)
+    (ticket : Ticket) → may_answer moment → TakeSays buffered_conn.conn moment may_show (took.Opened ticket) conn
+    → later ≡ min (ticket.0 + 1) (2 ^ 64 - 1) →
+    TakesSome received may_answer begin now told rounds buffered_conn
+    → TakesSome received may_answer begin now told (rounds + 1) (record buffered_conn { conn = conn; commands = later })
+takes_next {may_show} received may_answer begin now told rounds buffered_conn conn later moment ticket may says later_is
+    some =
+    let opens : TakesCommand (record told { taken = some.taken }) moment may_show ticket conn =
+    says (record told { taken = some.taken }) some.serves.conn_is in
     let so_far = some.rounds_are in
     record {
       taken = some.taken ++ opens.one ∷ [];
       more = some.more ++ opens.one ∷ [];
-      taken_is = ap (λ taken. taken ++ opens.one ∷ []) some.taken_is ∙ append_assoc told.taken some.more (opens.one ∷ []);
+      taken_is =
+          ap (λ taken. taken ++ opens.one ∷ []) some.taken_is ∙ append_assoc told.taken some.more (opens.one ∷ []);
       rounds_are = omega (arith, so_far, length-append some.more (opens.one ∷ []));
-      serves = serving_take received may_answer begin now (record told { taken = some.taken }) service conn later moment ticket may opens later_is some.serves;
+      serves =
+          serving_take received may_answer begin now (record told { taken = some.taken }) buffered_conn conn later
+          moment ticket may opens later_is some.serves;
     }
 
 -- the same, of the connection as it is now, for this reason
-stops_now : (received : ℕ → List Shown) (may_answer : ℕ → Type 0) (begin now : Sight) (told : Told) (service : Service) (conn : Conn) (stop : Took) (rounds : ℕ) (some : TakesSome received may_answer begin now told rounds service) → IsConn conn (record told { taken = some.taken }) → StopsAt stop (record told { taken = some.taken }) → (stop ≡ took.Full → length some.taken ≡ told.handed + told.window)
-    → TakesAll received may_answer begin now told (record service { conn = conn; stop = stop })
-stops_now received may_answer begin now told service conn stop rounds some is stops full = record {
+stops_now : (received : ℕ → List Shown) (may_answer : ℕ → Type 0) (begin now : Sight) (told : Told)
+    (buffered_conn : BufferedConn) (conn : Conn) (stop : Took) (rounds : ℕ)
+    (some : TakesSome received may_answer begin now told rounds buffered_conn)
+    → IsConn conn (record told { taken = some.taken }) → StopsAt stop (record told { taken = some.taken })
+    → (stop ≡ took.Full → length some.taken ≡ told.handed + told.window)
+    → TakesAll received may_answer begin now told (record buffered_conn { conn = conn; stop = stop })
+stops_now received may_answer begin now told buffered_conn conn stop rounds some is stops full = record {
   on = record {
     fed = told.fed;
     ended = told.ended;
@@ -115,7 +163,15 @@ stops_now received may_answer begin now told service conn stop rounds some is st
     more = some.more;
     taken_is = some.taken_is;
     stopped = record {
-      serves = record { conn_is = is; serving = some.serves.serving; grown = some.serves.grown; moments = some.serves.moments; unbroken = some.serves.unbroken; counted = some.serves.counted };
+      serves =
+          record {
+            conn_is = is;
+            serving = some.serves.serving;
+            grown = some.serves.grown;
+            moments = some.serves.moments;
+            unbroken = some.serves.unbroken;
+            counted = some.serves.counted;
+          };
       stops = stops;
     };
   };
@@ -123,68 +179,116 @@ stops_now received may_answer begin now told service conn stop rounds some is st
 }
 
 -- No further command was taken, and the call says why.
-pub takes_stop : (may_show : ServerStats → Type 0) (received : ℕ → List Shown) (may_answer : ℕ → Type 0) (begin now : Sight) (told : Told) (service : Service) (conn : Conn) (moment : ℕ) (stop : Took) → TakeSays service.conn moment may_show stop conn → ((ticket : Ticket) → stop ≡ took.Opened ticket → ⊥) → (rounds : ℕ) →
-    TakesSome received may_answer begin now told rounds service → TakesAll received may_answer begin now told (record service { conn = conn; stop = stop })
-takes_stop may_show received may_answer begin now told service conn moment (took.Opened ticket) says other rounds some = absurd (other ticket refl)
-takes_stop may_show received may_answer begin now told service conn moment took.NeedMore says other rounds some =
-    let needs = says (record told { taken = some.taken }) some.serves.conn_is in stops_now _ _ _ _ told _ conn took.NeedMore rounds some needs.now (needs.all, needs.comes) (λ e. absurd cc)
-takes_stop may_show received may_answer begin now told service conn moment took.Full says other rounds some =
-    let fills = says (record told { taken = some.taken }) some.serves.conn_is in let full = fills.full in stops_now _ _ _ _ told _ conn took.Full rounds some fills.now (omega (arith, full)) (λ e. full)
-takes_stop may_show received may_answer begin now told service conn moment took.Closed says other rounds some =
-    let over = says (record told { taken = some.taken }) some.serves.conn_is in stops_now _ _ _ _ told _ conn took.Closed rounds some over.1 over.0 (λ e. absurd cc)
+pub takes_stop : (may_show : ServerStats → Type 0) (received : ℕ → List Shown) (may_answer : ℕ → Type 0)
+    (begin now : Sight) (told : Told) (buffered_conn : BufferedConn) (conn : Conn) (moment : ℕ) (stop : Took)
+    → TakeSays buffered_conn.conn moment may_show stop conn → ((ticket : Ticket) → stop ≡ took.Opened ticket → ⊥)
+    → (rounds : ℕ) →
+    TakesSome received may_answer begin now told rounds buffered_conn
+    → TakesAll received may_answer begin now told (record buffered_conn { conn = conn; stop = stop })
+takes_stop may_show received may_answer begin now told buffered_conn conn moment (took.Opened ticket) says other rounds
+    some = absurd (other ticket refl)
+takes_stop may_show received may_answer begin now told buffered_conn conn moment took.NeedMore says other rounds some =
+    let needs = says (record told { taken = some.taken }) some.serves.conn_is in
+    stops_now _ _ _ _ told _ conn took.NeedMore rounds some needs.now (needs.all, needs.comes) (λ e. absurd cc)
+takes_stop may_show received may_answer begin now told buffered_conn conn moment took.Full says other rounds some =
+    let fills = says (record told { taken = some.taken }) some.serves.conn_is in let full = fills.full in
+    stops_now _ _ _ _ told _ conn took.Full rounds some fills.now (omega (arith, full)) (λ e. full)
+takes_stop may_show received may_answer begin now told buffered_conn conn moment took.Closed says other rounds some =
+    let over = says (record told { taken = some.taken }) some.serves.conn_is in
+    stops_now _ _ _ _ told _ conn took.Closed rounds some over.1 over.0 (λ e. absurd cc)
 
 -- No connection has so many commands.
-pub takes_full : (received : ℕ → List Shown) (may_answer : ℕ → Type 0) (begin now : Sight) (told : Told) (service : Service) (rounds : ℕ) → 2 ^ 63 < rounds → TakesSome received may_answer begin now told rounds service → ⊥
-takes_full received may_answer begin now told service rounds many some =
+pub takes_full : (received : ℕ → List Shown) (may_answer : ℕ → Type 0) (begin now : Sight) (told : Told)
+    (buffered_conn : BufferedConn) (rounds : ℕ) → 2 ^ 63 < rounds
+    → TakesSome received may_answer begin now told rounds buffered_conn → ⊥
+takes_full received may_answer begin now told buffered_conn rounds many some =
     let so_far = some.rounds_are in
-    let sound = is_sound service.conn (record told { taken = some.taken }) some.serves.conn_is in
+    let sound = is_sound buffered_conn.conn (record told { taken = some.taken }) some.serves.conn_is in
     let bound = begins_length told.rules told.fed (commands_of some.taken) sound.begin in
-    omega (arith, many, so_far, bound, commands-length some.taken, ap length some.taken_is, length-append told.taken some.more)
+    omega (
+      arith,
+      many,
+      so_far,
+      bound,
+      commands-length some.taken,
+      ap length some.taken_is,
+      length-append told.taken some.more,
+    )
 
 -- Pieces have left and replies were accepted: the line is served as before, by the replies that were received since.
-pub stops_carried : (received later : ℕ → List Shown) (may_answer : ℕ → Type 0) (begin now : Sight) (told : Told) (service : Service) (conn : Conn) (out : ℕ) (lent : Bool) (accepted : List Shown) → (KeysFit told.shards told.taken later → KeysFit told.shards told.taken received) →
-    IsConn conn (record told { out = out; lent = lent; accepted = accepted }) → KeepsHanded told (record told { out = out; lent = lent; accepted = accepted }) → HasStopped received may_answer begin now told service → HasStopped later may_answer begin now (record told { out = out; lent = lent; accepted = accepted }) (record service { conn = conn })
-stops_carried received later may_answer begin now told service conn out lent accepted weaker is keeps stopped =
+pub stops_carried : (received later : ℕ → List Shown) (may_answer : ℕ → Type 0) (begin now : Sight) (told : Told)
+    (buffered_conn : BufferedConn) (conn : Conn) (out : ℕ) (lent : Bool) (accepted : List Shown)
+    → (KeysFit told.shards told.taken later → KeysFit told.shards told.taken received) →
+    IsConn conn (record told { out = out; lent = lent; accepted = accepted })
+    → KeepsHanded told (record told { out = out; lent = lent; accepted = accepted })
+    → HasStopped received may_answer begin now told buffered_conn
+    → HasStopped later may_answer begin now (record told { out = out; lent = lent; accepted = accepted })
+    (record buffered_conn { conn = conn })
+stops_carried received later may_answer begin now told buffered_conn conn out lent accepted weaker is keeps stopped =
     let serves = stopped.serves in
-    let seen = took (text_in service.unwritten) now in
-    let unread = service.seat.unread in
-    let stands = stands_over {after = KeysFit told.shards told.taken later} weaker serves.serving.read_is serves.serving.ended_is serves.serving.open_is refl refl serves.serving in
+    let seen = took (text_in buffered_conn.unwritten) now in
+    let unread = buffered_conn.seat.unread in
+    let stands = stands_over {after = KeysFit told.shards told.taken later} weaker serves.serving.read_is
+    serves.serving.ended_is serves.serving.open_is refl refl serves.serving in
     record {
       serves = record {
         conn_is = is;
-        serving = serving_along told.rules later begin seen unread told.fed told.ended told.shards told.taken (handed_texts told) _ (sym keeps.same) stands;
+        serving =
+            serving_along told.rules later begin seen unread told.fed told.ended told.shards told.taken
+            (handed_texts told) _ (sym keeps.same) stands;
         grown = serves.grown;
         moments = serves.moments;
         unbroken = serves.unbroken;
         counted = serves.counted;
       };
-      stops = stops_along service.stop told out lent accepted told.handed stopped.stops;
+      stops = stops_along buffered_conn.stop told out lent accepted told.handed stopped.stops;
     }
 
 -- The replies were handed out: they wait behind those that waited.
-pub handed_out : (received : ℕ → List Shown) (may_answer : ℕ → Type 0) (begin now : Sight) (told : Told) (service : Service) (conn : Conn) (count : ℕ) (waits : List ℕ) (was is : Bool) → HandsOut told count conn (sight_out (Listed (text_in service.unwritten)) was) (sight_out (Listed waits) is) → HasStopped received may_answer begin now told service
-    → IsConn conn (all_handed told) × Serving received begin (took waits now) service.seat.unread (all_handed told)
-handed_out received may_answer begin now told service conn count waits was is out stopped =
-    let waited = text_in service.unwritten in
-    hands received begin (took waited now) (took waits now) service.seat.unread told service.conn conn count stopped.serves.conn_is (hands_waiting told count conn waited waits was is now out) stopped.serves.serving
+pub handed_out : (received : ℕ → List Shown) (may_answer : ℕ → Type 0) (begin now : Sight) (told : Told)
+    (buffered_conn : BufferedConn) (conn : Conn) (count : ℕ) (waits : List ℕ) (was is : Bool)
+    → HandsOut told count conn (sight_out (Listed (text_in buffered_conn.unwritten)) was) (sight_out (Listed waits) is)
+    → HasStopped received may_answer begin now told buffered_conn
+    → IsConn conn (all_handed told)
+    × Serving received begin (took waits now) buffered_conn.seat.unread (all_handed told)
+handed_out received may_answer begin now told buffered_conn conn count waits was is out stopped =
+    let waited = text_in buffered_conn.unwritten in
+    hands received begin (took waited now) (took waits now) buffered_conn.seat.unread told buffered_conn.conn conn count
+    stopped.serves.conn_is (hands_waiting told count conn waited waits was is now out) stopped.serves.serving
 
 -- What waits, waits in another room.
-pub stops_in : (received : ℕ → List Shown) (may_answer : ℕ → Type 0) (begin now : Sight) (told : Told) (service : Service) (other : Unwritten) → text_in other ≡ text_in service.unwritten → HasStopped received may_answer begin now told service → HasStopped received may_answer begin now told (record service { unwritten = other })
-stops_in received may_answer begin now told service other same stopped =
+pub stops_in : (received : ℕ → List Shown) (may_answer : ℕ → Type 0) (begin now : Sight) (told : Told)
+    (buffered_conn : BufferedConn) (other : WriteBuffer) → text_in other ≡ text_in buffered_conn.unwritten
+    → HasStopped received may_answer begin now told buffered_conn
+    → HasStopped received may_answer begin now told (record buffered_conn { unwritten = other })
+stops_in received may_answer begin now told buffered_conn other same stopped =
     let serves = stopped.serves in
-    let P : List ℕ → Type 0 = λ waits. Serving received begin (took waits now) service.seat.unread told in
+    let P : List ℕ → Type 0 = λ waits. Serving received begin (took waits now) buffered_conn.seat.unread told in
     record {
-      serves = record { conn_is = serves.conn_is; serving = subst P (sym same) serves.serving; grown = serves.grown; moments = serves.moments; unbroken = serves.unbroken; counted = serves.counted };
+      serves =
+          record {
+            conn_is = serves.conn_is;
+            serving = subst P (sym same) serves.serving;
+            grown = serves.grown;
+            moments = serves.moments;
+            unbroken = serves.unbroken;
+            counted = serves.counted;
+          };
       stops = stopped.stops;
     }
 
 -- And the line took some of them: it is as if it took the rest.
-pub stops_flushed : (received : ℕ → List Shown) (may_answer : ℕ → Type 0) (begin old now : Sight) (told : Told) (service : Service) (conn : Conn) (waits : List ℕ) (left : Unwritten) → IsConn conn (all_handed told) × Serving received begin (took waits old) service.seat.unread (all_handed told) → took (text_in left) now ≡ took waits old → HasGrown old now
-    → HasStopped received may_answer begin old told service → HasStopped received may_answer begin now (all_handed told) (record service { conn = conn; unwritten = left })
-stops_flushed received may_answer begin old now told service conn waits left handed same more stopped =
+pub stops_flushed : (received : ℕ → List Shown) (may_answer : ℕ → Type 0) (begin old now : Sight) (told : Told)
+    (buffered_conn : BufferedConn) (conn : Conn) (waits : List ℕ) (left : WriteBuffer) → IsConn conn (all_handed told)
+    × Serving received begin (took waits old) buffered_conn.seat.unread (all_handed told) → took (text_in left) now
+    ≡ took waits old → HasGrown old now
+    → HasStopped received may_answer begin old told buffered_conn
+    → HasStopped received may_answer begin now (all_handed told)
+    (record buffered_conn { conn = conn; unwritten = left })
+stops_flushed received may_answer begin old now told buffered_conn conn waits left handed same more stopped =
     let serves = stopped.serves in
     let grown = serves.grown in
-    let P : Sight → Type 0 = λ seen. Serving received begin seen service.seat.unread (all_handed told) in
+    let P : Sight → Type 0 = λ seen. Serving received begin seen buffered_conn.seat.unread (all_handed told) in
     record {
       serves = record {
         conn_is = handed.0;
@@ -194,36 +298,56 @@ stops_flushed received may_answer begin old now told service conn waits left han
         unbroken = serves.unbroken;
         counted = serves.counted;
       };
-      stops = stops_along service.stop told told.out told.lent told.accepted (length (all_texts told)) stopped.stops;
+      stops =
+          stops_along buffered_conn.stop told told.out told.lent told.accepted (length (all_texts told)) stopped.stops;
     }
 
 -- With the replies handed out and nothing read or taken it is served on.
-pub serves_handed : (received : ℕ → List Shown) (may_answer : ℕ → Type 0) (begin now : Sight) (told : Told) (service : Service) → HasStopped received may_answer begin now (all_handed told) service → ServesOn received may_answer begin now told service
-serves_handed received may_answer begin now told service stopped =
-    record { fed = told.fed; ended = told.ended; handed = length (all_texts told); taken = told.taken; more = []; taken_is = sym (append-nil told.taken); stopped = stopped }
+pub serves_handed : (received : ℕ → List Shown) (may_answer : ℕ → Type 0) (begin now : Sight) (told : Told)
+    (buffered_conn : BufferedConn) → HasStopped received may_answer begin now (all_handed told) buffered_conn
+    → ServesOn received may_answer begin now told buffered_conn
+serves_handed received may_answer begin now told buffered_conn stopped =
+    record {
+      fed = told.fed;
+      ended = told.ended;
+      handed = length (all_texts told);
+      taken = told.taken;
+      more = [];
+      taken_is = sym (append-nil told.taken);
+      stopped = stopped;
+    }
 
 -- what is known of a line that took all replies
-pub record IsWritten (received : ℕ → List Shown) (begin now : Sight) (told : Told) (service : Service) : Type 0 where
-  pub serving : Serving received begin now service.seat.unread (all_handed told)
-  pub stops : StopsAt service.stop (all_handed told)
+pub record IsWritten (received : ℕ → List Shown) (begin now : Sight) (told : Told) (buffered_conn : BufferedConn) : Type
+    0 where
+  pub serving : Serving received begin now buffered_conn.seat.unread (all_handed told)
+  pub stops : StopsAt buffered_conn.stop (all_handed told)
 
 -- Where none waits the line took all replies.
-pub written : (received : ℕ → List Shown) (may_answer : ℕ → Type 0) (begin now : Sight) (told : Told) (service : Service) → text_in service.unwritten ≡ [] → HasStopped received may_answer begin now (all_handed told) service → IsWritten received begin now told service
-written received may_answer begin now told service none stopped =
-    let P : Sight → Type 0 = λ seen. Serving received begin seen service.seat.unread (all_handed told) in
+pub written : (received : ℕ → List Shown) (may_answer : ℕ → Type 0) (begin now : Sight) (told : Told)
+    (buffered_conn : BufferedConn) → text_in buffered_conn.unwritten ≡ []
+    → HasStopped received may_answer begin now (all_handed told) buffered_conn
+    → IsWritten received begin now told buffered_conn
+written received may_answer begin now told buffered_conn none stopped =
+    let P : Sight → Type 0 = λ seen. Serving received begin seen buffered_conn.seat.unread (all_handed told) in
     record {
-      serving = subst P (nothing_waits (text_in service.unwritten) now none) stopped.serves.serving;
+      serving = subst P (nothing_waits (text_in buffered_conn.unwritten) now none) stopped.serves.serving;
       stops = stopped.stops;
     }
 
 -- The line was read, or asked in vain: it is served as before, and commands may be taken.
-pub serving_read : (received : ℕ → List Shown) (may_answer : ℕ → Type 0) (begin before now : Sight) (told : Told) (service : Service) (conn : Conn) (seat : Seat) → text_in service.unwritten ≡ [] → HasStopped received may_answer begin before (all_handed told) service →
-    (goes : GoesOn received begin now told conn seat.unread) → IsServing received may_answer begin now (record (all_handed told) { fed = goes.fed; ended = goes.ended }) (record service { conn = conn; seat = seat })
-serving_read received may_answer begin before now told service conn seat none stopped goes =
-    let P : Sight → Type 0 = λ seen. Serving received begin seen seat.unread (record (all_handed told) { fed = goes.fed; ended = goes.ended }) in
+pub serving_read : (received : ℕ → List Shown) (may_answer : ℕ → Type 0) (begin before now : Sight) (told : Told)
+    (buffered_conn : BufferedConn) (conn : Conn) (seat : ReadSide) → text_in buffered_conn.unwritten ≡ []
+    → HasStopped received may_answer begin before (all_handed told) buffered_conn →
+    (goes : GoesOn received begin now told conn seat.unread)
+    → IsServing received may_answer begin now (record (all_handed told) { fed = goes.fed; ended = goes.ended })
+    (record buffered_conn { conn = conn; seat = seat })
+serving_read received may_answer begin before now told buffered_conn conn seat none stopped goes =
+    let P : Sight → Type 0 =
+    λ seen. Serving received begin seen seat.unread (record (all_handed told) { fed = goes.fed; ended = goes.ended }) in
     record {
       conn_is = goes.conn_is;
-      serving = subst P (sym (nothing_waits (text_in service.unwritten) now none)) goes.serving;
+      serving = subst P (sym (nothing_waits (text_in buffered_conn.unwritten) now none)) goes.serving;
       grown = grown_since begin now _ goes.serving.taken_is;
       moments = stopped.serves.moments;
       unbroken = stopped.serves.unbroken;
@@ -231,7 +355,18 @@ serving_read received may_answer begin before now told service conn seat none st
     }
 
 -- And commands were taken, as far as there are any.
-pub serves_read : (received : ℕ → List Shown) (may_answer : ℕ → Type 0) (begin now : Sight) (told : Told) (fed : List ℕ) (ended : Bool) (service : Service) → TakesAll received may_answer begin now (record (all_handed told) { fed = fed; ended = ended }) service → ServesOn received may_answer begin now told service
-serves_read received may_answer begin now told fed ended service takes =
+pub serves_read : (received : ℕ → List Shown) (may_answer : ℕ → Type 0) (begin now : Sight) (told : Told) (fed : List ℕ)
+    (ended : Bool) (buffered_conn : BufferedConn)
+    → TakesAll received may_answer begin now (record (all_handed told) { fed = fed; ended = ended }) buffered_conn
+    → ServesOn received may_answer begin now told buffered_conn
+serves_read received may_answer begin now told fed ended buffered_conn takes =
     let on = takes.on in
-    record { fed = on.fed; ended = on.ended; handed = on.handed; taken = on.taken; more = on.more; taken_is = on.taken_is; stopped = on.stopped }
+    record {
+      fed = on.fed;
+      ended = on.ended;
+      handed = on.handed;
+      taken = on.taken;
+      more = on.more;
+      taken_is = on.taken_is;
+      stopped = on.stopped;
+    }

@@ -2,14 +2,15 @@
 use Rattle.std.proofs.Common.{◌≡◌, ℕ, ◌+◌, ◌-◌, ◌≤◌, List, ◌++◌, length, take, length-append, refl, sym, ap, ◌∙◌, arith}
 use Rattle.std.proofs.lemmas.List.{length-take, take_at}
 use Rattle.std.proofs.Math.Seq.{take-append-add}
-use Rattle.mc_wire.specs.Outlet.{Trace, Untold, Counted, Listed, with_bytes}
+use Rattle.mc_wire.specs.Sink.{Trace, Untold, Counted, Listed, with_bytes}
 use Rattle.mc_seat.specs.Lines.{told}
 
 -- a list that begins with another, where the end was cut off
 front_of : (now waits old text : List ℕ) → now ++ waits ≡ old ++ text → length old ≤ length now
     → now ≡ old ++ take (length text - length waits) text
 front_of now waits old text same grown =
-    let lengths : length now + length waits ≡ length old + length text = sym (length-append now waits) ∙ (ap length same ∙ length-append old text) in
+    let lengths : length now + length waits ≡ length old + length text = sym (length-append now waits)
+    ∙ (ap length same ∙ length-append old text) in
     let at : length now ≡ length old + (length text - length waits) = omega (arith, lengths, grown) in
     sym (take_at now waits (length now) refl)
     ∙ (ap (take (length now)) same

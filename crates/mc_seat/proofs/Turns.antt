@@ -1,11 +1,12 @@
 -- How a turn ends.
-use Rattle.std.proofs.Common.{◌≡◌, ℕ, Bool, true, false, ◌⊎◌, inl, inr, List, [], ◌∷◌, ◌++◌, ◌==◌, length, take, drop, IsTrue, refl, sym, ap, subst, ◌∙◌, arith, append_assoc, append-nil}
+use Rattle.std.proofs.Common.{◌≡◌, ℕ, Bool, true, false, ◌⊎◌, inl, inr, List, [], ◌∷◌, ◌++◌, ◌==◌, length, take, drop}
+use Rattle.std.proofs.Common.{IsTrue, refl, sym, ap, subst, ◌∙◌, arith, append_assoc, append-nil}
 use Rattle.std.specs.List.{concat}
 use Rattle.std.proofs.lemmas.Bool.{eqb-true}
 use Rattle.std.proofs.lemmas.List.{nil_from_length, take-append-drop, take_all}
 use Rattle.std.proofs.lemmas.List.Folds.{concat-append}
-use Rattle.mc_wire.specs.Outlet.{BreaksOff, Read, Sight, asked, broke, gave, with_bytes, with_reads}
-use Rattle.mc_wire.proofs.Outlets.{took-nil, with_bytes-append}
+use Rattle.mc_wire.specs.Sink.{BreaksOff, Read, Sight, asked, broke, gave, with_bytes, with_reads}
+use Rattle.mc_wire.proofs.Sinks.{took-nil, with_bytes-append}
 use Rattle.mc_ring.specs.Reply.{Shown}
 use Rattle.mc_reader.specs.Spelling.{AreCommands, is_closed}
 use Rattle.mc_conn.specs.declared.conn.Conn.{Conn}
@@ -24,14 +25,16 @@ handed_all : (told : Told) → handed_texts (all_handed told) ≡ all_texts told
 handed_all told = take_all (length (all_texts told)) (all_texts told) (omega arith)
 
 -- the replies whose turn has come were handed out
-pub hands : (received : ℕ → List Shown) (begin before now : Sight) (unread : List ℕ) (told : Told) (conn new : Conn) (count : ℕ) → IsConn conn told → HandsOut told count new before now → Serving received begin before unread told
+pub hands : (received : ℕ → List Shown) (begin before now : Sight) (unread : List ℕ) (told : Told) (conn new : Conn)
+    (count : ℕ) → IsConn conn told → HandsOut told count new before now → Serving received begin before unread told
     → IsConn new (all_handed told) × Serving received begin now unread (all_handed told)
 hands received begin before now unread told conn new count is out serving =
     let sound = is_sound conn told is in
     let counted = serving.counted in
     let texts = handed_texts told in
     let later = drop told.handed (all_texts told) in
-    let all : texts ++ later ≡ handed_texts (all_handed told) = take-append-drop told.handed (all_texts told) ∙ sym (handed_all told) in (
+    let all : texts ++ later ≡ handed_texts (all_handed told) = take-append-drop told.handed (all_texts told)
+    ∙ sym (handed_all told) in (
       rw (← out.all) out.now,
       record {
         read_is = ap (λ (s : Sight). s.given) out.written ∙ serving.read_is;
@@ -39,26 +42,34 @@ hands received begin before now unread told conn new count is out serving =
         open_is = λ e ended. serving.open_is e (sym (ap (λ (s : Sight). s.ended) out.written) ∙ ended);
         taken_is = ap (λ (s : Sight). s.taken) out.written
             ∙ (ap (λ t. with_bytes t (concat later)) serving.taken_is
-            ∙ (with_bytes-append begin.taken (concat texts) (concat later) ∙ ap (λ t. with_bytes begin.taken t) (sym (concat-append texts later) ∙ ap concat all)));
+            ∙ (with_bytes-append begin.taken (concat texts) (concat later)
+            ∙ ap (λ t. with_bytes begin.taken t) (sym (concat-append texts later) ∙ ap concat all)));
         counted = rw (handed_all told) sound.complete;
         reads = serving.reads;
         reads_are = ap (λ (s : Sight). s.reads) out.written ∙ serving.reads_are;
         owes_nothing = λ f.
-            rw (← all, ← append-nil (commands_of told.taken)) (all_owed_later told.rules begin (commands_of told.taken) [] texts later serving.reads (omega (arith, counted, commands-length told.taken)) (serving.owes_nothing f));
+            rw (← all, ← append-nil (commands_of told.taken))
+            (all_owed_later told.rules begin (commands_of told.taken) [] texts later serving.reads
+            (omega (arith, counted, commands-length told.taken)) (serving.owes_nothing f));
       },
     )
 
 -- the line has ended, or was closed
-pub ends : (received : ℕ → List Shown) (begin now : Sight) (unread : List ℕ) (told : Told) (conn : Conn) → IsConn conn (all_handed told) → told.broken ≡ false → IsOver told → Serving received begin now unread (all_handed told) → IsServed received begin now told false conn
+pub ends : (received : ℕ → List Shown) (begin now : Sight) (unread : List ℕ) (told : Told) (conn : Conn)
+    → IsConn conn (all_handed told) → told.broken ≡ false → IsOver told
+    → Serving received begin now unread (all_handed told) → IsServed received begin now told false conn
 ends received begin now unread told conn is whole over serving =
     let sound = is_sound conn (all_handed told) is in
     let stands = rw (handed_all told) at serving in
-    let closed : IsClosed told = elim over [ inl broken ↦ absurd (let bad : true ≡ false = sym broken ∙ whole in cc) | inr closed ↦ closed ] in
+    let closed : IsClosed told =
+    elim over [ inl broken ↦ absurd (let bad : true ≡ false = sym broken ∙ whole in cc) | inr closed ↦ closed ] in
     let all_taken : IsAllTaken told = elim closed [
-      | inl shut ↦ (let P : List ℕ → Type 0 = λ bytes. AreCommands told.rules bytes (commands_of told.taken) in subst P (append-nil told.fed) (closed_more told.rules told.fed [] (commands_of told.taken) shut sound.begin))
+      | inl shut ↦ (let P : List ℕ → Type 0 = λ bytes. AreCommands told.rules bytes (commands_of told.taken) in
+          subst P (append-nil told.fed) (closed_more told.rules told.fed [] (commands_of told.taken) shut sound.begin))
       | inr all ↦ all.1
     ] in
-    let read : AreCommands told.rules (told.fed ++ unread) (commands_of told.taken) × (IsTrue now.ended ⊎ IsTrue (is_closed (commands_of told.taken))) = elim closed [
+    let read : AreCommands told.rules (told.fed ++ unread) (commands_of told.taken)
+    × (IsTrue now.ended ⊎ IsTrue (is_closed (commands_of told.taken))) = elim closed [
       | inl shut ↦ (closed_more told.rules told.fed unread (commands_of told.taken) shut sound.begin, inr shut)
       | inr all ↦ let is = stands.ended_is all.0 in (rw (is.1, append-nil) all.1, inl is.0)
     ] in
@@ -82,7 +93,9 @@ ends received begin now unread told conn is whole over serving =
     }
 
 -- the line failed at a read
-breaks_asked : (received : ℕ → List Shown) (begin before now : Sight) (unread : List ℕ) (told : Told) (conn : Conn) → IsConn conn (record told { broken = true }) → BreaksOff (waiting_text told) before now → FailsAtRead begin now → Serving received begin before unread told → IsServed received begin now told true conn
+breaks_asked : (received : ℕ → List Shown) (begin before now : Sight) (unread : List ℕ) (told : Told) (conn : Conn)
+    → IsConn conn (record told { broken = true }) → BreaksOff (waiting_text told) before now → FailsAtRead begin now
+    → Serving received begin before unread told → IsServed received begin now told true conn
 breaks_asked received begin before now unread told conn is off fails serving =
     let sound = is_sound conn (record told { broken = true }) is in
     let counted = serving.counted in
@@ -99,12 +112,16 @@ breaks_asked received begin before now unread told conn is off fails serving =
         read = told.fed ++ unread;
         written = concat texts ++ take off.count waiting;
         read_is = ap (λ (s : Sight). s.given) off.sight ∙ serving.read_is;
-        written_is = ap (λ (s : Sight). s.taken) off.sight ∙ (ap (λ t. with_bytes t (take off.count waiting)) serving.taken_is ∙ with_bytes-append begin.taken (concat texts) (take off.count waiting));
+        written_is =
+            ap (λ (s : Sight). s.taken) off.sight
+            ∙ (ap (λ t. with_bytes t (take off.count waiting)) serving.taken_is
+            ∙ with_bytes-append begin.taken (concat texts) (take off.count waiting));
         covers = begin_more told.rules told.fed unread (commands_of told.taken) sound.begin;
         writes = (
           drop off.count waiting,
           append_assoc (concat texts) (take off.count waiting) (drop off.count waiting)
-              ∙ (ap (λ t. concat texts ++ t) (take-append-drop off.count waiting) ∙ (sym (concat-append texts rest) ∙ ap concat (sym all))),
+              ∙ (ap (λ t. concat texts ++ t) (take-append-drop off.count waiting)
+              ∙ (sym (concat-append texts rest) ∙ ap concat (sym all))),
         );
         may = sound.may;
         finished = λ e. absurd cc;
@@ -113,7 +130,10 @@ breaks_asked received begin before now unread told conn is off fails serving =
       reads = λ f. record {
         reads = serving.reads;
         reads_are = ap (λ (s : Sight). s.reads) off.sight ∙ serving.reads_are;
-        each = rw (all, ← append-nil (commands_of told.taken)) (all_owed_later told.rules begin (commands_of told.taken) [] texts rest serving.reads (omega (arith, counted, commands-length told.taken)) (serving.owes_nothing f));
+        each =
+            rw (all, ← append-nil (commands_of told.taken))
+            (all_owed_later told.rules begin (commands_of told.taken) [] texts rest serving.reads
+            (omega (arith, counted, commands-length told.taken)) (serving.owes_nothing f));
       };
     }
 
@@ -123,48 +143,85 @@ none_in bytes empty = nil_from_length bytes (eqb-true (length bytes) 0 empty)
 
 -- all that was read is fed, every command of it taken and answered: the line is asked for more
 asks : (received : ℕ → List Shown) (begin before : Sight) (unread : List ℕ) (told : Told) → IsAllTaken told
-    → (KeysFit told.shards told.taken received → length (all_texts told) ≡ length told.taken) → (length unread == 0) ≡ true → Serving received begin before unread (all_handed told) → Serving received begin (asked before) [] (all_handed told)
+    → (KeysFit told.shards told.taken received → length (all_texts told) ≡ length told.taken) → (length unread == 0)
+    ≡ true → Serving received begin before unread (all_handed told)
+    → Serving received begin (asked before) [] (all_handed told)
 asks received begin before unread told all complete empty serving =
-    stands_asked told.rules (KeysFit told.shards told.taken received) begin before told.fed told.ended told.taken (handed_texts (all_handed told)) all (λ f. ap length (handed_all told) ∙ complete f) (rw (none_in unread empty) at serving)
+    stands_asked told.rules (KeysFit told.shards told.taken received) begin before told.fed told.ended told.taken
+    (handed_texts (all_handed told)) all (λ f. ap length (handed_all told) ∙ complete f)
+    (rw (none_in unread empty) at serving)
 
 -- it was asked for more, and failed
-fails_at : (begin before now : Sight) (reads : List Read) → before.reads ≡ with_reads begin.reads reads → (before.ended ≡ true → begin.ended ≡ true) → now ≡ broke (asked before) → FailsAtRead begin now
+fails_at : (begin before now : Sight) (reads : List Read) → before.reads ≡ with_reads begin.reads reads
+    → (before.ended ≡ true → begin.ended ≡ true) → now ≡ broke (asked before) → FailsAtRead begin now
 fails_at begin before now reads reads_are open_is fails =
     let P : Sight → Type 0 = λ seen. FailsAtRead begin seen in
     let read : Read = record { given = before.given; taken = before.taken } in
-    subst P (sym fails) (record { before = reads; reads_are = ap (λ rs. with_reads rs (read ∷ [])) reads_are ∙ with_reads-append begin.reads reads (read ∷ []); open_is = open_is })
+    subst P (sym fails) (record {
+      before = reads;
+      reads_are = ap (λ rs. with_reads rs (read ∷ [])) reads_are ∙ with_reads-append begin.reads reads (read ∷ []);
+      open_is = open_is;
+    })
 
 -- the line failed at a read, once all replies were written
-pub breaks_read : (received : ℕ → List Shown) (begin before now : Sight) (unread : List ℕ) (told : Told) (conn : Conn) → IsConn conn (record (all_handed told) { broken = true }) → IsAllTaken told
-    → (KeysFit told.shards told.taken received → length (all_texts told) ≡ length told.taken) → told.ended ≡ false → now ≡ broke (asked before) → (length unread == 0) ≡ true → Serving received begin before unread (all_handed told) → IsServed received begin now told true conn
+pub breaks_read : (received : ℕ → List Shown) (begin before now : Sight) (unread : List ℕ) (told : Told) (conn : Conn)
+    → IsConn conn (record (all_handed told) { broken = true }) → IsAllTaken told
+    → (KeysFit told.shards told.taken received → length (all_texts told) ≡ length told.taken) → told.ended ≡ false → now
+    ≡ broke (asked before) → (length unread == 0) ≡ true → Serving received begin before unread (all_handed told)
+    → IsServed received begin now told true conn
 breaks_read received begin before now unread told conn is all complete open_is fails empty serving =
-    let off : BreaksOff (waiting_text (all_handed told)) (asked before) now = record { count = 0; within = omega arith; sight = fails ∙ ap broke (sym (took-nil (asked before))) } in
-    let served = breaks_asked received begin (asked before) now [] (all_handed told) conn is off (fails_at begin before now serving.reads serving.reads_are (serving.open_is open_is) fails) (asks received begin before unread told all complete empty serving) in
-    record { handed = served.handed; conn_is = served.conn_is; over = served.over; rest = served.rest; story = served.story; reads = served.reads }
+    let off : BreaksOff (waiting_text (all_handed told)) (asked before) now =
+    record { count = 0; within = omega arith; sight = fails ∙ ap broke (sym (took-nil (asked before))) } in
+    let served = breaks_asked received begin (asked before) now [] (all_handed told) conn is off
+    (fails_at begin before now serving.reads serving.reads_are (serving.open_is open_is) fails)
+    (asks received begin before unread told all complete empty serving) in
+    record {
+      handed = served.handed;
+      conn_is = served.conn_is;
+      over = served.over;
+      rest = served.rest;
+      story = served.story;
+      reads = served.reads;
+    }
 
 -- some of what was read is fed
-pub goes_feed : (received : ℕ → List Shown) (begin now : Sight) (unread : List ℕ) (told : Told) (count : ℕ) (conn : Conn) → told.ended ≡ false → IsConn conn (record (all_handed told) { fed = told.fed ++ take count unread }) → Serving received begin now unread (all_handed told) → GoesOn received begin now told conn (drop count unread)
+pub goes_feed : (received : ℕ → List Shown) (begin now : Sight) (unread : List ℕ) (told : Told) (count : ℕ)
+    (conn : Conn) → told.ended ≡ false → IsConn conn (record (all_handed told) { fed = told.fed ++ take count unread })
+    → Serving received begin now unread (all_handed told) → GoesOn received begin now told conn (drop count unread)
 goes_feed received begin now unread told count conn open_is is serving =
     let all : (told.fed ++ take count unread) ++ drop count unread ≡ told.fed ++ unread =
-    append_assoc told.fed (take count unread) (drop count unread) ∙ ap (λ u. told.fed ++ u) (take-append-drop count unread) in
+    append_assoc told.fed (take count unread) (drop count unread)
+    ∙ ap (λ u. told.fed ++ u) (take-append-drop count unread) in
     record {
       fed = told.fed ++ take count unread;
       ended = told.ended;
       conn_is = is;
-      serving = stands_over (λ f. f) (serving.read_is ∙ ap (λ u. with_bytes begin.given u) (sym all)) (λ e. absurd cc) serving.open_is refl refl serving;
+      serving =
+          stands_over (λ f. f) (serving.read_is ∙ ap (λ u. with_bytes begin.given u) (sym all)) (λ e. absurd cc)
+          serving.open_is refl refl serving;
     }
 
 -- the line gave more, or none at its end
-pub reads_more : (received : ℕ → List Shown) (begin before now : Sight) (unread more : List ℕ) (told : Told) (over : Bool) → IsAllTaken told → (KeysFit told.shards told.taken received → length (all_texts told) ≡ length told.taken)
-    → (over ≡ true → more ≡ []) → (over ≡ false → (length more == 0) ≡ false) → now ≡ gave more (asked before) → (length unread == 0) ≡ true → Serving received begin before unread (all_handed told) → Serving received begin now more (record (all_handed told) { ended = over })
+pub reads_more : (received : ℕ → List Shown) (begin before now : Sight) (unread more : List ℕ) (told : Told)
+    (over : Bool) → IsAllTaken told
+    → (KeysFit told.shards told.taken received → length (all_texts told) ≡ length told.taken)
+    → (over ≡ true → more ≡ []) → (over ≡ false → (length more == 0) ≡ false) → now ≡ gave more (asked before)
+    → (length unread == 0) ≡ true → Serving received begin before unread (all_handed told)
+    → Serving received begin now more (record (all_handed told) { ended = over })
 reads_more received begin before now unread more told over all complete none some gives empty serving =
     let after = asks received begin before unread told all complete empty serving in
-    let given : before.given ≡ with_bytes begin.given told.fed = after.read_is ∙ ap (λ u. with_bytes begin.given u) (append-nil told.fed) in
-    stands_over (λ f. f) (ap (λ (s : Sight). s.given) gives ∙ (ap (λ g. with_bytes g more) given ∙ with_bytes-append begin.given told.fed more))
+    let given : before.given ≡ with_bytes begin.given told.fed = after.read_is
+    ∙ ap (λ u. with_bytes begin.given u) (append-nil told.fed) in
+    stands_over (λ f. f) (ap (λ (s : Sight). s.given) gives
+    ∙ (ap (λ g. with_bytes g more) given ∙ with_bytes-append begin.given told.fed more))
     (λ e. (ap (λ (s : Sight). s.ended) gives ∙ ap (λ (xs : List ℕ). length xs == 0) (none e), none e))
     (λ e ended. absurd (let bad : true ≡ false = sym ended ∙ (ap (λ (s : Sight). s.ended) gives ∙ some e) in cc))
     (ap (λ (s : Sight). s.taken) gives) (ap (λ (s : Sight). s.reads) gives) after
 
 -- it gave none: its input is at its end
-pub goes_end : (received : ℕ → List Shown) (begin now : Sight) (left : List ℕ) (told : Told) (conn : Conn) → IsConn conn (record (all_handed told) { ended = true }) → Serving received begin now left (record (all_handed told) { ended = true }) → GoesOn received begin now told conn left
-goes_end received begin now left told conn is serving = record { fed = told.fed; ended = true; conn_is = is; serving = serving }
+pub goes_end : (received : ℕ → List Shown) (begin now : Sight) (left : List ℕ) (told : Told) (conn : Conn)
+    → IsConn conn (record (all_handed told) { ended = true })
+    → Serving received begin now left (record (all_handed told) { ended = true })
+    → GoesOn received begin now told conn left
+goes_end received begin now left told conn is serving =
+    record { fed = told.fed; ended = true; conn_is = is; serving = serving }

@@ -1,16 +1,16 @@
 -- What waits for a line to take it.
 use Rattle.std.specs.Prelude.{ℕ, zero, suc, ◌+◌, ◌<◌, vec_capacity, vec_len, List, [], ◌∷◌, ◌++◌, drop, length}
 use Rattle.std.specs.List.{flat_map}
-use Rattle.mc_seat.specs.declared.unwritten.Chunk.{Chunk}
-use Rattle.mc_seat.specs.declared.unwritten.Unwritten.{Unwritten}
+use Rattle.mc_seat.specs.declared.write_buffer.Chunk.{Chunk}
+use Rattle.mc_seat.specs.declared.write_buffer.WriteBuffer.{WriteBuffer}
 use Rattle.mc_seat.specs.Chunks.{bytes_of}
 
 -- what stands behind the front, and then the tail
-abbrev pub behind : Unwritten → List ℕ
+abbrev pub behind : WriteBuffer → List ℕ
 behind unwritten = flat_map bytes_of unwritten.later.items ++ unwritten.tail.items
 
 -- what is left of the front, then what stands behind it, and then the tail
-abbrev pub text_in : Unwritten → List ℕ
+abbrev pub text_in : WriteBuffer → List ℕ
 text_in unwritten = drop unwritten.sent (bytes_of unwritten.front) ++ behind unwritten
 
 -- the piece at this place among the chunks and the tail behind them; nothing behind that
@@ -21,9 +21,9 @@ piece_behind (chunk ∷ chunks) tail zero = bytes_of chunk
 piece_behind (chunk ∷ chunks) tail (suc place) = piece_behind chunks tail place
 
 -- how much stands behind the front: the chunks, each as one, and the bytes of the tail
-abbrev pub ahead : Unwritten → ℕ
+abbrev pub ahead : WriteBuffer → ℕ
 ahead unwritten = length unwritten.later.items + length unwritten.tail.items
 
 -- There is no room for a text of this length, unless memory is got for it.
-abbrev pub LacksRoom : ℕ → Unwritten → Type 0
+abbrev pub LacksRoom : ℕ → WriteBuffer → Type 0
 LacksRoom count unwritten = vec_capacity unwritten.tail < vec_len unwritten.tail + count

@@ -5,5 +5,6 @@ pub mod Reads
 pub mod Story
 pub mod Explains
 pub mod LineServed
-pub mod Service
+pub mod Clerk
+pub mod BufferedConn
 pub mod internal

@@ -1,8 +1,9 @@
 -- What a line is read by.
 use Rattle.std.specs.Prelude.{ℕ, ◌≡◌, ◌≤◌, List, length, take, Option, Some, None, Result, Ok, Err}
-use Rattle.mc_wire.specs.Outlet.{Sight, Trace, Untold, Counted, Listed, asked, broke, gave}
+use Rattle.mc_wire.specs.Sink.{Sight, Trace, Untold, Counted, Listed, asked, broke, gave}
 
--- It was read where it had something to give: the first count bytes of the room, or none where it failed. Else it is as it was.
+-- It was read where it had something to give: the first count bytes of the room, or none where it failed. Else it is as
+-- it was.
 abbrev pub ReadsIfReady : {E : Type 0} → List ℕ → Result (Option ℕ) E → Sight → Sight → Type 0
 ReadsIfReady room (Ok (Some count)) old new = new ≡ gave (take count room) (asked old)
 ReadsIfReady room (Ok None) old new = new ≡ old

@@ -4,16 +4,18 @@ use Rattle.std.specs.List.{AllByRecursion, concat}
 use Rattle.mc_reader.specs.Spelling.{AreCommands, BeginCommands, is_closed}
 use Rattle.mc_conn.specs.History.{Taken, MayBeTaken}
 use Rattle.mc_conn.specs.Told.{commands_of}
-use Rattle.mc_wire.specs.Outlet.{Read, Sight, with_bytes, with_reads}
+use Rattle.mc_wire.specs.Sink.{Read, Sight, with_bytes, with_reads}
 use Rattle.mc_command.specs.declared.rules.Rules.{Rules}
 
 -- The commands taken are all that the bytes read spell; of a line that broke, a beginning of them.
 abbrev pub Covers : Rules → Bool → List ℕ → List Taken → Type 0
-Covers rules broke read taken = MatchBool broke (BeginCommands rules read (commands_of taken)) (AreCommands rules read (commands_of taken))
+Covers rules broke read taken =
+    MatchBool broke (BeginCommands rules read (commands_of taken)) (AreCommands rules read (commands_of taken))
 
 -- The line took all texts; one that broke, a beginning of them.
 abbrev pub WritesTexts : Bool → List ℕ → List (List ℕ) → Type 0
-WritesTexts broke written texts = MatchBool broke ((rest : List ℕ) × (written ++ rest ≡ concat texts)) (written ≡ concat texts)
+WritesTexts broke written texts =
+    MatchBool broke ((rest : List ℕ) × (written ++ rest ≡ concat texts)) (written ≡ concat texts)
 
 -- It failed at a read: it was asked for bytes last, took nothing since, and gave none, though its end was not read.
 pub record FailsAtRead (begin now : Sight) : Type 0 where
@@ -36,10 +38,12 @@ pub record IsGivenUp (begin now : Sight) (texts : List (List ℕ)) : Type 0 wher
 
 -- Why a line broke: a read or a write of its own has failed, or it was given up.
 abbrev pub Breaks : Sight → Sight → List (List ℕ) → Type 0
-Breaks begin now texts = ((now.failed ≡ true) × (FailsAtRead begin now ⊎ FailsAtWrite begin now texts)) ⊎ IsGivenUp begin now texts
+Breaks begin now texts =
+    ((now.failed ≡ true) × (FailsAtRead begin now ⊎ FailsAtWrite begin now texts)) ⊎ IsGivenUp begin now texts
 
 -- What became of a line between begin and now.
-pub record Story (rules : Rules) (begin now : Sight) (broke : Bool) (taken : List Taken) (texts : List (List ℕ)) : Type 0 where
+pub record Story (rules : Rules) (begin now : Sight) (broke : Bool) (taken : List Taken) (texts : List (List ℕ)) : Type
+    0 where
   -- the bytes read of it, and written to it
   pub read : List ℕ
   pub written : List ℕ

@@ -1,14 +1,18 @@
 //! A seat serves one line: it reads its commands, has them answered, and hands out the replies.
 #![tactic(auto)]
 
-mod lines;
-mod rooms;
-mod seat;
-mod service;
-mod unread;
-mod unwritten;
+mod buffer_pool;
+mod buffered_conn;
+mod clerk;
+mod laws;
+mod read_buffer;
+mod read_side;
+mod transport;
+mod write_buffer;
 
-pub use lines::{Clock, Line, LineFault, Ready};
-pub use rooms::Rooms;
-pub use service::{LineStep, Served, Service};
-pub use unwritten::Unwritten;
+pub use buffer_pool::BufferPool;
+pub use buffered_conn::{BufferedConn, LineStep, Served};
+pub use clerk::Clerk;
+pub use laws::{heard_replies_answer_their_pieces, recorded_pieces_are_next_on_their_channels};
+pub use transport::{Clock, Ready, Taking, Transport, TransportError};
+pub use write_buffer::WriteBuffer;

@@ -1,26 +1,28 @@
--- Connections over streams, by what is told of the doors that let them in.
-use Rattle.std.proofs.Common.{◌≡◌, ℕ, suc, ◌+◌, ◌-◌, ◌^◌, ◌≤◌, min, Bool, true, false, List, [], ◌∷◌, ◌++◌, length, map, Option, Some, None, refl, sym, ap, subst, ◌∙◌, append_assoc, append-nil, arith}
+-- Connections over streams, by what is told of the sources that let them in.
+use Rattle.std.proofs.Common.{◌≡◌, ℕ, suc, ◌+◌, ◌-◌, ◌^◌, ◌≤◌, min, Bool, true, false, List, [], ◌∷◌, ◌++◌, length, map}
+use Rattle.std.proofs.Common.{Option, Some, None, refl, sym, ap, subst, ◌∙◌, append_assoc, append-nil, arith}
 use Rattle.std.specs.List.{AllByRecursion, slice_get}
 use Rattle.std.proofs.lemmas.List.{length-map}
 use Rattle.std.specs.Io.KnownBytes.{Appends, Consumes}
 use Rattle.std.specs.declared.snapshot.Snapshot.{Snapshot}
-use Rattle.mc_wire.specs.Outlet.{Counted, Listed, Read, Sight, Trace, Untold, with_reads}
+use Rattle.mc_wire.specs.Sink.{Counted, Listed, Read, Sight, Trace, Untold, with_reads}
 use Rattle.mc_wake.specs.Zips.{Zips}
 use Rattle.mc_ring.proofs.Lists.{get_map}
 use Rattle.mc_sizes.specs.declared.sizes.Sizes.{Sizes}
 use Rattle.mc_conn.specs.History.{AnsweredCommand}
 use Rattle.mc_seat.specs.Explains.{IsLogOfLines, LineTold}
 use Rattle.mc_doors.specs.declared.stream.Stream.{Ghosts}
-use Rattle.mc_doors.specs.declared.stream_door.ClosedConnection.{ClosedConnection}
-use Rattle.mc_doors.specs.declared.tcp_line.TcpLine.{TcpLine}
-use Rattle.mc_doors.specs.Told.{Comes, DoorTold, IsDone, IsFree, TellsLines, TellsNothing, closed}
-use Rattle.mc_doors.specs.Tcp.{IsServed, gone_count, gone_line, gone_lines, new_door, new_line, new_lines, note_of, told_door, trace_of}
-use Rattle.mc_serve.specs.Served.{ExplainsHistory, PassEach, PassesAll, ServesDoors}
+use Rattle.mc_doors.specs.declared.stream_source.ClosedConnection.{ClosedConnection}
+use Rattle.mc_doors.specs.declared.tcp_connection.TcpConnection.{TcpConnection}
+use Rattle.mc_doors.specs.Told.{Comes, SourceTold, IsDone, IsFree, TellsLines, TellsNothing, closed}
+use Rattle.mc_doors.specs.Tcp.{IsServed, gone_count, gone_line, gone_lines, new_source, new_line, new_lines, note_of}
+use Rattle.mc_doors.specs.Tcp.{told_source, trace_of}
+use Rattle.mc_serve.specs.Served.{ExplainsHistory, PassEach, PassesAll, ServesSources}
 use Rattle.mc_serve.specs.Connections.{AreServed, ServesConnections, how_many, seats_of}
 use Rattle.mc_serve.specs.declared.outcome.Outcome.{Outcome}
 use Rattle.mc_model.proofs.Lists.{all_from}
 use Rattle.mc_threads.proofs.Orders.{map_one}
-use Rattle.mc_serve.proofs.Lanes.{map_map}
+use Rattle.mc_serve.proofs.Channels.{map_map}
 
 -- bytes that a trace lists
 of_trace : Trace → Option (List ℕ)
@@ -51,24 +53,35 @@ pub record KeepsNotes (line : LineTold) : Type 0 where
   reads : List Read
   are : line.now.reads ≡ with_reads line.begin.reads reads
 
-notes_kept : (sizes : Sizes) (may_answer : ℕ → Type 0) (lines : List LineTold) (histories : List (List AnsweredCommand)) → Zips (ExplainsHistory sizes may_answer) lines histories → AllByRecursion KeepsNotes lines
+notes_kept : (sizes : Sizes) (may_answer : ℕ → Type 0) (lines : List LineTold) (histories : List (List AnsweredCommand))
+    → Zips (ExplainsHistory sizes may_answer) lines histories → AllByRecursion KeepsNotes lines
 notes_kept sizes may_answer [] [] zips = tt
 notes_kept sizes may_answer [] (history ∷ histories) zips = absurd zips
 notes_kept sizes may_answer (line ∷ lines) [] zips = absurd zips
-notes_kept sizes may_answer (line ∷ lines) (history ∷ histories) zips = (record { reads = zips.0.reads.reads; are = zips.0.reads.reads_are }, notes_kept sizes may_answer lines histories zips.1)
+notes_kept sizes may_answer (line ∷ lines) (history ∷ histories) zips = (
+  record { reads = zips.0.reads.reads; are = zips.0.reads.reads_are },
+  notes_kept sizes may_answer lines histories zips.1,
+)
 
 -- A connection that came in over this stream was over it to the end.
-is_served : {S : Type 0} {g : Ghosts S} (stream : S) (one : ClosedConnection S g) → new_line (g.remaining stream) (g.contents stream) ≡ (gone_line one).begin → KeepsNotes (gone_line one) → IsServed stream one
+is_served : {S : Type 0} {g : Ghosts S} (stream : S) (one : ClosedConnection S g)
+    → new_line (g.remaining stream) (g.contents stream) ≡ (gone_line one).begin → KeepsNotes (gone_line one)
+    → IsServed stream one
 unfolding first_note
 is_served {S} {g} stream one is kept =
     let begin = one.line.value.tap.begin.value in
-    let note : note_of (g.remaining begin) (g.contents begin) ≡ note_of (g.remaining stream) (g.contents stream) = ap first_note kept.are ∙ ap (λ (sight : Sight). first_note sight.reads) (sym is) in
-    let remaining : g.remaining begin ≡ g.remaining stream = bytes_same (g.remaining begin) (g.remaining stream) (ap (λ (read : Read). read.given) note) in
-    let contents : g.contents begin ≡ g.contents stream = bytes_same (g.contents begin) (g.contents stream) (ap (λ (read : Read). read.taken) note) in
+    let note : note_of (g.remaining begin) (g.contents begin) ≡ note_of (g.remaining stream) (g.contents stream) =
+    ap first_note kept.are ∙ ap (λ (sight : Sight). first_note sight.reads) (sym is) in
+    let remaining : g.remaining begin ≡ g.remaining stream =
+    bytes_same (g.remaining begin) (g.remaining stream) (ap (λ (read : Read). read.given) note) in
+    let contents : g.contents begin ≡ g.contents stream =
+    bytes_same (g.contents begin) (g.contents stream) (ap (λ (read : Read). read.taken) note) in
     let tap = one.line.value.tap in
     record {
-      gave = let P : Option (List ℕ) → Type 0 = λ bytes. Consumes bytes (g.remaining tap.stream) tap.given in subst P remaining tap.gave;
-      took = let P : Option (List ℕ) → Type 0 = λ bytes. Appends bytes (g.contents tap.stream) tap.taken in subst P contents tap.took;
+      gave = let P : Option (List ℕ) → Type 0 =
+          λ bytes. Consumes bytes (g.remaining tap.stream) tap.given in subst P remaining tap.gave;
+      took = let P : Option (List ℕ) → Type 0 =
+          λ bytes. Appends bytes (g.contents tap.stream) tap.taken in subst P contents tap.took;
     }
 
 first_of : Sight → List Sight → Sight
@@ -80,120 +93,159 @@ rest_of [] = []
 rest_of (line ∷ lines) = lines
 
 -- The same of all streams of a seat.
-all_served : {S : Type 0} {g : Ghosts S} (streams : List S) (gone : List (ClosedConnection S g × Unit {0})) → map (λ stream. new_line (g.remaining stream) (g.contents stream)) streams ≡ map (λ line. line.begin) (gone_lines gone) → AllByRecursion KeepsNotes (gone_lines gone)
+all_served : {S : Type 0} {g : Ghosts S} (streams : List S) (gone : List (ClosedConnection S g × Unit {0}))
+    → map (λ stream. new_line (g.remaining stream) (g.contents stream)) streams
+    ≡ map (λ line. line.begin) (gone_lines gone) → AllByRecursion KeepsNotes (gone_lines gone)
     → Zips (λ stream one. IsServed stream one.0) streams gone
 unfolding first_of rest_of
 all_served [] [] came kept = tt
 all_served [] (one ∷ gone) came kept = absurd (cc)
 all_served (stream ∷ streams) [] came kept = absurd (cc)
-all_served (stream ∷ streams) (one ∷ gone) came kept = (is_served stream one.0 (ap (first_of (gone_line one.0).begin) came) kept.0, all_served streams gone (ap rest_of came) kept.1)
+all_served (stream ∷ streams) (one ∷ gone) came kept = (
+  is_served stream one.0 (ap (first_of (gone_line one.0).begin) came) kept.0,
+  all_served streams gone (ap rest_of came) kept.1,
+)
 
 -- Each connection was over its own stream.
 pub all_own : {S : Type 0} {g : Ghosts S} (gone : List (ClosedConnection S g × Unit {0})) → AreServed None gone
 all_own [] = tt
 all_own (one ∷ gone) = (record { gave = one.0.line.value.tap.gave; took = one.0.line.value.tap.took }, all_own gone)
 
-own_seats : {S : Type 0} {g : Ghosts S} (seats : List (List (ClosedConnection S g × Unit {0}))) → AllByRecursion (AreServed None) seats
+own_seats : {S : Type 0} {g : Ghosts S} (seats : List (List (ClosedConnection S g × Unit {0})))
+    → AllByRecursion (AreServed None) seats
 own_seats [] = tt
 own_seats (gone ∷ seats) = (all_own gone, own_seats seats)
 
--- What came in by a new door is what went back.
-record IsAllBack (coming : Option (List Sight)) (lines : List LineTold) (after : DoorTold) : Type 0 where
+-- What came in by a new source is what went back.
+record IsAllBack (coming : Option (List Sight)) (lines : List LineTold) (after : SourceTold) : Type 0 where
   rest : Option (List Sight)
   back : after ≡ TellsLines rest None lines true
   comes : Comes coming (map (λ line. line.begin) lines) rest
   done : IsDone (TellsLines rest None lines false)
 
-all_back : (coming : Option (List Sight)) (lines : List LineTold) (after : DoorTold) → PassesAll (TellsLines coming None [] false) lines after → IsAllBack coming lines after
+all_back : (coming : Option (List Sight)) (lines : List LineTold) (after : SourceTold)
+    → PassesAll (TellsLines coming None [] false) lines after → IsAllBack coming lines after
 all_back coming lines after all =
     let is = all.passes.2 in
-    record { rest = all.passes.0; back = all.over ∙ ap closed is; comes = all.passes.1; done = let D : DoorTold → Type 0 = λ door. IsDone door in subst D is all.done }
+    record {
+      rest = all.passes.0;
+      back = all.over ∙ ap closed is;
+      comes = all.passes.1;
+      done = let D : SourceTold → Type 0 = λ source. IsDone source in subst D is all.done;
+    }
 
 -- Where no more come, all that were to come did.
-all_came : (coming lines : List Sight) (rest : Option (List Sight)) (back : List LineTold) → Comes (Some coming) lines rest → IsDone (TellsLines rest None back false) → coming ≡ lines
+all_came : (coming lines : List Sight) (rest : Option (List Sight)) (back : List LineTold)
+    → Comes (Some coming) lines rest → IsDone (TellsLines rest None back false) → coming ≡ lines
 all_came coming lines rest back comes done =
     let D : Option (List Sight) → Type 0 = λ left. IsDone (TellsLines left None back false) in
     let none : comes.0 ≡ [] = subst D comes.2 done in
     comes.1 ∙ (ap (λ left. lines ++ left) none ∙ append-nil lines)
 
-seat_served : {S : Type 0} {g : Ghosts S} (coming : Option (List S)) (gone : List (ClosedConnection S g × Unit {0})) (after : DoorTold) → IsAllBack (new_lines g.remaining g.contents coming) (gone_lines gone) after → AllByRecursion KeepsNotes (gone_lines gone) → AreServed coming gone
+seat_served : {S : Type 0} {g : Ghosts S} (coming : Option (List S)) (gone : List (ClosedConnection S g × Unit {0}))
+    (after : SourceTold) → IsAllBack (new_lines g.remaining g.contents coming) (gone_lines gone) after
+    → AllByRecursion KeepsNotes (gone_lines gone) → AreServed coming gone
 seat_served None gone after all kept = all_own gone
-seat_served {g = g} (Some streams) gone after all kept = all_served streams gone (all_came (map (λ stream. new_line (g.remaining stream) (g.contents stream)) streams) (map (λ line. line.begin) (gone_lines gone)) all.rest (gone_lines gone) all.comes all.done) kept
+seat_served {g = g} (Some streams) gone after all kept =
+    all_served streams gone (all_came (map (λ stream. new_line (g.remaining stream) (g.contents stream)) streams)
+    (map (λ line. line.begin) (gone_lines gone)) all.rest (gone_lines gone) all.comes all.done) kept
 
--- the lines that went back to a door
-back_lines : DoorTold → List LineTold
+-- the lines that went back to a source
+back_lines : SourceTold → List LineTold
 back_lines TellsNothing = []
 back_lines (TellsLines coming out back over) = back
 
--- Doors of streams, and what is known of each.
-module _ {S A D : Type 0} {g : Ghosts S} (coming : A → Option (List S)) (coming_by : D → Option (List S)) (out : D → Option (Snapshot (TcpLine S g))) (gone : D → List (ClosedConnection S g × Unit {0})) (over : D → Bool) where
-  abbrev told : D → DoorTold
-  told door = told_door (coming_by door) (out door) (gone door) (over door)
+-- Sources of streams, and what is known of each.
+module _ {S A D : Type 0} {g : Ghosts S} (coming : A → Option (List S)) (coming_by : D → Option (List S))
+    (out : D → Option (Snapshot (TcpConnection S g))) (gone : D → List (ClosedConnection S g × Unit {0}))
+    (over : D → Bool) where
+  abbrev told : D → SourceTold
+  told source = told_source (coming_by source) (out source) (gone source) (over source)
 
-  abbrev fresh : A → DoorTold
-  fresh one = new_door g.remaining g.contents (coming one)
+  abbrev fresh : A → SourceTold
+  fresh one = new_source g.remaining g.contents (coming one)
 
   -- What the seats' lines are, and that they were served.
   record AreSeats (arrivals : List A) (seats : List (List LineTold)) (back : List D) : Type 0 where
-    lines : seats ≡ map (λ door. gone_lines (gone door)) back
+    lines : seats ≡ map (λ source. gone_lines (gone source)) back
     count : length back ≡ length arrivals
     served : AllByRecursion (AllByRecursion KeepsNotes) seats → Zips AreServed (map coming arrivals) (map gone back)
 
-  are_seats : (arrivals : List A) (seats : List (List LineTold)) (back : List D) → PassEach (map fresh arrivals) seats (map told back) → AreSeats arrivals seats back
+  are_seats : (arrivals : List A) (seats : List (List LineTold)) (back : List D)
+      → PassEach (map fresh arrivals) seats (map told back) → AreSeats arrivals seats back
   unfolding back_lines
   are_seats [] [] [] each = record { lines = refl; count = refl; served = λ kept. tt }
-  are_seats [] [] (door ∷ back) each = absurd each
+  are_seats [] [] (source ∷ back) each = absurd each
   are_seats [] (lines ∷ seats) back each = absurd each
   are_seats (one ∷ arrivals) [] back each = absurd each
   are_seats (one ∷ arrivals) (lines ∷ seats) [] each = absurd each
-  are_seats (one ∷ arrivals) (lines ∷ seats) (door ∷ back) each =
-      let this = all_back (new_lines g.remaining g.contents (coming one)) lines (told door) each.0 in
-      let are : gone_lines (gone door) ≡ lines = ap back_lines this.back in
+  are_seats (one ∷ arrivals) (lines ∷ seats) (source ∷ back) each =
+      let this = all_back (new_lines g.remaining g.contents (coming one)) lines (told source) each.0 in
+      let are : gone_lines (gone source) ≡ lines = ap back_lines this.back in
       let rest = are_seats arrivals seats back each.1 in
-      let B : List LineTold → Type 0 = λ told_lines. IsAllBack (new_lines g.remaining g.contents (coming one)) told_lines (told door) in
+      let B : List LineTold → Type 0 =
+      λ told_lines. IsAllBack (new_lines g.remaining g.contents (coming one)) told_lines (told source) in
       let K : List LineTold → Type 0 = λ told_lines. AllByRecursion KeepsNotes told_lines in
       record {
-        lines = ap (λ first. first ∷ seats) (sym are) ∙ ap (λ others. gone_lines (gone door) ∷ others) rest.lines;
+        lines = ap (λ first. first ∷ seats) (sym are) ∙ ap (λ others. gone_lines (gone source) ∷ others) rest.lines;
         count = ap suc rest.count;
-        served = λ kept. (seat_served (coming one) (gone door) (told door) (subst B (sym are) this) (subst K (sym are) kept.0), rest.served kept.1);
+        served =
+            λ kept. (
+              seat_served (coming one) (gone source) (told source) (subst B (sym are) this)
+                  (subst K (sym are) kept.0),
+              rest.served kept.1,
+            );
       }
 
-  -- how many went back to all doors
+  -- how many went back to all sources
   pub all_gone : (back : List D) → gone_count (map told back) ≡ how_many (map gone back)
   all_gone [] = refl
-  all_gone (door ∷ back) = ap (λ n. n + gone_count (map told back)) (length-map (gone door) (λ one. gone_line one.0)) ∙ ap (λ n. length (gone door) + n) (all_gone back)
+  all_gone (source ∷ back) =
+      ap (λ n. n + gone_count (map told back)) (length-map (gone source) (λ one. gone_line one.0))
+      ∙ ap (λ n. length (gone source) + n) (all_gone back)
 
   all_fresh : (arrivals : List A) → AllByRecursion IsFree (map fresh arrivals)
   all_fresh [] = tt
   all_fresh (one ∷ arrivals) = (refl, all_fresh arrivals)
 
-  all_untold : (doors : List D) → AllByRecursion IsFree (map told doors) → AllByRecursion (λ door. IsFree (told door)) doors
+  all_untold : (sources : List D) → AllByRecursion IsFree (map told sources)
+      → AllByRecursion (λ source. IsFree (told source)) sources
   all_untold [] all = tt
-  all_untold (door ∷ doors) all = (all.0, all_untold doors all.1)
+  all_untold (source ∷ sources) all = (all.0, all_untold sources all.1)
 
-  -- No connection is out of a new door.
-  pub all_free : (doors : List D) (arrivals : List A) → map told doors ≡ map fresh arrivals → AllByRecursion (λ door. IsFree (told door)) doors
-  all_free doors arrivals same =
-      let F : List DoorTold → Type 0 = λ tolds. AllByRecursion IsFree tolds in
-      all_untold doors (subst F (sym same) (all_fresh arrivals))
+  -- No connection is out of a new source.
+  pub all_free : (sources : List D) (arrivals : List A) → map told sources ≡ map fresh arrivals
+      → AllByRecursion (λ source. IsFree (told source)) sources
+  all_free sources arrivals same =
+      let F : List SourceTold → Type 0 = λ tolds. AllByRecursion IsFree tolds in
+      all_untold sources (subst F (sym same) (all_fresh arrivals))
 
-  -- as many doors as arrivals
-  pub as_many : (doors : List D) (arrivals : List A) → map told doors ≡ map fresh arrivals → length doors ≡ length arrivals
-  as_many doors arrivals same = sym (length-map doors told) ∙ (ap length same ∙ length-map arrivals fresh)
+  -- as many sources as arrivals
+  pub as_many : (sources : List D) (arrivals : List A) → map told sources ≡ map fresh arrivals → length sources
+      ≡ length arrivals
+  as_many sources arrivals same = sym (length-map sources told) ∙ (ap length same ∙ length-map arrivals fresh)
 
   -- One log explains all connections, and all streams were served.
-  pub record AreConnections (sizes : Sizes) (may_answer : ℕ → Type 0) (arrivals : List A) (served : Outcome S g) : Type 0 where
+  pub record AreConnections (sizes : Sizes) (may_answer : ℕ → Type 0) (arrivals : List A) (served : Outcome S g) : Type
+      0 where
     pub explained : ServesConnections sizes may_answer served
     pub streams : Zips AreServed (map coming arrivals) (seats_of served)
 
-  pub all_connections : (sizes : Sizes) (may_answer : ℕ → Type 0) (arrivals : List A) (back : List D) (served : Outcome S g) → length arrivals ≡ sizes.seats → ServesDoors sizes may_answer (map fresh arrivals) (map told back)
-      → served.ended ≡ min (gone_count (map told back)) (2 ^ 64 - 1) → seats_of served ≡ map gone back → AreConnections sizes may_answer arrivals served
+  pub all_connections : (sizes : Sizes) (may_answer : ℕ → Type 0) (arrivals : List A) (back : List D)
+      (served : Outcome S g) → length arrivals ≡ sizes.seats
+      → ServesSources sizes may_answer (map fresh arrivals) (map told back)
+      → served.ended ≡ min (gone_count (map told back)) (2 ^ 64 - 1) → seats_of served ≡ map gone back
+      → AreConnections sizes may_answer arrivals served
   all_connections sizes may_answer arrivals back served count serves counted are =
       let seats = are_seats arrivals serves.seats back serves.back in
-      let lines : serves.seats ≡ map gone_lines (seats_of served) = seats.lines ∙ (map_map gone gone_lines back ∙ ap (map gone_lines) (sym are)) in
-      let kept = all_from (AllByRecursion KeepsNotes) serves.seats (λ i told_lines here. (let explains = serves.each i told_lines here in notes_kept sizes may_answer told_lines explains.histories explains.each)) in
+      let lines : serves.seats ≡ map gone_lines (seats_of served) = seats.lines
+      ∙ (map_map gone gone_lines back ∙ ap (map gone_lines) (sym are)) in
+      let kept = all_from (AllByRecursion KeepsNotes) serves.seats
+      (λ i told_lines here. (let explains = serves.each i told_lines here in
+      notes_kept sizes may_answer told_lines explains.histories explains.each)) in
       let many : length (seats_of served) ≡ length arrivals = ap length are ∙ (length-map back gone ∙ seats.count) in
-      let Z : List (List (ClosedConnection S g × Unit {0})) → Type 0 = λ these. Zips AreServed (map coming arrivals) these in
+      let Z : List (List (ClosedConnection S g × Unit {0})) → Type 0 =
+      λ these. Zips AreServed (map coming arrivals) these in
       let L : ℕ → Type 0 = λ n. IsLogOfLines sizes n serves.log in
       record {
         explained = record {
@@ -202,31 +254,43 @@ module _ {S A D : Type 0} {g : Ghosts S} (coming : A → Option (List S)) (comin
           whole = own_seats (seats_of served);
           log = serves.log;
           log_is = subst L (ap length lines ∙ length-map (seats_of served) gone_lines) serves.log_is;
-          each = λ seat these here. serves.each seat (gone_lines these) (ap (λ all. slice_get all seat) lines ∙ get_map gone_lines (seats_of served) seat these here);
+          each =
+              λ seat these here. serves.each seat (gone_lines these)
+              (ap (λ all. slice_get all seat) lines ∙ get_map gone_lines (seats_of served) seat these here);
         };
         streams = subst Z (sym are) (seats.served kept);
       }
 
-  -- The same, by what is known of the doors.
-  pub joined : (sizes : Sizes) (may_answer : ℕ → Type 0) (arrivals : List A) (doors back : List D) (served : Outcome S g) → map told doors ≡ map fresh arrivals → ServesDoors (record sizes { seats = length doors }) may_answer (map told doors) (map told back)
-      → (served.ended ≡ min (gone_count (map told back)) (2 ^ 64 - 1)) × (seats_of served ≡ map gone back) → AreConnections (record sizes { seats = length arrivals }) may_answer arrivals served
-  joined sizes may_answer arrivals doors back served same serves got =
-      let P : ℕ → List DoorTold → Type 0 = λ n before. ServesDoors (record sizes { seats = n }) may_answer before (map told back) in
-      let all = subst (λ n. P n (map fresh arrivals)) (as_many doors arrivals same) (subst (λ before. P (length doors) before) same serves) in
+  -- The same, by what is known of the sources.
+  pub joined : (sizes : Sizes) (may_answer : ℕ → Type 0) (arrivals : List A) (sources back : List D)
+      (served : Outcome S g) → map told sources ≡ map fresh arrivals
+      → ServesSources (record sizes { seats = length sources }) may_answer (map told sources) (map told back)
+      → (served.ended ≡ min (gone_count (map told back)) (2 ^ 64 - 1)) × (seats_of served ≡ map gone back)
+      → AreConnections (record sizes { seats = length arrivals }) may_answer arrivals served
+  joined sizes may_answer arrivals sources back served same serves got =
+      let P : ℕ → List SourceTold → Type 0 =
+      λ n before. ServesSources (record sizes { seats = n }) may_answer before (map told back) in
+      let all = subst (λ n. P n (map fresh arrivals)) (as_many sources arrivals same)
+      (subst (λ before. P (length sources) before) same serves) in
       all_connections (record sizes { seats = length arrivals }) may_answer arrivals back served refl all got.0 got.1
 
--- One door more is counted, where each count stays at its greatest value.
-pub count_more : (ended next one gone rest left all : ℕ) → next ≡ min (ended + one) (2 ^ 64 - 1) → one ≡ min gone (2 ^ 64 - 1) → left ≡ gone + rest → min (ended + left) (2 ^ 64 - 1) ≡ all → min (next + rest) (2 ^ 64 - 1) ≡ all
+-- One source more is counted, where each count stays at its greatest value.
+pub count_more : (ended next one gone rest left all : ℕ) → next ≡ min (ended + one) (2 ^ 64 - 1) → one
+    ≡ min gone (2 ^ 64 - 1) → left ≡ gone + rest → min (ended + left) (2 ^ 64 - 1) ≡ all
+    → min (next + rest) (2 ^ 64 - 1) ≡ all
 count_more ended next one gone rest left all next_is one_is left_is same = omega (arith, next_is, one_is, left_is, same)
 
 -- Where no lines are left to count, a count that is at most 2^64 - 1 is the count of all.
-pub count_all : (ended left all : ℕ) → ended ≤ 2 ^ 64 - 1 → left ≡ 0 → min (ended + left) (2 ^ 64 - 1) ≡ all → ended ≡ all
+pub count_all : (ended left all : ℕ) → ended ≤ 2 ^ 64 - 1 → left ≡ 0 → min (ended + left) (2 ^ 64 - 1) ≡ all → ended
+    ≡ all
 count_all ended left all within none same = omega (arith, within, none, same)
 
 -- One more is noted of those that are left.
-pub note_more : {A B D : Type 0} (f : A → B) (h : D → B) (old new : List A) (one : A) (door : D) (left rest : List D) (all : List B) → new ≡ old ++ one ∷ [] → f one ≡ h door → left ≡ door ∷ rest → map f old ++ map h left ≡ all → map f new ++ map h rest ≡ all
-note_more f h old new one door left rest all are same next so_far =
+pub note_more : {A B D : Type 0} (f : A → B) (h : D → B) (old new : List A) (one : A) (source : D) (left rest : List D)
+    (all : List B) → new ≡ old ++ one ∷ [] → f one ≡ h source → left ≡ source ∷ rest → map f old ++ map h left ≡ all
+    → map f new ++ map h rest ≡ all
+note_more f h old new one source left rest all are same next so_far =
     ap (λ xs. map f xs ++ map h rest) are
     ∙ (ap (λ ys. ys ++ map h rest) (map_one f old one ∙ ap (λ y. map f old ++ y ∷ []) same)
-    ∙ (append_assoc (map f old) (h door ∷ []) (map h rest)
+    ∙ (append_assoc (map f old) (h source ∷ []) (map h rest)
     ∙ (ap (λ ds. map f old ++ map h ds) (sym next) ∙ so_far)))

@@ -1,5 +1,6 @@
 -- One line, once all workers are joined and its seat is tied to each of them.
-use Rattle.std.proofs.Common.{◌≡◌, ℕ, ◌<◌, ◌+◌, ◌==◌, inl, inr, Bool, true, false, cond, List, [], ◌∷◌, length, map, refl, sym, ap, ◌∙◌, arith}
+use Rattle.std.proofs.Common.{◌≡◌, ℕ, ◌<◌, ◌+◌, ◌==◌, inl, inr, Bool, true, false, cond, List, [], ◌∷◌, length, map}
+use Rattle.std.proofs.Common.{refl, sym, ap, ◌∙◌, arith}
 use Rattle.std.specs.List.{AllByRecursion}
 use Rattle.std.specs.Prelude.{filter}
 use Rattle.std.proofs.lemmas.Bool.{cases_lt}
@@ -11,34 +12,40 @@ use Rattle.mc_conn.specs.Due.{Ran}
 use Rattle.mc_conn.specs.Fits.{KeysFit}
 use Rattle.mc_conn.proofs.Serving.{keys_came}
 use Rattle.mc_model.specs.Log.{Entry, of_asker, on_shard}
-use Rattle.mc_worker.specs.Desk.{Desk}
-use Rattle.mc_ring.specs.Lane.{Near}
+use Rattle.mc_worker.specs.WorkerState.{WorkerState}
+use Rattle.mc_ring.specs.Channel.{Near}
 use Rattle.mc_ring.specs.Ends.{Ends}
 use Rattle.mc_ring.specs.Reply.{Shown}
 use Rattle.mc_serve.specs.Asking.{AreTied, HasAsked}
 use Rattle.mc_serve.specs.Logs.{AreLogsFrom, IsLogOf, together}
-use Rattle.mc_serve.proofs.Tying.{Agrees, lane_agrees, lane_came, none_came}
+use Rattle.mc_serve.proofs.Tying.{Agrees, channel_agrees, channel_came, none_came}
 use Rattle.mc_serve.proofs.Joined.{worker_at}
 use Rattle.mc_model.proofs.Alone.{ran_of}
 
 -- What one shard ran for the line.
-pub shard_agrees : (sizes : Sizes) (shard : ℕ) (ends : Ends Near) (desks : List Desk) (logs : List (List Entry)) (taken : List Taken) (got : ℕ → List Shown)
-    → shard < sizes.shards → ends.number < sizes.seats → length desks ≡ sizes.shards → AreLogsFrom sizes 0 desks logs → AreTied ends desks → HasAsked sizes.shards ends taken got
+pub shard_agrees : (sizes : Sizes) (shard : ℕ) (ends : Ends Near) (worker_states : List WorkerState)
+    (logs : List (List Entry)) (taken : List Taken) (got : ℕ → List Shown)
+    → shard < sizes.shards → ends.number < sizes.seats → length worker_states ≡ sizes.shards
+    → AreLogsFrom sizes 0 worker_states logs → AreTied ends worker_states → HasAsked sizes.shards ends taken got
     → Agrees sizes.shards shard ends.number taken (got shard) (on_shard shard (together logs))
-shard_agrees sizes shard ends desks logs taken got below seat count are tied asked =
-    let worker = worker_at sizes 0 shard desks logs are (omega arith) in
+shard_agrees sizes shard ends worker_states logs taken got below seat count are tied asked =
+    let worker = worker_at sizes 0 shard worker_states logs are (omega arith) in
     let at : 0 + shard ≡ shard = omega arith in
-    let is : IsLogOf sizes shard worker.desk worker.log = rw at at worker.is in
+    let is : IsLogOf sizes shard worker.worker_state worker.log = rw at at worker.is in
     let its : on_shard shard (together logs) ≡ worker.log = rw at at worker.its in
-    rw its (lane_agrees sizes shard ends worker.desk taken got worker.log below seat asked is (tied shard worker.desk worker.here))
+    rw its (channel_agrees sizes shard ends worker.worker_state taken got worker.log below seat asked is
+    (tied shard worker.worker_state worker.here))
 
 -- Each reply came from the shard whose piece it answers.
-pub keys_fit : (sizes : Sizes) (ends : Ends Near) (desks : List Desk) (logs : List (List Entry)) (taken : List Taken) (got : ℕ → List Shown)
-    → 0 < sizes.shards → ends.number < sizes.seats → length desks ≡ sizes.shards → AreLogsFrom sizes 0 desks logs → AreTied ends desks → HasAsked sizes.shards ends taken got
+pub keys_fit : (sizes : Sizes) (ends : Ends Near) (worker_states : List WorkerState) (logs : List (List Entry))
+    (taken : List Taken) (got : ℕ → List Shown)
+    → 0 < sizes.shards → ends.number < sizes.seats → length worker_states ≡ sizes.shards
+    → AreLogsFrom sizes 0 worker_states logs → AreTied ends worker_states → HasAsked sizes.shards ends taken got
     → KeysFit sizes.shards taken got
-keys_fit sizes ends desks logs taken got some seat count are tied asked =
+keys_fit sizes ends worker_states logs taken got some seat count are tied asked =
     keys_came sizes.shards taken got (λ shard. elim (cases_lt shard sizes.shards) [
-      | inl below ↦ lane_came sizes.shards shard ends.number taken (got shard) (on_shard shard (together logs)) (shard_agrees sizes shard ends desks logs taken got below seat count are tied asked)
+      | inl below ↦ channel_came sizes.shards shard ends.number taken (got shard) (on_shard shard (together logs))
+          (shard_agrees sizes shard ends worker_states logs taken got below seat count are tied asked)
       | inr beyond ↦ none_came sizes.shards shard taken (got shard) some beyond (asked.as_many shard)
     ])
 
@@ -47,10 +54,12 @@ abbrev pub entry_for : ℕ → Ran → Entry
 entry_for asker ran = record { shard = ran.shard; asker = asker; piece = ran.piece; answer = ran.answer }
 
 -- A log of what one line asked is the same once who asked was left out and that line put back.
-pub same_asker : (asker : ℕ) (log : List Entry) → AllByRecursion (λ entry. entry.asker ≡ asker) log → map (entry_for asker) (map ran_of log) ≡ log
+pub same_asker : (asker : ℕ) (log : List Entry) → AllByRecursion (λ entry. entry.asker ≡ asker) log
+    → map (entry_for asker) (map ran_of log) ≡ log
 same_asker asker [] all = refl
 same_asker asker (entry ∷ log) all =
-    let this : entry_for asker (ran_of entry) ≡ entry = λ i. record { shard = entry.shard; asker = sym all.0 i; piece = entry.piece; answer = entry.answer } in
+    let this : entry_for asker (ran_of entry) ≡ entry =
+    λ i. record { shard = entry.shard; asker = sym all.0 i; piece = entry.piece; answer = entry.answer } in
     ap (λ e. e ∷ map (entry_for asker) (map ran_of log)) this ∙ ap (λ es. entry ∷ es) (same_asker asker log all.1)
 
 -- What a log has for a line was asked by that line.
@@ -70,7 +79,8 @@ shard_of shard (entry ∷ log) = elim (eqb_tells entry.shard shard) [
 ]
 
 -- What holds of all entries of a log holds of those that are picked out of it.
-pub filter_keeps : (P : Entry → Type 0) (p : Entry → Bool) (log : List Entry) → AllByRecursion P log → AllByRecursion P (filter p log)
+pub filter_keeps : (P : Entry → Type 0) (p : Entry → Bool) (log : List Entry) → AllByRecursion P log
+    → AllByRecursion P (filter p log)
 filter_keeps P p [] all = tt
 filter_keeps P p (entry ∷ log) all =
     elim (p entry) as (λ b. AllByRecursion P (cond b (entry ∷ filter p log) (filter p log))) [
@@ -79,15 +89,20 @@ filter_keeps P p (entry ∷ log) all =
     ]
 
 -- What a shard ran is the same whether it is picked out before or after it is written down who asked.
-pub map_on_shard : (shard asker : ℕ) (ran : List Ran) → on_shard shard (map (entry_for asker) ran) ≡ map (entry_for asker) (due.on_shard shard ran)
+pub map_on_shard : (shard asker : ℕ) (ran : List Ran) → on_shard shard (map (entry_for asker) ran)
+    ≡ map (entry_for asker) (due.on_shard shard ran)
 map_on_shard shard asker [] = refl
 map_on_shard shard asker (one ∷ ran) =
-    elim (one.shard == shard) as (λ b. cond b (entry_for asker one ∷ on_shard shard (map (entry_for asker) ran)) (on_shard shard (map (entry_for asker) ran)) ≡ map (entry_for asker) (cond b (one ∷ due.on_shard shard ran) (due.on_shard shard ran))) [
+    elim (one.shard == shard) as
+    (λ b. cond b (entry_for asker one ∷ on_shard shard (map (entry_for asker) ran))
+    (on_shard shard (map (entry_for asker) ran))
+    ≡ map (entry_for asker) (cond b (one ∷ due.on_shard shard ran) (due.on_shard shard ran))) [
       | true ↦ ap (λ es. entry_for asker one ∷ es) (map_on_shard shard asker ran)
       | false ↦ map_on_shard shard asker ran
     ]
 
 -- What one shard ran is that shard's, where who asked is left out too.
-pub ran_shards : (shard : ℕ) (log : List Entry) → AllByRecursion (λ entry. entry.shard ≡ shard) log → AllByRecursion (λ (ran : Ran). ran.shard ≡ shard) (map ran_of log)
+pub ran_shards : (shard : ℕ) (log : List Entry) → AllByRecursion (λ entry. entry.shard ≡ shard) log
+    → AllByRecursion (λ (ran : Ran). ran.shard ≡ shard) (map ran_of log)
 ran_shards shard [] all = tt
 ran_shards shard (entry ∷ log) all = (all.0, ran_shards shard log all.1)

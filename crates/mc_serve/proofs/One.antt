@@ -1,57 +1,70 @@
--- Lines that came in by a door each.
-use Rattle.std.proofs.Common.{◌≡◌, ℕ, suc, ◌<◌, true, List, [], ◌∷◌, ◌++◌, length, map, Some, None, refl, sym, ap, subst, ◌∙◌, append-nil}
+-- Lines that came in by a source each.
+use Rattle.std.proofs.Common.{◌≡◌, ℕ, suc, ◌<◌, true, List, [], ◌∷◌, ◌++◌, length, map, Some, None, refl, sym, ap}
+use Rattle.std.proofs.Common.{subst, ◌∙◌, append-nil}
 use Rattle.std.specs.List.{AllByRecursion, flat_map, slice_get}
 use Rattle.std.proofs.lemmas.List.{length-map}
-use Rattle.mc_wire.specs.Outlet.{Sight}
+use Rattle.mc_wire.specs.Sink.{Sight}
 use Rattle.mc_sizes.specs.declared.sizes.Sizes.{Sizes}
 use Rattle.mc_conn.specs.History.{AnsweredCommand}
 use Rattle.mc_model.specs.Log.{Entry, of_asker, on_shard}
 use Rattle.mc_wake.specs.Zips.{Zips}
 use Rattle.mc_seat.specs.Explains.{ExplainsLine, IsLogOfLines, LineTold, log_of}
 use Rattle.mc_serve.specs.Over.{CameBack, ServesAll, lines_told}
-use Rattle.mc_serve.proofs.Lanes.{map_map}
+use Rattle.mc_serve.proofs.Channels.{map_map}
 use Rattle.mc_serve.proofs.Zipped.{zips_seen}
-use Rattle.mc_doors.specs.Told.{DoorTold, IsFree, TellsLines, closed}
-use Rattle.mc_serve.specs.Served.{ExplainsHistory, PassEach, PassesAll, ServesDoors}
+use Rattle.mc_doors.specs.Told.{SourceTold, IsFree, TellsLines, closed}
+use Rattle.mc_serve.specs.Served.{ExplainsHistory, PassEach, PassesAll, ServesSources}
 use Rattle.mc_doors.specs.One.{IsBack, waits}
 use Rattle.mc_ring.proofs.Lists.{get_map}
 
--- the one line of a door that waited and was served
-one_line : (line : Sight) (lines : List LineTold) (door : DoorTold) (back : CameBack) → PassesAll (waits line) lines door → IsBack door back.line back.commands back.broke → lines ≡ record { begin = line; now = back.line; commands = back.commands; broke = back.broke } ∷ []
-one_line line lines door back passes is =
+-- the one line of a source that waited and was served
+one_line : (line : Sight) (lines : List LineTold) (source : SourceTold) (back : CameBack)
+    → PassesAll (waits line) lines source → IsBack source back.line back.commands back.broke → lines
+    ≡ record { begin = line; now = back.line; commands = back.commands; broke = back.broke } ∷ []
+one_line line lines source back passes is =
     let told = passes.passes in
     let rest = told.0 in
     let one : LineTold = record { begin = is.0; now = back.line; commands = back.commands; broke = back.broke } in
-    let same : TellsLines rest None lines true ≡ TellsLines (Some []) None (one ∷ []) is.1 = sym (passes.over ∙ ap closed told.2) ∙ is.2 in
+    let same : TellsLines rest None lines true ≡ TellsLines (Some []) None (one ∷ []) is.1 =
+    sym (passes.over ∙ ap closed told.2) ∙ is.2 in
     let lines_are : lines ≡ one ∷ [] = cc in
     let comes : line ∷ [] ≡ map (λ (l : LineTold). l.begin) lines ++ told.1.0 = told.1.1 in
-    let first : line ∷ [] ≡ is.0 ∷ told.1.0 = comes ∙ ap (λ ls. map (λ (l : LineTold). l.begin) ls ++ told.1.0) lines_are in
+    let first : line ∷ [] ≡ is.0 ∷ told.1.0 = comes
+    ∙ ap (λ ls. map (λ (l : LineTold). l.begin) ls ++ told.1.0) lines_are in
     let begin : line ≡ is.0 = cc in
-    lines_are ∙ ap (λ b. record { begin = b; now = back.line; commands = back.commands; broke = back.broke } ∷ []) (sym begin)
+    lines_are ∙ ap (λ b. record { begin = b; now = back.line; commands = back.commands; broke = back.broke } ∷ [])
+    (sym begin)
 
--- the line of each door
+-- the line of each source
 record EachHasOne (lines : List Sight) (seats : List (List LineTold)) (backs : List CameBack) : Type 0 where
   seats_are : map (λ line. line ∷ []) (lines_told lines backs) ≡ seats
   count : length backs ≡ length lines
 
-each_one : (lines : List Sight) (seats : List (List LineTold)) (doors : List DoorTold) (backs : List CameBack) → PassEach (map waits lines) seats doors → Zips (λ door back. IsBack door back.line back.commands back.broke) doors backs → EachHasOne lines seats backs
+each_one : (lines : List Sight) (seats : List (List LineTold)) (sources : List SourceTold) (backs : List CameBack)
+    → PassEach (map waits lines) seats sources
+    → Zips (λ source back. IsBack source back.line back.commands back.broke) sources backs
+    → EachHasOne lines seats backs
 each_one [] [] [] [] each zips = record { seats_are = refl; count = refl }
 each_one [] [] [] (back ∷ backs) each zips = absurd zips
-each_one [] [] (door ∷ doors) backs each zips = absurd each
-each_one [] (s ∷ seats) doors backs each zips = absurd each
-each_one (line ∷ lines) [] doors backs each zips = absurd each
+each_one [] [] (source ∷ sources) backs each zips = absurd each
+each_one [] (s ∷ seats) sources backs each zips = absurd each
+each_one (line ∷ lines) [] sources backs each zips = absurd each
 each_one (line ∷ lines) (s ∷ seats) [] backs each zips = absurd each
-each_one (line ∷ lines) (s ∷ seats) (door ∷ doors) [] each zips = absurd zips
-each_one (line ∷ lines) (s ∷ seats) (door ∷ doors) (back ∷ backs) each zips =
-    let rest = each_one lines seats doors backs each.1 zips.1 in
-    let this = one_line line s door back each.0 zips.0 in
+each_one (line ∷ lines) (s ∷ seats) (source ∷ sources) [] each zips = absurd zips
+each_one (line ∷ lines) (s ∷ seats) (source ∷ sources) (back ∷ backs) each zips =
+    let rest = each_one lines seats sources backs each.1 zips.1 in
+    let this = one_line line s source back each.0 zips.0 in
     record {
-      seats_are = ap (λ x. x ∷ map (λ line. line ∷ []) (lines_told lines backs)) (sym this) ∙ ap (λ xs. s ∷ xs) rest.seats_are;
+      seats_are =
+          ap (λ x. x ∷ map (λ line. line ∷ []) (lines_told lines backs)) (sym this) ∙ ap (λ xs. s ∷ xs) rest.seats_are;
       count = ap suc rest.count;
     }
 
-one_history : (sizes : Sizes) (may_answer : ℕ → Type 0) (log : List Entry) (seat : ℕ) (line : LineTold) (histories : List (List AnsweredCommand)) → Zips (ExplainsHistory sizes may_answer) (line ∷ []) histories
-    → ((shard : ℕ) → shard < sizes.shards → of_asker seat (on_shard shard log) ≡ flat_map (λ history. on_shard shard (log_of sizes.shards seat history)) histories) → ExplainsLine sizes may_answer log seat line
+one_history : (sizes : Sizes) (may_answer : ℕ → Type 0) (log : List Entry) (seat : ℕ) (line : LineTold)
+    (histories : List (List AnsweredCommand)) → Zips (ExplainsHistory sizes may_answer) (line ∷ []) histories
+    → ((shard : ℕ) → shard < sizes.shards → of_asker seat (on_shard shard log)
+    ≡ flat_map (λ history. on_shard shard (log_of sizes.shards seat history)) histories)
+    → ExplainsLine sizes may_answer log seat line
 one_history sizes may_answer log seat line [] each ran = absurd each
 one_history sizes may_answer log seat line (history ∷ h ∷ histories) each ran = absurd each.1
 one_history sizes may_answer log seat line (history ∷ []) each ran =
@@ -66,12 +79,16 @@ one_history sizes may_answer log seat line (history ∷ []) each ran =
       ran = λ shard below. ran shard below ∙ append-nil (on_shard shard (log_of sizes.shards seat history));
     }
 
--- One log explains all lines, since it explains the line of each door.
-pub serves_one : (sizes : Sizes) (may_answer : ℕ → Type 0) (lines : List Sight) (doors : List DoorTold) (backs : List CameBack) → ServesDoors sizes may_answer (map waits lines) doors → Zips (λ door back. IsBack door back.line back.commands back.broke) doors backs → ServesAll sizes may_answer lines backs
-serves_one sizes may_answer lines doors backs serves zips =
-    let ones = each_one lines serves.seats doors backs serves.back zips in
+-- One log explains all lines, since it explains the line of each source.
+pub serves_one : (sizes : Sizes) (may_answer : ℕ → Type 0) (lines : List Sight) (sources : List SourceTold)
+    (backs : List CameBack) → ServesSources sizes may_answer (map waits lines) sources
+    → Zips (λ source back. IsBack source back.line back.commands back.broke) sources backs
+    → ServesAll sizes may_answer lines backs
+serves_one sizes may_answer lines sources backs serves zips =
+    let ones = each_one lines serves.seats sources backs serves.back zips in
     let told = lines_told lines backs in
-    let count : length serves.seats ≡ length told = ap length (sym ones.seats_are) ∙ length-map told (λ line. line ∷ []) in
+    let count : length serves.seats ≡ length told = ap length (sym ones.seats_are)
+    ∙ length-map told (λ line. line ∷ []) in
     let L : ℕ → Type 0 = λ n. IsLogOfLines sizes n serves.log in
     record {
       as_many = ones.count;
@@ -79,29 +96,39 @@ serves_one sizes may_answer lines doors backs serves zips =
         log = serves.log;
         log_is = subst L count serves.log_is;
         each = λ number line here.
-            let there : slice_get serves.seats number ≡ Some (line ∷ []) = ap (λ seats. slice_get seats number) (sym ones.seats_are) ∙ get_map (λ (line : LineTold). line ∷ []) told number line here in
+            let there : slice_get serves.seats number ≡ Some (line ∷ []) =
+            ap (λ seats. slice_get seats number) (sym ones.seats_are)
+            ∙ get_map (λ (line : LineTold). line ∷ []) told number line here in
             let seat = serves.each number (line ∷ []) there in
             one_history sizes may_answer serves.log number line seat.histories seat.each seat.ran;
       };
     }
 
 -- The same, of whatever holds the lines.
-pub over_all : {A B C : Type 0} (sizes_at : ℕ → Sizes) (may_answer : ℕ → Type 0) (told : A → DoorTold) (came : B → CameBack) (sight : C → Sight) (lines : List C) (doors back : List A) (report : List B) → map told doors ≡ map (λ line. waits (sight line)) lines
-    → ServesDoors (sizes_at (length doors)) may_answer (map told doors) (map told back) → Zips (λ door one. IsBack (told door) (came one).line (came one).commands (came one).broke) back report → ServesAll (sizes_at (length lines)) may_answer (map sight lines) (map came report)
-over_all sizes_at may_answer told came sight lines doors back report same serves zips =
-    let count : length doors ≡ length lines = sym (length-map doors told) ∙ (ap length same ∙ length-map lines (λ line. waits (sight line))) in
-    let before : map told doors ≡ map waits (map sight lines) = same ∙ map_map sight waits lines in
-    let P : ℕ → List DoorTold → Type 0 = λ n ds. ServesDoors (sizes_at n) may_answer ds (map told back) in
+pub over_all : {A B C : Type 0} (sizes_at : ℕ → Sizes) (may_answer : ℕ → Type 0) (told : A → SourceTold)
+    (came : B → CameBack) (sight : C → Sight) (lines : List C) (sources back : List A) (report : List B)
+    → map told sources ≡ map (λ line. waits (sight line)) lines
+    → ServesSources (sizes_at (length sources)) may_answer (map told sources) (map told back)
+    → Zips (λ source one. IsBack (told source) (came one).line (came one).commands (came one).broke) back report
+    → ServesAll (sizes_at (length lines)) may_answer (map sight lines) (map came report)
+over_all sizes_at may_answer told came sight lines sources back report same serves zips =
+    let count : length sources ≡ length lines = sym (length-map sources told)
+    ∙ (ap length same ∙ length-map lines (λ line. waits (sight line))) in
+    let before : map told sources ≡ map waits (map sight lines) = same ∙ map_map sight waits lines in
+    let P : ℕ → List SourceTold → Type 0 = λ n ds. ServesSources (sizes_at n) may_answer ds (map told back) in
     serves_one (sizes_at (length lines)) may_answer (map sight lines) (map told back) (map came report)
-    (subst (λ ds. P (length lines) ds) before (subst (λ n. P n (map told doors)) count serves))
-    (zips_seen back report (λ (door : DoorTold) (one : CameBack). IsBack door one.line one.commands one.broke) told came zips)
+    (subst (λ ds. P (length lines) ds) before (subst (λ n. P n (map told sources)) count serves))
+    (zips_seen back report (λ (source : SourceTold) (one : CameBack). IsBack source one.line one.commands one.broke)
+    told came zips)
 
 -- Where every line waits, no line is out.
-pub all_free : {A C : Type 0} (told : A → DoorTold) (sight : C → Sight) (doors : List A) (lines : List C) → map told doors ≡ map (λ line. waits (sight line)) lines → AllByRecursion (λ door. IsFree (told door)) doors
+pub all_free : {A C : Type 0} (told : A → SourceTold) (sight : C → Sight) (sources : List A) (lines : List C)
+    → map told sources ≡ map (λ line. waits (sight line)) lines
+    → AllByRecursion (λ source. IsFree (told source)) sources
 all_free told sight [] lines same = tt
-all_free told sight (door ∷ doors) [] same = absurd (cc)
-all_free told sight (door ∷ doors) (line ∷ lines) same =
-    let head : told door ≡ waits (sight line) = cc in
-    let tail : map told doors ≡ map (λ line. waits (sight line)) lines = cc in
-    let P : DoorTold → Type 0 = λ d. IsFree d in
-    (subst P (sym head) refl, all_free told sight doors lines tail)
+all_free told sight (source ∷ sources) [] same = absurd (cc)
+all_free told sight (source ∷ sources) (line ∷ lines) same =
+    let head : told source ≡ waits (sight line) = cc in
+    let tail : map told sources ≡ map (λ line. waits (sight line)) lines = cc in
+    let P : SourceTold → Type 0 = λ d. IsFree d in
+    (subst P (sym head) refl, all_free told sight sources lines tail)

@@ -1,104 +1,140 @@
 -- The seats and the workers of one thread, and of all threads.
-use Rattle.std.proofs.Common.{◌≡◌, ◌≤◌, ◌+◌, ℕ, List, [], ◌∷◌, ◌++◌, length, map, take, Some, refl, sym, ap, subst, ◌∙◌, append_assoc, append-nil, slice_set}
+use Rattle.std.proofs.Common.{◌≡◌, ◌≤◌, ◌+◌, ℕ, List, [], ◌∷◌, ◌++◌, length, map, take, Some, refl, sym, ap, subst, ◌∙◌}
+use Rattle.std.proofs.Common.{append_assoc, append-nil, slice_set}
 use Rattle.std.specs.List.{AllByRecursion, flat_map, slice_get}
 use Rattle.std.proofs.lemmas.List.{take_all}
 use Rattle.mc_sizes.specs.Sizes.{rules_of}
 use Rattle.mc_sizes.specs.declared.sizes.Sizes.{Sizes}
 use Rattle.mc_model.proofs.Lists.{take_next}
-use Rattle.mc_wire.specs.Outlet.{Sight}
-use Rattle.mc_ring.specs.Made.{AreLanes}
-use Rattle.mc_worker.specs.Desk.{Desk, Goes}
-use Rattle.mc_worker.specs.DeskLaws.{goes_refl, goes_trans}
+use Rattle.mc_wire.specs.Sink.{Sight}
+use Rattle.mc_ring.specs.Made.{AreChannels}
+use Rattle.mc_seat.specs.declared.clerk.Clerk.{Ghosts}
+use Rattle.mc_worker.specs.WorkerState.{WorkerState, Goes}
+use Rattle.mc_worker.specs.WorkerStateLaws.{goes_refl, goes_trans}
 use Rattle.mc_wake.specs.Zips.{Zips}
 use Rattle.mc_threads.specs.declared.session.Session.{Session}
 use Rattle.mc_threads.specs.Workers.{IsFresh, ends_of}
 use Rattle.mc_threads.specs.Working.{Finishes}
-use Rattle.mc_doors.specs.Told.{DoorTold}
-use Rattle.mc_serve.specs.declared.sitting.Phase.{Phase}
-use Rattle.mc_serve.specs.declared.sitting.Phase.TheVariants as phase
+use Rattle.mc_doors.specs.Told.{SourceTold}
+use Rattle.mc_serve.specs.declared.connection_slot.SlotState.{SlotState}
+use Rattle.mc_serve.specs.declared.connection_slot.SlotState.TheVariants as slot_state
 use Rattle.mc_serve.specs.Seats.{CanStep, HasSatDown, SeatAt, SeatServes, SeatStands, seat_at}
-use Rattle.mc_serve.proofs.Lanes.{map-slice_set}
+use Rattle.mc_serve.proofs.Channels.{map-slice_set}
 use Rattle.mc_serve.proofs.Steps.{can_step, sits_first}
 use Rattle.mc_serve.proofs.Zipped.{met_at, zips_append, zips_each, zips_set}
-use Rattle.mc_serve.proofs.AtDoors.{AreJoined}
+use Rattle.mc_serve.proofs.AtSources.{AreJoined}
 use Rattle.mc_command.specs.declared.rules.Rules.{Rules}
 use Rattle.mc_threads.specs.Session.{seat_ends}
 use Rattle.mc_ring.proofs.Lists.{get_map, all_append}
 
--- A seat stands, and how it is seen: by what is told of its door, its session and its phase.
-abbrev pub Stands : {S L : Type 0} → (L → Sight) → (S → DoorTold) → (S → Session) → (S → Phase L) → ℕ → Rules → (ℕ → Type 0) → SeatAt → S → Type 0
-Stands sight told session now shards rules may_answer sat one = SeatStands sight shards rules may_answer sat (told one) (session one) (now one)
+-- A seat stands, and how it is seen: by what is told of its source, its session and its phase.
+abbrev pub Stands : {S L : Type 0} {T C : Type 0} {g : Ghosts C T} → (L → Sight) → (S → SourceTold)
+    → (S → Session T C g) → (S → SlotState L) → ℕ → Rules → (ℕ → Type 0) → SeatAt → S → Type 0
+Stands sight told session now shards rules may_answer sat one =
+    SeatStands sight shards rules may_answer sat (told one) (session one) (now one)
 
-abbrev pub at : {S : Type 0} → (S → DoorTold) → (S → Session) → S → SeatAt
+abbrev pub at : {S : Type 0} {T C : Type 0} {g : Ghosts C T} → (S → SourceTold) → (S → Session T C g) → S → SeatAt
 at told session one = seat_at (told one) (seat_ends (session one))
 
 -- The seats of a thread have sat down, so they stand as they began.
-pub seats_begin : {S L : Type 0} (seats : List S) (sight : L → Sight) (told : S → DoorTold) (session : S → Session) (now : S → Phase L) (shards : ℕ) (rules : Rules) (may_answer : ℕ → Type 0)
-    → AllByRecursion (λ one. HasSatDown shards rules (told one) (session one) (now one)) seats → Zips (Stands sight told session now shards rules may_answer) (map (at told session) seats) seats
+pub seats_begin : {S L : Type 0} {T C : Type 0} {g : Ghosts C T} (seats : List S) (sight : L → Sight)
+    (told : S → SourceTold) (session : S → Session T C g) (now : S → SlotState L) (shards : ℕ) (rules : Rules)
+    (may_answer : ℕ → Type 0)
+    → AllByRecursion (λ one. HasSatDown shards rules (told one) (session one) (now one)) seats
+    → Zips (Stands sight told session now shards rules may_answer) (map (at told session) seats) seats
 seats_begin [] sight told session now shards rules may_answer all = tt
 seats_begin {S} {L} (one ∷ seats) sight told session now shards rules may_answer all =
     let down = all.0 in
-    let P : Phase L → Type 0 = λ p. SeatStands sight shards rules may_answer (at told session one) (told one) (session one) p in
-    (subst P (sym down.none) (sits_first shards rules may_answer (told one) (session one) down.window down.free down.width down.vacant), seats_begin seats sight told session now shards rules may_answer all.1)
+    let P : SlotState L → Type 0 =
+    λ p. SeatStands sight shards rules may_answer (at told session one) (told one) (session one) p in (
+      subst P (sym down.none)
+          (sits_first shards rules may_answer (told one) (session one) down.window down.free down.width down.vacant),
+      seats_begin seats sight told session now shards rules may_answer all.1,
+    )
 
--- All lanes were closed, so they have served.
-pub seats_over : {S L : Type 0} (seats : List S) (sats : List SeatAt) (sight : L → Sight) (told : S → DoorTold) (session : S → Session) (now : S → Phase L) (shards : ℕ) (rules : Rules) (may_answer : ℕ → Type 0)
-    → AllByRecursion (λ one. now one ≡ phase.Over) seats → Zips (Stands sight told session now shards rules may_answer) sats seats → Zips (SeatServes shards rules may_answer) sats (map (at told session) seats)
+-- All channels were closed, so they have served.
+pub seats_over : {S L : Type 0} {T C : Type 0} {g : Ghosts C T} (seats : List S) (sats : List SeatAt)
+    (sight : L → Sight) (told : S → SourceTold) (session : S → Session T C g) (now : S → SlotState L) (shards : ℕ)
+    (rules : Rules) (may_answer : ℕ → Type 0)
+    → AllByRecursion (λ one. now one ≡ slot_state.Over) seats
+    → Zips (Stands sight told session now shards rules may_answer) sats seats
+    → Zips (SeatServes shards rules may_answer) sats (map (at told session) seats)
 seats_over [] [] sight told session now shards rules may_answer all zips = tt
 seats_over (one ∷ seats) [] sight told session now shards rules may_answer all zips = absurd zips
 seats_over [] (sat ∷ sats) sight told session now shards rules may_answer all zips = absurd zips
 seats_over {S} {L} (one ∷ seats) (sat ∷ sats) sight told session now shards rules may_answer all zips =
-    let P : Phase L → Type 0 = λ p. SeatStands sight shards rules may_answer sat (told one) (session one) p in
+    let P : SlotState L → Type 0 = λ p. SeatStands sight shards rules may_answer sat (told one) (session one) p in
     (subst P all.0 zips.0, seats_over seats sats sight told session now shards rules may_answer all.1 zips.1)
 
 -- The seat at a place may be stepped, once it is what it became.
-pub seat_steps : {S L : Type 0} (seats : List S) (sats : List SeatAt) (place : ℕ) (one next : S) (sight : L → Sight) (told : S → DoorTold) (session : S → Session) (now : S → Phase L) (shards : ℕ) (rules : Rules) (may_answer : ℕ → Type 0)
+pub seat_steps : {S L : Type 0} {T C : Type 0} {g : Ghosts C T} (seats : List S) (sats : List SeatAt) (place : ℕ)
+    (one next : S) (sight : L → Sight) (told : S → SourceTold) (session : S → Session T C g) (now : S → SlotState L)
+    (shards : ℕ) (rules : Rules) (may_answer : ℕ → Type 0)
     → slice_get seats place ≡ Some one
-    → ((sat : SeatAt) → Stands sight told session now shards rules may_answer sat one → Stands sight told session now shards rules may_answer sat next)
+    → ((sat : SeatAt) → Stands sight told session now shards rules may_answer sat one
+    → Stands sight told session now shards rules may_answer sat next)
     → Zips (Stands sight told session now shards rules may_answer) sats seats → CanStep (now next) (session next)
 seat_steps seats sats place one next sight told session now shards rules may_answer here became zips =
     let met = met_at (Stands sight told session now shards rules may_answer) sats seats place one zips here in
     can_step shards rules may_answer sight met.one (told next) (session next) (now next) (became met.one met.met)
 
 -- The workers of a thread are before their first turn.
-pub workers_begin : {W : Type 0} (workers : List W) (desk : W → Desk) → Zips Goes (map desk workers) (map desk workers)
-workers_begin [] desk = tt
-workers_begin (one ∷ workers) desk = (goes_refl (desk one), workers_begin workers desk)
+pub workers_begin : {W : Type 0} (workers : List W) (worker_state : W → WorkerState)
+    → Zips Goes (map worker_state workers) (map worker_state workers)
+workers_begin [] worker_state = tt
+workers_begin (one ∷ workers) worker_state = (goes_refl (worker_state one), workers_begin workers worker_state)
 
 -- The worker at a place had a turn.
-pub worker_turned : {W : Type 0} (workers : List W) (desk : W → Desk) (begun : List Desk) (place : ℕ) (old new : W) → slice_get workers place ≡ Some old → Goes (desk old) (desk new) → Zips Goes begun (map desk workers) → Zips Goes begun (map desk (slice_set workers place new))
-worker_turned workers desk begun place old new here goes zips =
-    let Z : List Desk → Type 0 = λ desks. Zips Goes begun desks in
-    subst Z (sym (map-slice_set desk workers place new)) (zips_set Goes begun (map desk workers) place (desk old) (desk new) (get_map desk workers place old here) (λ first was. goes_trans first (desk old) (desk new) was goes) zips)
+pub worker_turned : {W : Type 0} (workers : List W) (worker_state : W → WorkerState) (begun : List WorkerState)
+    (place : ℕ) (old new : W) → slice_get workers place ≡ Some old → Goes (worker_state old) (worker_state new)
+    → Zips Goes begun (map worker_state workers) → Zips Goes begun (map worker_state (slice_set workers place new))
+worker_turned workers worker_state begun place old new here goes zips =
+    let Z : List WorkerState → Type 0 = λ worker_states. Zips Goes begun worker_states in
+    subst Z (sym (map-slice_set worker_state workers place new))
+    (zips_set Goes begun (map worker_state workers) place (worker_state old) (worker_state new)
+    (get_map worker_state workers place old here)
+    (λ first was. goes_trans first (worker_state old) (worker_state new) was goes) zips)
 
 -- All have ended.
-pub workers_end : {W : Type 0} (workers : List W) (desk : W → Desk) (begun : List Desk) → AllByRecursion (λ one. (first : Desk) → Goes first (desk one) → Finishes first (desk one)) workers → Zips Goes begun (map desk workers) → Zips Finishes begun (map desk workers)
-workers_end [] desk [] all zips = tt
-workers_end (one ∷ workers) desk [] all zips = absurd zips
-workers_end [] desk (first ∷ begun) all zips = absurd zips
-workers_end (one ∷ workers) desk (first ∷ begun) all zips = (all.0 first zips.0, workers_end workers desk begun all.1 zips.1)
+pub workers_end : {W : Type 0} (workers : List W) (worker_state : W → WorkerState) (begun : List WorkerState)
+    → AllByRecursion (λ one. (first : WorkerState) → Goes first (worker_state one) → Finishes first (worker_state one))
+    workers → Zips Goes begun (map worker_state workers) → Zips Finishes begun (map worker_state workers)
+workers_end [] worker_state [] all zips = tt
+workers_end (one ∷ workers) worker_state [] all zips = absurd zips
+workers_end [] worker_state (first ∷ begun) all zips = absurd zips
+workers_end (one ∷ workers) worker_state (first ∷ begun) all zips =
+    (all.0 first zips.0, workers_end workers worker_state begun all.1 zips.1)
 
 -- One more of them was looked at.
-pub all_next : {A : Type 0} (xs : List A) (P : A → Type 0) (place : ℕ) (x : A) → slice_get xs place ≡ Some x → P x → AllByRecursion P (take place xs) → AllByRecursion P (take (place + 1) xs)
+pub all_next : {A : Type 0} (xs : List A) (P : A → Type 0) (place : ℕ) (x : A) → slice_get xs place ≡ Some x → P x
+    → AllByRecursion P (take place xs) → AllByRecursion P (take (place + 1) xs)
 all_next {A} xs P place x here this all =
     let Q : List A → Type 0 = λ ys. AllByRecursion P ys in
     subst Q (sym (take_next place xs x here)) (all_append P (take place xs) (x ∷ []) all (this, tt))
 
 -- All were looked at.
-pub all_taken : {A : Type 0} (xs : List A) (P : A → Type 0) (count : ℕ) → length xs ≤ count → AllByRecursion P (take count xs) → AllByRecursion P xs
-all_taken {A} xs P count whole all = let Q : List A → Type 0 = λ ys. AllByRecursion P ys in subst Q (take_all count xs whole) all
+pub all_taken : {A : Type 0} (xs : List A) (P : A → Type 0) (count : ℕ) → length xs ≤ count
+    → AllByRecursion P (take count xs) → AllByRecursion P xs
+all_taken {A} xs P count whole all = let Q : List A → Type 0 =
+    λ ys. AllByRecursion P ys in subst Q (take_all count xs whole) all
 
-all_split : {A : Type 0} (first rest : List A) (P : A → Type 0) → AllByRecursion P (first ++ rest) → AllByRecursion P first × AllByRecursion P rest
+all_split : {A : Type 0} (first rest : List A) (P : A → Type 0) → AllByRecursion P (first ++ rest)
+    → AllByRecursion P first × AllByRecursion P rest
 all_split [] rest P all = (tt, all)
 all_split (x ∷ first) rest P all = let others = all_split first rest P all.1 in ((all.0, others.0), others.1)
 
 -- Lists in lists: the seats, or the workers, of all parts.
-flat_one : {P A : Type 0} (parts : List P) (own : P → List A) (part : P) → flat_map own (parts ++ part ∷ []) ≡ flat_map own parts ++ own part
+flat_one : {P A : Type 0} (parts : List P) (own : P → List A) (part : P) → flat_map own (parts ++ part ∷ [])
+    ≡ flat_map own parts ++ own part
 flat_one [] own part = append-nil (own part)
-flat_one (first ∷ parts) own part = ap (λ xs. own first ++ xs) (flat_one parts own part) ∙ sym (append_assoc (own first) (flat_map own parts) (own part))
+flat_one (first ∷ parts) own part =
+    ap (λ xs. own first ++ xs) (flat_one parts own part)
+    ∙ sym (append_assoc (own first) (flat_map own parts) (own part))
 
 -- One part more took the first of those that were left.
-pub flat_more : {P A : Type 0} (parts parts' : List P) (own : P → List A) (part : P) (taken rest left all : List A) → parts' ≡ parts ++ part ∷ [] → own part ≡ taken → taken ++ rest ≡ left → flat_map own parts ++ left ≡ all → flat_map own parts' ++ rest ≡ all
+pub flat_more : {P A : Type 0} (parts parts' : List P) (own : P → List A) (part : P) (taken rest left all : List A)
+    → parts' ≡ parts ++ part ∷ [] → own part ≡ taken → taken ++ rest ≡ left → flat_map own parts ++ left ≡ all
+    → flat_map own parts' ++ rest ≡ all
 flat_more parts parts' own part taken rest left all grown mine took was =
     ap (λ ps. flat_map own ps ++ rest) grown
     ∙ (ap (λ xs. xs ++ rest) (flat_one parts own part)
@@ -107,7 +143,9 @@ flat_more parts parts' own part taken rest left all grown mine took was =
     ∙ (ap (λ xs. flat_map own parts ++ xs) took ∙ was))))
 
 -- One part more was taken apart.
-pub flat_next : {P A : Type 0} (done done' mine : List A) (own : P → List A) (part : P) (left left' : List P) (all : List A) → done' ≡ done ++ mine → mine ≡ own part → left ≡ part ∷ left' → done ++ flat_map own left ≡ all → done' ++ flat_map own left' ≡ all
+pub flat_next : {P A : Type 0} (done done' mine : List A) (own : P → List A) (part : P) (left left' : List P)
+    (all : List A) → done' ≡ done ++ mine → mine ≡ own part → left ≡ part ∷ left' → done ++ flat_map own left ≡ all
+    → done' ++ flat_map own left' ≡ all
 flat_next done done' mine own part left left' all grown is step was =
     ap (λ xs. xs ++ flat_map own left') grown
     ∙ (append_assoc done mine (flat_map own left')
@@ -115,53 +153,78 @@ flat_next done done' mine own part left left' all grown is step was =
     ∙ (ap (λ ps. done ++ flat_map own ps) (sym step) ∙ was)))
 
 -- What holds of some of the list under some sizes holds of them by other names.
-pub all_renamed : {A Z : Type 0} (xs ys : List A) (sizes sizes' : Z) (Q : Z → A → Type 0) → sizes' ≡ sizes → ys ≡ xs → AllByRecursion (Q sizes) xs → AllByRecursion (Q sizes') ys
+pub all_renamed : {A Z : Type 0} (xs ys : List A) (sizes sizes' : Z) (Q : Z → A → Type 0) → sizes' ≡ sizes → ys ≡ xs
+    → AllByRecursion (Q sizes) xs → AllByRecursion (Q sizes') ys
 all_renamed {A} {Z} xs ys sizes sizes' Q same same' all =
     let P : Z → List A → Type 0 = λ z zs. AllByRecursion (Q z) zs in
     subst (λ z. P z ys) (sym same) (subst (P sizes) (sym same') all)
 
 -- All parts were taken apart.
-pub flat_last : {P A : Type 0} (done : List A) (own : P → List A) (left : List P) (all : List A) → left ≡ [] → done ++ flat_map own left ≡ all → done ≡ all
+pub flat_last : {P A : Type 0} (done : List A) (own : P → List A) (left : List P) (all : List A) → left ≡ [] → done
+    ++ flat_map own left ≡ all → done ≡ all
 flat_last done own left all none was = sym (append-nil done) ∙ (ap (λ ps. done ++ flat_map own ps) (sym none) ∙ was)
 
 -- What holds of all holds of the first of them, and of the rest.
-pub all_parted : {A : Type 0} (first rest all : List A) (P : A → Type 0) → first ++ rest ≡ all → AllByRecursion P all → AllByRecursion P first × AllByRecursion P rest
-all_parted {A} first rest all P are holds = let Q : List A → Type 0 = λ xs. AllByRecursion P xs in all_split first rest P (subst Q (sym are) holds)
+pub all_parted : {A : Type 0} (first rest all : List A) (P : A → Type 0) → first ++ rest ≡ all → AllByRecursion P all
+    → AllByRecursion P first × AllByRecursion P rest
+all_parted {A} first rest all P are holds = let Q : List A → Type 0 =
+    λ xs. AllByRecursion P xs in all_split first rest P (subst Q (sym are) holds)
 
 map_append : {A B : Type 0} (f : A → B) (xs ys : List A) → map f (xs ++ ys) ≡ map f xs ++ map f ys
 map_append f [] ys = refl
 map_append f (x ∷ xs) ys = ap (λ zs. f x ∷ zs) (map_append f xs ys)
 
 -- What holds part by part of what the parts serve, element by element, holds of all.
-pub zips_flat : {P A B : Type 0} (parts parts' : List P) (own : P → List A) (f : A → B) (R : B → B → Type 0) → Zips (λ part part'. Zips R (map f (own part)) (map f (own part'))) parts parts' → Zips R (map f (flat_map own parts)) (map f (flat_map own parts'))
+pub zips_flat : {P A B : Type 0} (parts parts' : List P) (own : P → List A) (f : A → B) (R : B → B → Type 0)
+    → Zips (λ part part'. Zips R (map f (own part)) (map f (own part'))) parts parts'
+    → Zips R (map f (flat_map own parts)) (map f (flat_map own parts'))
 zips_flat [] [] own f R zips = tt
 zips_flat [] (part' ∷ parts') own f R zips = absurd zips
 zips_flat (part ∷ parts) [] own f R zips = absurd zips
 zips_flat {P} {A} {B} (part ∷ parts) (part' ∷ parts') own f R zips =
     let Z : List B → List B → Type 0 = λ xs ys. Zips R xs ys in
     subst (λ ys. Z (map f (flat_map own (part ∷ parts))) ys) (sym (map_append f (own part') (flat_map own parts')))
-    (subst (λ xs. Z xs (map f (own part') ++ map f (flat_map own parts'))) (sym (map_append f (own part) (flat_map own parts)))
-    (zips_append R (map f (own part)) (map f (own part')) (map f (flat_map own parts)) (map f (flat_map own parts')) zips.0 (zips_flat parts parts' own f R zips.1)))
+    (subst (λ xs. Z xs (map f (own part') ++ map f (flat_map own parts')))
+    (sym (map_append f (own part) (flat_map own parts)))
+    (zips_append R (map f (own part)) (map f (own part')) (map f (flat_map own parts)) (map f (flat_map own parts'))
+    zips.0 (zips_flat parts parts' own f R zips.1)))
 
 -- The parts of all threads are joined, and what they serve was taken apart.
-pub parts_joined : {P S W D : Type 0} (crew parts : List P) (seats : List S) (workers : List W) (doors back : List D) (own : P → List S) (working : P → List W) (at : S → SeatAt) (door_of : S → D) (desk_of : W → Desk) (told : D → DoorTold) (sizes : Sizes) (may_answer : ℕ → Type 0)
-    → ((seat : S) → told (door_of seat) ≡ (at seat).door)
-    → map door_of (flat_map own crew) ≡ doors
-    → AreLanes sizes.seats sizes.shards sizes.ring (map (λ seat. (at seat).ends) (flat_map own crew)) (map ends_of (map desk_of (flat_map working crew)))
-    → AllByRecursion (IsFresh sizes) (map desk_of (flat_map working crew))
-    → Zips (λ part part'. Zips (SeatServes sizes.shards (rules_of sizes) may_answer) (map at (own part)) (map at (own part')) × Zips Finishes (map desk_of (working part)) (map desk_of (working part'))) crew parts
+pub parts_joined : {P S W D : Type 0} (thread_group parts : List P) (seats : List S) (workers : List W)
+    (sources back : List D) (own : P → List S) (working : P → List W) (at : S → SeatAt) (source_of : S → D)
+    (worker_state_of : W → WorkerState) (told : D → SourceTold) (sizes : Sizes) (may_answer : ℕ → Type 0)
+    → ((seat : S) → told (source_of seat) ≡ (at seat).source)
+    → map source_of (flat_map own thread_group) ≡ sources
+    → AreChannels sizes.seats sizes.shards sizes.ring (map (λ seat. (at seat).ends) (flat_map own thread_group))
+    (map ends_of (map worker_state_of (flat_map working thread_group)))
+    → AllByRecursion (IsFresh sizes) (map worker_state_of (flat_map working thread_group))
+    → Zips (λ part part'. Zips (SeatServes sizes.shards (rules_of sizes) may_answer) (map at (own part))
+    (map at (own part')) × Zips Finishes (map worker_state_of (working part)) (map worker_state_of (working part')))
+    thread_group parts
     → seats ≡ flat_map own parts → workers ≡ flat_map working parts
-    → AreJoined sizes may_answer (flat_map own crew) seats (flat_map working crew) workers doors back at door_of desk_of told
-parts_joined {P} {S} {W} {D} crew parts seats workers doors back own working at door_of desk_of told sizes may_answer seen doors_are lanes fresh done seats_are workers_are =
-    let Rise : P → P → Type 0 = λ part part'. Zips (SeatServes sizes.shards (rules_of sizes) may_answer) (map at (own part)) (map at (own part')) in
-    let End : P → P → Type 0 = λ part part'. Zips Finishes (map desk_of (working part)) (map desk_of (working part')) in
-    let Q : List S → Type 0 = λ xs. Zips (SeatServes sizes.shards (rules_of sizes) may_answer) (map at (flat_map own crew)) (map at xs) in
-    let F : List W → Type 0 = λ xs. Zips Finishes (map desk_of (flat_map working crew)) (map desk_of xs) in
+    → AreJoined sizes may_answer (flat_map own thread_group) seats (flat_map working thread_group) workers sources back
+    at source_of worker_state_of told
+parts_joined {P} {S} {W} {D} thread_group parts seats workers sources back own working at source_of worker_state_of told
+    sizes may_answer seen sources_are channels fresh done seats_are workers_are =
+    let Rise : P → P → Type 0 =
+    λ part part'. Zips (SeatServes sizes.shards (rules_of sizes) may_answer) (map at (own part)) (map at (own part')) in
+    let End : P → P → Type 0 =
+    λ part part'. Zips Finishes (map worker_state_of (working part)) (map worker_state_of (working part')) in
+    let Q : List S → Type 0 =
+    λ xs. Zips (SeatServes sizes.shards (rules_of sizes) may_answer) (map at (flat_map own thread_group)) (map at xs) in
+    let F : List W → Type 0 =
+    λ xs. Zips Finishes (map worker_state_of (flat_map working thread_group)) (map worker_state_of xs) in
     record {
       seen = seen;
-      doors_are = doors_are;
-      lanes = lanes;
+      sources_are = sources_are;
+      channels = channels;
       fresh = fresh;
-      served = subst Q (sym seats_are) (zips_flat crew parts own at (SeatServes sizes.shards (rules_of sizes) may_answer) (zips_each _ Rise crew parts done (λ i x y here there met. met.0)));
-      finished = subst F (sym workers_are) (zips_flat crew parts working desk_of Finishes (zips_each _ End crew parts done (λ i x y here there met. met.1)));
+      served =
+          subst Q (sym seats_are) (zips_flat thread_group parts own
+          at (SeatServes sizes.shards (rules_of sizes) may_answer)
+          (zips_each _ Rise thread_group parts done (λ i x y here there met. met.0)));
+      finished =
+          subst F (sym workers_are)
+          (zips_flat thread_group parts working worker_state_of Finishes
+          (zips_each _ End thread_group parts done (λ i x y here there met. met.1)));
     }

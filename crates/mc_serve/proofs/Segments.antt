@@ -1,12 +1,13 @@
 -- What a worker ran for a seat is cut into the lines of the seat, one after another.
-use Rattle.std.proofs.Common.{◌≡◌, ℕ, zero, suc, ◌<◌, ◌+◌, ◌==◌, inl, inr, List, [], ◌∷◌, ◌++◌, length, map, take, drop, refl, sym, ap, subst, ◌∙◌, arith, append_assoc, append-nil, length-append}
+use Rattle.std.proofs.Common.{◌≡◌, ℕ, zero, suc, ◌<◌, ◌+◌, ◌==◌, inl, inr, List, [], ◌∷◌, ◌++◌, length, map, take, drop}
+use Rattle.std.proofs.Common.{refl, sym, ap, subst, ◌∙◌, arith, append_assoc, append-nil, length-append}
 use Rattle.std.specs.List.{AllByRecursion, flat_map}
 use Rattle.std.proofs.lemmas.Bool.{cases_lt}
 use Rattle.std.proofs.lemmas.List.{length-map, map-append, take_all, take-append-drop}
 use Rattle.mc_sizes.specs.Sizes.{rules_of}
 use Rattle.mc_sizes.specs.declared.sizes.Sizes.{Sizes}
-use Rattle.mc_ring.specs.declared.parcel.Parcel.TheVariants as parcel
-use Rattle.mc_ring.specs.Lane.{Near}
+use Rattle.mc_ring.specs.declared.request.Request.TheVariants as request
+use Rattle.mc_ring.specs.Channel.{Near}
 use Rattle.mc_ring.specs.Ends.{AreSameEnds, Ends, received_on, sent_on}
 use Rattle.mc_ring.specs.EndsLaws.{same_ends-refl, same_ends-trans}
 use Rattle.mc_ring.specs.Made.{AreNewEnds}
@@ -21,7 +22,7 @@ use Rattle.mc_conn.specs.Told.{Told, all_texts, commands_of}
 use Rattle.mc_conn.proofs.Serving.{keys_came}
 use Rattle.mc_conn.proofs.Telling.{ran_on-same, tells}
 use Rattle.mc_model.specs.Log.{Entry, of_asker, on_shard, pieces_in, replies_in}
-use Rattle.mc_worker.specs.Desk.{Desk, end_come}
+use Rattle.mc_worker.specs.WorkerState.{WorkerState, end_come}
 use Rattle.mc_wake.specs.Zips.{Zips}
 use Rattle.mc_seat.specs.LineServed.{Exchanges, LineServed}
 use Rattle.mc_seat.specs.Reads.{ReadsOwingNothing}
@@ -33,23 +34,27 @@ use Rattle.mc_serve.proofs.Joined.{worker_at}
 use Rattle.mc_serve.proofs.Line.{asked_by, entry_for, filter_keeps, map_on_shard, ran_shards, same_asker, shard_of}
 use Rattle.mc_serve.proofs.Served.{IsJoined, all_come, entries_same, moments_of, none_read}
 use Rattle.mc_serve.proofs.Tying.{as_many_replies, none_came, same_pieces, same_replies, to_end}
-use Rattle.mc_serve.specs.Seats.{AllFit, SeatAt, SeatServes, ServesDoorLine, ServesLines}
+use Rattle.mc_serve.specs.Seats.{AllFit, SeatAt, SeatServes, ServesSourceLine, ServesLines}
 use Rattle.mc_serve.specs.Served.{ExplainsHistory, ExplainsSeat}
 use Rattle.mc_command.specs.declared.rules.Rules.{Rules}
 use Rattle.mc_ring.proofs.Lists.{all_take}
 use Rattle.mc_model.proofs.Alone.{ran_of, pieces_of_ran, replies_of_ran}
 
 -- What is known of a line that was served, by what its connection was told.
-pub record Core (may_answer : ℕ → Type 0) (line : LineTold) (before after : Ends Near) (told : Told) (received : ℕ → List Shown) : Type 0 where
+pub record Core (may_answer : ℕ → Type 0) (line : LineTold) (before after : Ends Near) (told : Told)
+    (received : ℕ → List Shown) : Type 0 where
   pub exchanges : Exchanges before after told received
   pub serves : Serves told.shards told.taken told.accepted received
   pub story : Story told.rules line.begin line.now line.broke told.taken (all_texts told)
   pub moments : AllByRecursion (λ (one : Taken). may_answer one.moment) told.taken
   pub counted : line.commands ≡ length told.taken
-  pub reads : KeysFit told.shards told.taken received → ReadsOwingNothing told.rules line.begin line.now (commands_of told.taken) (all_texts told)
+  pub reads : KeysFit told.shards told.taken received
+      → ReadsOwingNothing told.rules line.begin line.now (commands_of told.taken) (all_texts told)
   pub complete : KeysFit told.shards told.taken received → length (all_texts told) ≡ length told.taken
 
-core_of : (shards : ℕ) (rules : Rules) (may_answer : ℕ → Type 0) (line : LineTold) (before after : Ends Near) (conn : Conn) → (served : LineServed shards rules may_answer line.begin line.now before after conn line.commands line.broke) → Core may_answer line before after served.told served.received
+core_of : (shards : ℕ) (rules : Rules) (may_answer : ℕ → Type 0) (line : LineTold) (before after : Ends Near)
+    (conn : Conn) → (served : LineServed shards rules may_answer line.begin line.now before after conn line.commands
+    line.broke) → Core may_answer line before after served.told served.received
 core_of shards rules may_answer line before after conn served = record {
   exchanges = served.exchanges;
   serves = served.serves;
@@ -64,16 +69,19 @@ core_of shards rules may_answer line before after conn served = record {
 abbrev pub sized : ℕ → Rules → Told → Told
 sized shards rules told = record told { shards = shards; rules = rules }
 
-same_sized : (shards : ℕ) (rules : Rules) (told : Told) → told.shards ≡ shards → told.rules ≡ rules → told ≡ sized shards rules told
+same_sized : (shards : ℕ) (rules : Rules) (told : Told) → told.shards ≡ shards → told.rules ≡ rules → told
+    ≡ sized shards rules told
 same_sized shards rules told shards_is rules_are = λ i. record told { shards = shards_is i; rules = rules_are i }
 
 -- A line that was served under these sizes.
-pub record Served (shards : ℕ) (rules : Rules) (may_answer : ℕ → Type 0) (line : LineTold) (before after : Ends Near) : Type 0 where
+pub record Served (shards : ℕ) (rules : Rules) (may_answer : ℕ → Type 0) (line : LineTold) (before after : Ends Near) :
+    Type 0 where
   pub told : Told
   pub received : ℕ → List Shown
   pub core : Core may_answer line before after (sized shards rules told) received
 
-served_of : (shards : ℕ) (rules : Rules) (may_answer : ℕ → Type 0) (line : LineTold) (before after : Ends Near) → ServesDoorLine shards rules may_answer line before after → Served shards rules may_answer line before after
+served_of : (shards : ℕ) (rules : Rules) (may_answer : ℕ → Type 0) (line : LineTold) (before after : Ends Near)
+    → ServesSourceLine shards rules may_answer line before after → Served shards rules may_answer line before after
 served_of shards rules may_answer line before after serves =
     let told = serves.served.told in
     let received = serves.served.received in
@@ -81,50 +89,65 @@ served_of shards rules may_answer line before after serves =
     record {
       told = told;
       received = received;
-      core = subst P (same_sized shards rules told serves.served.shards_is serves.served.rules_are) (core_of shards rules may_answer line before after serves.conn serves.served);
+      core =
+          subst P (same_sized shards rules told serves.served.shards_is serves.served.rules_are)
+          (core_of shards rules may_answer line before after serves.conn serves.served);
     }
 
 module _ (shards : ℕ) (rules : Rules) (may_answer : ℕ → Type 0) where
   abbrev pub Chain : List LineTold → Ends Near → Ends Near → Type 0
   Chain [] before after = after ≡ before
-  Chain (line ∷ lines) before after = (mid : Ends Near) × Served shards rules may_answer line before mid × Chain lines mid after
+  Chain (line ∷ lines) before after =
+      (mid : Ends Near) × Served shards rules may_answer line before mid × Chain lines mid after
 
-  pub chain_of : (lines : List LineTold) (before after : Ends Near) → ServesLines shards rules may_answer lines before after → Chain lines before after
+  pub chain_of : (lines : List LineTold) (before after : Ends Near)
+      → ServesLines shards rules may_answer lines before after → Chain lines before after
   chain_of [] before after are = are
-  chain_of (line ∷ lines) before after are = (are.0, served_of shards rules may_answer line before are.0 are.1, chain_of lines are.0 after are.2)
+  chain_of (line ∷ lines) before after are =
+      (are.0, served_of shards rules may_answer line before are.0 are.1, chain_of lines are.0 after are.2)
 
   -- the pieces that were due at a shard for all the lines, and the replies that came from it
   abbrev pub all_due : (lines : List LineTold) (before after : Ends Near) → Chain lines before after → ℕ → List Piece
   all_due [] before after chain shard = []
-  all_due (line ∷ lines) before after chain shard = due.due shards shard chain.1.told.taken ++ all_due lines chain.0 after chain.2 shard
+  all_due (line ∷ lines) before after chain shard =
+      due.due shards shard chain.1.told.taken ++ all_due lines chain.0 after chain.2 shard
 
   abbrev pub all_got : (lines : List LineTold) (before after : Ends Near) → Chain lines before after → ℕ → List Shown
   all_got [] before after chain shard = []
   all_got (line ∷ lines) before after chain shard = chain.1.received shard ++ all_got lines chain.0 after chain.2 shard
 
-  pub chain_same : (lines : List LineTold) (before after : Ends Near) → Chain lines before after → AreSameEnds before after
-  chain_same [] before after chain = let P : Ends Near → Type 0 = λ ends. AreSameEnds before ends in subst P (sym chain) (same_ends-refl before)
-  chain_same (line ∷ lines) before after chain = same_ends-trans before chain.0 after chain.1.core.exchanges.same (chain_same lines chain.0 after chain.2)
+  pub chain_same : (lines : List LineTold) (before after : Ends Near) → Chain lines before after
+      → AreSameEnds before after
+  chain_same [] before after chain = let P : Ends Near → Type 0 =
+      λ ends. AreSameEnds before ends in subst P (sym chain) (same_ends-refl before)
+  chain_same (line ∷ lines) before after chain =
+      same_ends-trans before chain.0 after chain.1.core.exchanges.same (chain_same lines chain.0 after chain.2)
 
-  pub chain_sent : (lines : List LineTold) (before after : Ends Near) → (chain : Chain lines before after) → (shard : ℕ) → shard < shards → sent_on after shard ≡ sent_on before shard ++ map parcel.Piece (all_due lines before after chain shard)
-  chain_sent [] before after chain shard below = ap (λ ends. sent_on ends shard) chain ∙ sym (append-nil (sent_on before shard))
+  pub chain_sent : (lines : List LineTold) (before after : Ends Near) → (chain : Chain lines before after) → (shard : ℕ)
+      → shard < shards → sent_on after shard ≡ sent_on before shard
+      ++ map request.Piece (all_due lines before after chain shard)
+  chain_sent [] before after chain shard below =
+      ap (λ ends. sent_on ends shard) chain ∙ sym (append-nil (sent_on before shard))
   chain_sent (line ∷ lines) before after chain shard below =
       let this = due.due shards shard chain.1.told.taken in
       let others = all_due lines chain.0 after chain.2 shard in
       chain_sent lines chain.0 after chain.2 shard below
-      ∙ (ap (λ ps. ps ++ map parcel.Piece others) (chain.1.core.exchanges.sent shard below)
-      ∙ (append_assoc (sent_on before shard) (map parcel.Piece this) (map parcel.Piece others)
-      ∙ ap (λ ps. sent_on before shard ++ ps) (sym (map-append parcel.Piece this others))))
+      ∙ (ap (λ ps. ps ++ map request.Piece others) (chain.1.core.exchanges.sent shard below)
+      ∙ (append_assoc (sent_on before shard) (map request.Piece this) (map request.Piece others)
+      ∙ ap (λ ps. sent_on before shard ++ ps) (sym (map-append request.Piece this others))))
 
-  pub chain_came : (lines : List LineTold) (before after : Ends Near) → (chain : Chain lines before after) → (shard : ℕ) → shard < shards → received_on after shard ≡ received_on before shard ++ all_got lines before after chain shard
-  chain_came [] before after chain shard below = ap (λ ends. received_on ends shard) chain ∙ sym (append-nil (received_on before shard))
+  pub chain_came : (lines : List LineTold) (before after : Ends Near) → (chain : Chain lines before after) → (shard : ℕ)
+      → shard < shards → received_on after shard ≡ received_on before shard ++ all_got lines before after chain shard
+  chain_came [] before after chain shard below =
+      ap (λ ends. received_on ends shard) chain ∙ sym (append-nil (received_on before shard))
   chain_came (line ∷ lines) before after chain shard below =
       let others = all_got lines chain.0 after chain.2 shard in
       chain_came lines chain.0 after chain.2 shard below
       ∙ (ap (λ rs. rs ++ others) (chain.1.core.exchanges.came shard below)
       ∙ append_assoc (received_on before shard) (chain.1.received shard) others)
 
-  pub chain_many : (lines : List LineTold) (before after : Ends Near) → (chain : Chain lines before after) → (shard : ℕ) → length (all_got lines before after chain shard) ≡ length (all_due lines before after chain shard)
+  pub chain_many : (lines : List LineTold) (before after : Ends Near) → (chain : Chain lines before after) → (shard : ℕ)
+      → length (all_got lines before after chain shard) ≡ length (all_due lines before after chain shard)
   chain_many [] before after chain shard = refl
   chain_many (line ∷ lines) before after chain shard =
       let one = chain.1.core.exchanges.answered shard in
@@ -136,9 +159,13 @@ module _ (shards : ℕ) (rules : Rules) (may_answer : ℕ → Type 0) where
   -- the keys of the replies to each line fit
   abbrev pub ChainFits : (lines : List LineTold) (before after : Ends Near) → Chain lines before after → Type 0
   ChainFits [] before after chain = Unit {0}
-  ChainFits (line ∷ lines) before after chain = KeysFit shards chain.1.told.taken chain.1.received × ChainFits lines chain.0 after chain.2
+  ChainFits (line ∷ lines) before after chain =
+      KeysFit shards chain.1.told.taken chain.1.received × ChainFits lines chain.0 after chain.2
 
-  fits_all : (lines : List LineTold) (before after : Ends Near) (are : ServesLines shards rules may_answer lines before after) → ChainFits lines before after (chain_of lines before after are) → AllFit shards rules may_answer lines before after are
+  fits_all : (lines : List LineTold) (before after : Ends Near)
+      (are : ServesLines shards rules may_answer lines before after)
+      → ChainFits lines before after (chain_of lines before after are)
+      → AllFit shards rules may_answer lines before after are
   unfolding chain_of served_of
   fits_all [] before after are fits = tt
   fits_all (line ∷ lines) before after are fits =
@@ -151,20 +178,28 @@ pub record AreRun (asked : List Piece) (got : List Shown) (log : List Entry) : T
   pub pieces : asked ≡ pieces_in log
   pub replies : got ≡ replies_in log
 
--- A lane that is tied: what was asked there and then End.
-lane_run : (sizes : Sizes) (shard : ℕ) (ends : Ends Near) (desk : Desk) (asked : List Piece) (got : List Shown) (log : List Entry)
-    → ends.number < sizes.seats → sent_on ends shard ≡ to_end asked → received_on ends shard ≡ got → length got ≡ length asked → IsLogOf sizes shard desk log → IsTied ends desk.ends
+-- A channel that is tied: what was asked there and then End.
+channel_run : (sizes : Sizes) (shard : ℕ) (ends : Ends Near) (worker_state : WorkerState) (asked : List Piece)
+    (got : List Shown) (log : List Entry)
+    → ends.number < sizes.seats → sent_on ends shard ≡ to_end asked → received_on ends shard ≡ got → length got
+    ≡ length asked → IsLogOf sizes shard worker_state log → IsTied ends worker_state.ends
     → AreRun asked got (of_asker ends.number log)
-lane_run sizes shard ends desk asked got log here sent came many ran tied =
+channel_run sizes shard ends worker_state asked got log here sent came many ran tied =
     let seat = ends.number in
     let mine = of_asker seat log in
-    let popped : received_on desk.ends seat ≡ to_end (pieces_in mine) =
-    ran.ran.taken seat ∙ ap (λ live. map parcel.Piece (pieces_in mine) ++ end_come live) (ran.ended seat here) in
+    let popped : received_on worker_state.ends seat ≡ to_end (pieces_in mine) =
+    ran.ran.taken seat ∙ ap (λ live. map request.Piece (pieces_in mine) ++ end_come live) (ran.ended seat here) in
     let pieces : pieces_in mine ≡ asked =
-    same_pieces (pieces_in mine) asked tied.parcels (ap (λ ps. ps ++ tied.parcels) (sym popped) ∙ (tied.parcels_wait ∙ (ap (λ n. sent_on ends n) ran.number ∙ sent))) in
-    let gave : replies_in mine ≡ sent_on desk.ends seat = (rw ran.given at ran.ran.given seat) ∙ append-nil (sent_on desk.ends seat) in
-    let waits : got ++ tied.replies ≡ replies_in mine = ap (λ rs. rs ++ tied.replies) (sym (ap (λ n. received_on ends n) ran.number ∙ came)) ∙ (tied.replies_wait ∙ sym gave) in
-    let whole : length got ≡ length (replies_in mine) = many ∙ (ap (λ ps. length ps) (sym pieces) ∙ sym (as_many_replies mine)) in
+    same_pieces (pieces_in mine) asked tied.requests
+    (ap (λ ps. ps ++ tied.requests) (sym popped) ∙ (tied.requests_wait ∙ (ap (λ n. sent_on ends n) ran.number ∙ sent)))
+    in
+    let gave : replies_in mine ≡ sent_on worker_state.ends seat = (rw ran.given at ran.ran.given seat)
+    ∙ append-nil (sent_on worker_state.ends seat) in
+    let waits : got ++ tied.replies ≡ replies_in mine =
+    ap (λ rs. rs ++ tied.replies) (sym (ap (λ n. received_on ends n) ran.number ∙ came))
+    ∙ (tied.replies_wait ∙ sym gave) in
+    let whole : length got ≡ length (replies_in mine) = many
+    ∙ (ap (λ ps. length ps) (sym pieces) ∙ sym (as_many_replies mine)) in
     record { pieces = sym pieces; replies = same_replies got (replies_in mine) tied.replies waits whole }
 
 -- What was asked and got first was run first.
@@ -172,7 +207,8 @@ record IsCut (xs ys : List Piece) (gs hs : List Shown) (log : List Entry) : Type
   first : AreRun xs gs (take (length xs) log)
   rest : AreRun ys hs (drop (length xs) log)
 
-cut : (xs ys : List Piece) (gs hs : List Shown) (log : List Entry) → length gs ≡ length xs → AreRun (xs ++ ys) (gs ++ hs) log → IsCut xs ys gs hs log
+cut : (xs ys : List Piece) (gs hs : List Shown) (log : List Entry) → length gs ≡ length xs
+    → AreRun (xs ++ ys) (gs ++ hs) log → IsCut xs ys gs hs log
 cut [] ys [] hs log many run = record { first = record { pieces = refl; replies = refl }; rest = run }
 cut [] ys (g ∷ gs) hs log many run = absurd (omega (arith, many))
 cut (x ∷ xs) ys [] hs log many run = absurd (omega (arith, many))
@@ -207,20 +243,24 @@ none_run (e ∷ log) none = absurd (cc)
 abbrev pub IsMine : ℕ → ℕ → Entry → Type 0
 IsMine shard seat entry = (entry.shard ≡ shard) × (entry.asker ≡ seat)
 
-all_shard : (shard seat : ℕ) (log : List Entry) → AllByRecursion (IsMine shard seat) log → AllByRecursion (λ entry. entry.shard ≡ shard) log
+all_shard : (shard seat : ℕ) (log : List Entry) → AllByRecursion (IsMine shard seat) log
+    → AllByRecursion (λ entry. entry.shard ≡ shard) log
 all_shard shard seat [] all = tt
 all_shard shard seat (e ∷ log) all = (all.0.0, all_shard shard seat log all.1)
 
-all_asker : (shard seat : ℕ) (log : List Entry) → AllByRecursion (IsMine shard seat) log → AllByRecursion (λ entry. entry.asker ≡ seat) log
+all_asker : (shard seat : ℕ) (log : List Entry) → AllByRecursion (IsMine shard seat) log
+    → AllByRecursion (λ entry. entry.asker ≡ seat) log
 all_asker shard seat [] all = tt
 all_asker shard seat (e ∷ log) all = (all.0.1, all_asker shard seat log all.1)
 
-all_mine : (shard seat : ℕ) (log : List Entry) → AllByRecursion (λ entry. entry.shard ≡ shard) log → AllByRecursion (λ entry. entry.asker ≡ seat) log → AllByRecursion (IsMine shard seat) log
+all_mine : (shard seat : ℕ) (log : List Entry) → AllByRecursion (λ entry. entry.shard ≡ shard) log
+    → AllByRecursion (λ entry. entry.asker ≡ seat) log → AllByRecursion (IsMine shard seat) log
 all_mine shard seat [] shards askers = tt
 all_mine shard seat (e ∷ log) shards askers = ((shards.0, askers.0), all_mine shard seat log shards.1 askers.1)
 
 -- so the replies came from the shard
-run_came : (shards shard : ℕ) (taken : List Taken) (got : List Shown) (log : List Entry) → AreRun (due.due shards shard taken) got log → CameFrom shards shard taken got
+run_came : (shards shard : ℕ) (taken : List Taken) (got : List Shown) (log : List Entry)
+    → AreRun (due.due shards shard taken) got log → CameFrom shards shard taken got
 run_came shards shard taken got log run = record {
   ran = map ran_of log;
   rest = [];
@@ -229,24 +269,33 @@ run_came shards shard taken got log run = record {
 }
 
 -- What a shard ran for a line is what the line's history tells.
-run_told : (shards shard seat : ℕ) (taken : List Taken) (got : List Shown) (mine : List Entry) (history : List AnsweredCommand) → AreRun (due.due shards shard taken) got mine → AllByRecursion (IsMine shard seat) mine
-    → due.on_shard shard (due.log_of shards history) ≡ ran_on shard (due.due shards shard taken) got → mine ≡ on_shard shard (log_of shards seat history)
+run_told : (shards shard seat : ℕ) (taken : List Taken) (got : List Shown) (mine : List Entry)
+    (history : List AnsweredCommand) → AreRun (due.due shards shard taken) got mine
+    → AllByRecursion (IsMine shard seat) mine
+    → due.on_shard shard (due.log_of shards history) ≡ ran_on shard (due.due shards shard taken) got → mine
+    ≡ on_shard shard (log_of shards seat history)
 run_told shards shard seat taken got mine history run owned told =
     let these : ran_on shard (due.due shards shard taken) got ≡ map ran_of mine =
     ap (λ ps. ran_on shard ps got) (run.pieces ∙ sym (pieces_of_ran mine))
-    ∙ (ap (λ rs. ran_on shard (map (λ (ran : Ran). ran.piece) (map ran_of mine)) rs) (run.replies ∙ sym (replies_of_ran mine))
+    ∙ (ap (λ rs. ran_on shard (map (λ (ran : Ran). ran.piece) (map ran_of mine)) rs)
+    (run.replies ∙ sym (replies_of_ran mine))
     ∙ ran_on-same shard (map ran_of mine) (ran_shards shard mine (all_shard shard seat mine owned))) in
-    sym (map_on_shard shard seat (due.log_of shards history) ∙ (ap (λ rs. map (entry_for seat) rs) (told ∙ these) ∙ same_asker seat mine (all_asker shard seat mine owned)))
+    sym (map_on_shard shard seat (due.log_of shards history)
+    ∙ (ap (λ rs. map (entry_for seat) rs) (told ∙ these) ∙ same_asker seat mine (all_asker shard seat mine owned)))
 
 -- One line of the seat, by what each shard ran for it.
-record LineRan (sizes : Sizes) (may_answer : ℕ → Type 0) (line : LineTold) (seat : ℕ) (mine : ℕ → List Entry) (taken : List Taken) (received : ℕ → List Shown) : Type 0 where
+record LineRan (sizes : Sizes) (may_answer : ℕ → Type 0) (line : LineTold) (seat : ℕ) (mine : ℕ → List Entry)
+    (taken : List Taken) (received : ℕ → List Shown) : Type 0 where
   fit : KeysFit sizes.shards taken received
   history : List AnsweredCommand
   explains : ExplainsHistory sizes may_answer line history
   ran : (shard : ℕ) → shard < sizes.shards → mine shard ≡ on_shard shard (log_of sizes.shards seat history)
 
-line_ran : (sizes : Sizes) (may_answer : ℕ → Type 0) (line : LineTold) (before after : Ends Near) (seat : ℕ) (mine : ℕ → List Entry) → 0 < sizes.shards → (at : Served sizes.shards (rules_of sizes) may_answer line before after)
-    → ((shard : ℕ) → shard < sizes.shards → AreRun (due.due sizes.shards shard at.told.taken) (at.received shard) (mine shard))
+line_ran : (sizes : Sizes) (may_answer : ℕ → Type 0) (line : LineTold) (before after : Ends Near) (seat : ℕ)
+    (mine : ℕ → List Entry) → 0 < sizes.shards
+    → (at : Served sizes.shards (rules_of sizes) may_answer line before after)
+    → ((shard : ℕ) → shard < sizes.shards
+    → AreRun (due.due sizes.shards shard at.told.taken) (at.received shard) (mine shard))
     → ((shard : ℕ) → shard < sizes.shards → AllByRecursion (IsMine shard seat) (mine shard))
     → LineRan sizes may_answer line seat mine at.told.taken at.received
 line_ran sizes may_answer line before after seat mine some at runs owned =
@@ -260,16 +309,22 @@ line_ran sizes may_answer line before after seat mine some at runs owned =
     ]) in
     let count = length told.taken in
     let t : Tells sizes.shards told.taken told.accepted received count =
-    tells sizes.shards count told.taken told.accepted received (omega arith) core.story.may (core.serves.fits fit) (all_come sizes.shards told.taken received core.exchanges.answered) in
+    tells sizes.shards count told.taken told.accepted received (omega arith) core.story.may (core.serves.fits fit)
+    (all_come sizes.shards told.taken received core.exchanges.answered) in
     let whole : take count told.taken ≡ told.taken = take_all count told.taken (omega arith) in
     let complete = core.complete fit in
-    let all : take count (all_texts told) ≡ all_texts told = take_all count (all_texts told) (omega (arith, complete)) in
+    let all : take count (all_texts told) ≡ all_texts told =
+    take_all count (all_texts told) (omega (arith, complete)) in
     let history_at : List Taken → List AnsweredCommand = λ ts. history_of sizes.shards told.accepted ts in
     let history = history_at told.taken in
-    let same : map taken_of history ≡ told.taken = (let P : List Taken → Type 0 = λ ts. map taken_of (history_at ts) ≡ ts in subst P whole t.same) in
-    let texts : all_texts told ≡ map text_done history = sym all ∙ (t.texts ∙ ap (λ ts. map text_done (history_at ts)) whole) in
-    let S : List Taken → List (List ℕ) → Type 0 = λ taken texts. Story (rules_of sizes) line.begin line.now line.broke taken texts in
-    let R : List _ → List (List ℕ) → Type 0 = λ commands texts. ReadsOwingNothing (rules_of sizes) line.begin line.now commands texts in
+    let same : map taken_of history ≡ told.taken =
+    (let P : List Taken → Type 0 = λ ts. map taken_of (history_at ts) ≡ ts in subst P whole t.same) in
+    let texts : all_texts told ≡ map text_done history = sym all
+    ∙ (t.texts ∙ ap (λ ts. map text_done (history_at ts)) whole) in
+    let S : List Taken → List (List ℕ) → Type 0 =
+    λ taken texts. Story (rules_of sizes) line.begin line.now line.broke taken texts in
+    let R : List _ → List (List ℕ) → Type 0 =
+    λ commands texts. ReadsOwingNothing (rules_of sizes) line.begin line.now commands texts in
     let commands_are : commands_of told.taken ≡ entries_of history = ap commands_of (sym same) ∙ entries_same history in
     let M : List Taken → Type 0 = λ ts. AllByRecursion (λ (one : Taken). may_answer one.moment) ts in
     let long = ap length same in
@@ -278,55 +333,81 @@ line_ran sizes may_answer line before after seat mine some at runs owned =
       fit = fit;
       history = history;
       explains = record {
-        story = subst (λ texts. S (map taken_of history) texts) texts (subst (λ taken. S taken (all_texts told)) (sym same) core.story);
-        reads = subst (λ texts. R (entries_of history) texts) texts (subst (λ commands. R commands (all_texts told)) commands_are (core.reads fit));
-        answered = (let P : List Taken → Type 0 = λ ts. AllByRecursion (IsAnswered sizes.shards) (history_at ts) in subst P whole t.answered);
+        story =
+            subst (λ texts. S (map taken_of history) texts) texts
+            (subst (λ taken. S taken (all_texts told)) (sym same) core.story);
+        reads =
+            subst (λ texts. R (entries_of history) texts) texts
+            (subst (λ commands. R commands (all_texts told)) commands_are (core.reads fit));
+        answered =
+            (let P : List Taken → Type 0 = λ ts. AllByRecursion (IsAnswered sizes.shards) (history_at ts) in
+            subst P whole t.answered);
         moments = moments_of may_answer history (subst M (sym same) core.moments);
         counted = omega (arith, counted, long, length-map history taken_of);
       };
       ran = λ s below.
-          let P : List Taken → Type 0 = λ ts. due.on_shard s (due.log_of sizes.shards (history_at ts)) ≡ ran_on s (due.due sizes.shards s ts) (received s) in
-          run_told sizes.shards s seat told.taken (received s) (mine s) history (runs s below) (owned s below) (subst P whole (t.ran s));
+          let P : List Taken → Type 0 = λ ts. due.on_shard s (due.log_of sizes.shards (history_at ts))
+          ≡ ran_on s (due.due sizes.shards s ts) (received s) in
+          run_told sizes.shards s seat told.taken (received s) (mine s) history (runs s below) (owned s below)
+          (subst P whole (t.ran s));
     }
 
 -- All lines of the seat, by what each shard ran for it.
-record SeatRan (sizes : Sizes) (may_answer : ℕ → Type 0) (lines : List LineTold) (seat : ℕ) (mine : ℕ → List Entry) (before after : Ends Near) (chain : Chain sizes.shards (rules_of sizes) may_answer lines before after) : Type 0 where
-  fits : ChainFits sizes.shards (rules_of sizes) may_answer lines before after chain
-  histories : List (List AnsweredCommand)
-  each : Zips (ExplainsHistory sizes may_answer) lines histories
-  ran : (shard : ℕ) → shard < sizes.shards → mine shard ≡ flat_map (λ history. on_shard shard (log_of sizes.shards seat history)) histories
+record SeatRan (sizes : Sizes) (may_answer : ℕ → Type 0) (lines : List LineTold) (seat : ℕ) (mine : ℕ → List Entry)
+    (before after : Ends Near) (chain : Chain sizes.shards (rules_of sizes) may_answer lines before after) : Type 0
+  where
+    fits : ChainFits sizes.shards (rules_of sizes) may_answer lines before after chain
+    histories : List (List AnsweredCommand)
+    each : Zips (ExplainsHistory sizes may_answer) lines histories
+    ran : (shard : ℕ) → shard < sizes.shards → mine shard
+        ≡ flat_map (λ history. on_shard shard (log_of sizes.shards seat history)) histories
 
-seat_ran : (sizes : Sizes) (may_answer : ℕ → Type 0) (seat : ℕ) → 0 < sizes.shards → (lines : List LineTold) (before after : Ends Near) (mine : ℕ → List Entry) → (chain : Chain sizes.shards (rules_of sizes) may_answer lines before after)
-    → ((shard : ℕ) → shard < sizes.shards → AreRun (all_due sizes.shards (rules_of sizes) may_answer lines before after chain shard) (all_got sizes.shards (rules_of sizes) may_answer lines before after chain shard) (mine shard))
+seat_ran : (sizes : Sizes) (may_answer : ℕ → Type 0) (seat : ℕ) → 0 < sizes.shards
+    → (lines : List LineTold) (before after : Ends Near) (mine : ℕ → List Entry)
+    → (chain : Chain sizes.shards (rules_of sizes) may_answer lines before after)
+    → ((shard : ℕ) → shard < sizes.shards
+    → AreRun (all_due sizes.shards (rules_of sizes) may_answer lines before after chain shard)
+    (all_got sizes.shards (rules_of sizes) may_answer lines before after chain shard) (mine shard))
     → ((shard : ℕ) → shard < sizes.shards → AllByRecursion (IsMine shard seat) (mine shard))
     → SeatRan sizes may_answer lines seat mine before after chain
-seat_ran sizes may_answer seat some [] before after mine chain runs owned = record { fits = tt; histories = []; each = tt; ran = λ s below. none_run (mine s) (runs s below).pieces }
+seat_ran sizes may_answer seat some [] before after mine chain runs owned =
+    record { fits = tt; histories = []; each = tt; ran = λ s below. none_run (mine s) (runs s below).pieces }
 seat_ran sizes may_answer seat some (line ∷ lines) before after mine chain runs owned =
     let many : ℕ → ℕ = λ s. length (due.due sizes.shards s chain.1.told.taken) in
     let first : ℕ → List Entry = λ s. take (many s) (mine s) in
     let others : ℕ → List Entry = λ s. drop (many s) (mine s) in
     let cuts = λ (s : ℕ) (below : s < sizes.shards).
-    cut (due.due sizes.shards s chain.1.told.taken) (all_due sizes.shards (rules_of sizes) may_answer lines chain.0 after chain.2 s) (chain.1.received s) (all_got sizes.shards (rules_of sizes) may_answer lines chain.0 after chain.2 s) (mine s) (chain.1.core.exchanges.answered s) (runs s below) in
-    let one = line_ran sizes may_answer line before chain.0 seat first some chain.1 (λ s below. (cuts s below).first) (λ s below. all_take (IsMine s seat) (many s) (mine s) (owned s below)) in
-    let rest = seat_ran sizes may_answer seat some lines chain.0 after others chain.2 (λ s below. (cuts s below).rest) (λ s below. all_drop (IsMine s seat) (many s) (mine s) (owned s below)) in
+    cut (due.due sizes.shards s chain.1.told.taken)
+    (all_due sizes.shards (rules_of sizes) may_answer lines chain.0 after chain.2 s) (chain.1.received s)
+    (all_got sizes.shards (rules_of sizes) may_answer lines chain.0 after chain.2 s) (mine s)
+    (chain.1.core.exchanges.answered s) (runs s below) in
+    let one = line_ran sizes may_answer line before chain.0 seat first some chain.1 (λ s below. (cuts s below).first)
+    (λ s below. all_take (IsMine s seat) (many s) (mine s) (owned s below)) in
+    let rest = seat_ran sizes may_answer seat some lines chain.0 after others chain.2 (λ s below. (cuts s below).rest)
+    (λ s below. all_drop (IsMine s seat) (many s) (mine s) (owned s below)) in
     record {
       fits = (one.fit, rest.fits);
       histories = one.history ∷ rest.histories;
       each = (one.explains, rest.each);
       ran = λ s below.
           sym (take-append-drop (many s) (mine s))
-          ∙ (ap (λ es. es ++ others s) (one.ran s below) ∙ ap (λ es. on_shard s (log_of sizes.shards seat one.history) ++ es) (rest.ran s below));
+          ∙ (ap (λ es. es ++ others s) (one.ran s below)
+          ∙ ap (λ es. on_shard s (log_of sizes.shards seat one.history) ++ es) (rest.ran s below));
     }
 
 -- What is known of a seat: its lines are explained, and the keys of their replies fit.
-pub record IsSeatKnown (sizes : Sizes) (may_answer : ℕ → Type 0) (log : List Entry) (seat : ℕ) (sat rose : SeatAt) (serves : SeatServes sizes.shards (rules_of sizes) may_answer sat rose) : Type 0 where
+pub record IsSeatKnown (sizes : Sizes) (may_answer : ℕ → Type 0) (log : List Entry) (seat : ℕ) (sat rose : SeatAt)
+    (serves : SeatServes sizes.shards (rules_of sizes) may_answer sat rose) : Type 0 where
   pub explains : ExplainsSeat sizes may_answer log seat serves.lines
   pub fits : AllFit sizes.shards (rules_of sizes) may_answer serves.lines sat.ends serves.served serves.lines_are
 
 -- The workers' logs explain the lines of the seat.
-pub explains_seat : (sizes : Sizes) (capacity number : ℕ) (may_answer : ℕ → Type 0) (sat rose : SeatAt) (desks : List Desk) (logs : List (List Entry)) → (serves : SeatServes sizes.shards (rules_of sizes) may_answer sat rose)
-    → AreNewEnds number sizes.shards capacity sat.ends → IsJoined sizes rose.ends desks logs → IsSeatKnown sizes may_answer (together logs) rose.ends.number sat rose serves
-explains_seat sizes capacity number may_answer sat rose desks logs serves new joined =
+pub explains_seat : (sizes : Sizes) (capacity number : ℕ) (may_answer : ℕ → Type 0) (sat rose : SeatAt)
+    (worker_states : List WorkerState) (logs : List (List Entry))
+    → (serves : SeatServes sizes.shards (rules_of sizes) may_answer sat rose)
+    → AreNewEnds number sizes.shards capacity sat.ends → IsJoined sizes rose.ends worker_states logs
+    → IsSeatKnown sizes may_answer (together logs) rose.ends.number sat rose serves
+explains_seat sizes capacity number may_answer sat rose worker_states logs serves new joined =
     let shards = sizes.shards in
     let rules = rules_of sizes in
     let seat = rose.ends.number in
@@ -336,25 +417,40 @@ explains_seat sizes capacity number may_answer sat rose desks logs serves new jo
     let got : ℕ → List Shown = all_got shards rules may_answer serves.lines sat.ends serves.served chain in
     let mine : ℕ → List Entry = λ s. of_asker seat (on_shard s (together logs)) in
     let sent = λ (s : ℕ) (below : s < shards).
-    (let none : sent_on sat.ends s ≡ [] = none_read (λ (near : Near). near.past.sent) (λ near unused. unused.sent) sat.ends.lanes s new.unused in
-    let there : s < length serves.served.lanes = (let count = same.count in let counted = new.counted in omega (arith, below, count, counted)) in
-    let all : sent_on rose.ends s ≡ to_end (asked s) = serves.closed.sent s there ∙ ap (λ ps. ps ++ parcel.End ∷ []) (chain_sent shards rules may_answer serves.lines sat.ends serves.served chain s below ∙ ap (λ ps. ps ++ map parcel.Piece (asked s)) none) in
+    (let none : sent_on sat.ends s
+    ≡ [] = none_read (λ (near : Near). near.past.sent) (λ near unused. unused.sent) sat.ends.channels s new.unused in
+    let there : s < length serves.served.channels =
+    (let count = same.count in let counted = new.counted in omega (arith, below, count, counted)) in
+    let all : sent_on rose.ends s ≡ to_end (asked s) = serves.closed.sent s there
+    ∙ ap (λ ps. ps ++ request.End ∷ [])
+    (chain_sent shards rules may_answer serves.lines sat.ends serves.served chain s below
+    ∙ ap (λ ps. ps ++ map request.Piece (asked s)) none) in
     all) in
     let came = λ (s : ℕ) (below : s < shards).
-    (let none : received_on sat.ends s ≡ [] = none_read (λ (near : Near). near.past.received) (λ near unused. unused.received) sat.ends.lanes s new.unused in
-    let all : received_on rose.ends s ≡ got s = serves.closed.received s ∙ (chain_came shards rules may_answer serves.lines sat.ends serves.served chain s below ∙ ap (λ rs. rs ++ got s) none) in
+    (let none : received_on sat.ends s
+    ≡ [] =
+    none_read (λ (near : Near). near.past.received) (λ near unused. unused.received) sat.ends.channels s new.unused in
+    let all : received_on rose.ends s ≡ got s = serves.closed.received s
+    ∙ (chain_came shards rules may_answer serves.lines sat.ends serves.served chain s below
+    ∙ ap (λ rs. rs ++ got s) none) in
     all) in
     let runs = λ (s : ℕ) (below : s < shards).
     (let count = joined.count in
-    let worker = worker_at sizes 0 s desks logs joined.are (omega (arith, below, count)) in
+    let worker = worker_at sizes 0 s worker_states logs joined.are (omega (arith, below, count)) in
     let at : 0 + s ≡ s = omega arith in
-    let is : IsLogOf sizes s worker.desk worker.log = rw at at worker.is in
+    let is : IsLogOf sizes s worker.worker_state worker.log = rw at at worker.is in
     let its : on_shard s (together logs) ≡ worker.log = rw at at worker.its in
     let P : List Entry → Type 0 = λ log. AreRun (asked s) (got s) (of_asker seat log) in
-    let run : P (on_shard s (together logs)) = subst P (sym its) (lane_run sizes s rose.ends worker.desk (asked s) (got s) worker.log joined.seat (sent s below) (came s below) (chain_many shards rules may_answer serves.lines sat.ends serves.served chain s) is (joined.tied s worker.desk worker.here)) in
+    let run : P (on_shard s (together logs)) =
+    subst P (sym its) (channel_run sizes s rose.ends worker.worker_state (asked s) (got s) worker.log
+    joined.seat (sent s below) (came s below)
+    (chain_many shards rules may_answer serves.lines sat.ends serves.served chain s) is
+    (joined.tied s worker.worker_state worker.here)) in
     run) in
     let owned = λ (s : ℕ) (below : s < shards).
-    all_mine s seat (mine s) (filter_keeps (λ entry. entry.shard ≡ s) (λ entry. entry.asker == seat) (on_shard s (together logs)) (shard_of s (together logs))) (asked_by seat (on_shard s (together logs))) in
+    all_mine s seat (mine s)
+    (filter_keeps (λ entry. entry.shard ≡ s) (λ entry. entry.asker == seat) (on_shard s (together logs))
+    (shard_of s (together logs))) (asked_by seat (on_shard s (together logs))) in
     let ran = seat_ran sizes may_answer seat joined.some serves.lines sat.ends serves.served mine chain runs owned in
     record {
       explains = record { histories = ran.histories; each = ran.each; ran = ran.ran };

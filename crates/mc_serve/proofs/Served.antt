@@ -3,7 +3,7 @@ use Rattle.std.proofs.Common.{◌≡◌, ℕ, zero, suc, ◌<◌, List, [], ◌�
 use Rattle.std.specs.List.{AllByRecursion}
 use Rattle.std.proofs.lemmas.List.{take_all}
 use Rattle.mc_sizes.specs.declared.sizes.Sizes.{Sizes}
-use Rattle.mc_ring.specs.Lane.{Near}
+use Rattle.mc_ring.specs.Channel.{Near}
 use Rattle.mc_ring.specs.Ends.{Ends, list_at}
 use Rattle.mc_ring.specs.Made.{IsUnused}
 use Rattle.mc_ring.specs.Reply.{Shown}
@@ -12,25 +12,31 @@ use Rattle.mc_conn.specs.Due as due
 use Rattle.mc_conn.specs.Fits.{HasCome, counts}
 use Rattle.mc_conn.specs.Told.{commands_of}
 use Rattle.mc_model.specs.Log.{Entry}
-use Rattle.mc_worker.specs.Desk.{Desk}
+use Rattle.mc_worker.specs.WorkerState.{WorkerState}
 use Rattle.mc_serve.specs.Asking.{AreTied}
 use Rattle.mc_serve.specs.Logs.{AreLogsFrom}
 
 -- Nothing was sent nor received on ends that are unused.
-pub none_read : {A : Type 0} (read : Near → List A) → ((near : Near) → IsUnused near → read near ≡ []) → (lanes : List Near) (shard : ℕ) → AllByRecursion IsUnused lanes → list_at read lanes shard ≡ []
+pub none_read : {A : Type 0} (read : Near → List A) → ((near : Near) → IsUnused near → read near ≡ [])
+    → (channels : List Near) (shard : ℕ) → AllByRecursion IsUnused channels → list_at read channels shard ≡ []
 none_read read none [] shard all = refl
-none_read read none (near ∷ lanes) zero all = none near all.0
-none_read read none (near ∷ lanes) (suc shard) all = none_read read none lanes shard all.1
+none_read read none (near ∷ channels) zero all = none near all.0
+none_read read none (near ∷ channels) (suc shard) all = none_read read none channels shard all.1
 
 -- Where as many replies were received from each shard as are due there, all that the commands need has come.
-pub all_come : (shards : ℕ) (taken : List Taken) (received : ℕ → List Shown) → ((shard : ℕ) → length (received shard) ≡ length (due.due shards shard taken)) → HasCome shards taken (counts received) (length taken)
+pub all_come : (shards : ℕ) (taken : List Taken) (received : ℕ → List Shown)
+    → ((shard : ℕ) → length (received shard) ≡ length (due.due shards shard taken))
+    → HasCome shards taken (counts received) (length taken)
 all_come shards taken received answered shard =
-    let whole : length (due.due shards shard (take (length taken) taken)) ≡ length (due.due shards shard taken) = ap (λ ts. length (due.due shards shard ts)) (take_all (length taken) taken (omega arith)) in
+    let whole : length (due.due shards shard (take (length taken) taken)) ≡ length (due.due shards shard taken) =
+    ap (λ ts. length (due.due shards shard ts)) (take_all (length taken) taken (omega arith)) in
     let these = answered shard in
     omega (arith, whole, these)
 
 -- What holds of the moments at which commands were taken holds of those that stand in their history.
-pub moments_of : (may_answer : ℕ → Type 0) (history : List AnsweredCommand) → AllByRecursion (λ (one : Taken). may_answer one.moment) (map taken_of history) → AllByRecursion (λ (done : AnsweredCommand). may_answer done.moment) history
+pub moments_of : (may_answer : ℕ → Type 0) (history : List AnsweredCommand)
+    → AllByRecursion (λ (one : Taken). may_answer one.moment) (map taken_of history)
+    → AllByRecursion (λ (done : AnsweredCommand). may_answer done.moment) history
 moments_of may_answer [] all = tt
 moments_of may_answer (done ∷ history) all = (all.0, moments_of may_answer history all.1)
 
@@ -40,9 +46,10 @@ entries_same [] = refl
 entries_same (done ∷ history) = ap (λ es. done.entry ∷ es) (entries_same history)
 
 -- what is known once the workers and the seat are joined, and tied
-pub record IsJoined (sizes : Sizes) (ends : Ends Near) (desks : List Desk) (logs : List (List Entry)) : Type 0 where
+pub record IsJoined (sizes : Sizes) (ends : Ends Near) (worker_states : List WorkerState) (logs : List (List Entry)) :
+    Type 0 where
   pub some : 0 < sizes.shards
   pub seat : ends.number < sizes.seats
-  pub count : length desks ≡ sizes.shards
-  pub are : AreLogsFrom sizes 0 desks logs
-  pub tied : AreTied ends desks
+  pub count : length worker_states ≡ sizes.shards
+  pub are : AreLogsFrom sizes 0 worker_states logs
+  pub tied : AreTied ends worker_states

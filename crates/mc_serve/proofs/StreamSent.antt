@@ -1,4 +1,4 @@
--- A door for streams, and a line over one, may go to another thread where what they hold may.
+-- A source for streams, and a line over one, may go to another thread where what they hold may.
 use denote.RattleType.{RattleType}
 use denote.Param.Send.{IsSend, IsSync, sendable}
 use denote.Param.SendFields.{declared_send, declared_sync}
@@ -8,14 +8,14 @@ use Rattle.mc_watch.specs.contracts.counter.Counter as counter
 use Rattle.mc_watch.specs.contracts.counts.EndCounts as ends
 use Rattle.mc_watch.specs.contracts.counts.SeatCounts as counts
 use Rattle.mc_watch.specs.contracts.meter.Meter as meter
-use Rattle.mc_watch.specs.contracts.pulse.Pulse as pulse
+use Rattle.mc_watch.specs.contracts.idle_timer.IdleTimer as idle_timer
 use Rattle.mc_watch.specs.contracts.shutdown.Shutdown as shutdown
 use Rattle.mc_doors.specs.declared.arrivals.Arrivals.{Ghosts as ArrivalsGhosts}
 use Rattle.mc_doors.specs.declared.stream.Stream.{Ghosts as StreamGhosts}
 use Rattle.mc_doors.proofs.lingering.Lingering.TheSendSync as lingering
-use Rattle.mc_doors.specs.contracts.stream_door.StreamDoor as stream_door
+use Rattle.mc_doors.specs.contracts.stream_source.StreamSource as stream_source
 use Rattle.mc_doors.specs.contracts.tap.Tap as tap
-use Rattle.mc_doors.specs.contracts.tcp_line.TcpLine as tcp_line
+use Rattle.mc_doors.specs.contracts.tcp_connection.TcpConnection as tcp_connection
 use Rattle.mc_doors.specs.contracts.trail.Trail as trail
 
 -- ---- what a line counts
@@ -37,14 +37,16 @@ counts_send = declared_send (counts.the_type counter.the_row) (search (counter_s
 counts_sync : IsSync (counts.the_row counter.the_row)
 counts_sync = declared_sync (counts.the_type counter.the_row) (search (counter_sync, ends_sync, sendable) depth 10)
 
-pulse_send : IsSend (pulse.the_row counter.the_row)
-pulse_send = search (counter_send, counter_sync, sendable, crosses) depth 20
+idle_timer_send : IsSend (idle_timer.the_row counter.the_row)
+idle_timer_send = search (counter_send, counter_sync, sendable, crosses) depth 20
 
 shutdown_send : IsSend (shutdown.the_row counter.the_row)
 shutdown_send = search (counter_send, counter_sync, sendable, crosses) depth 20
 
 meter_send : IsSend (meter.the_row counter.the_row)
-meter_send = declared_send (meter.the_type counter.the_row) (search (counts_send, counts_sync, pulse_send, shutdown_send, sendable, crosses) depth 20)
+meter_send =
+    declared_send (meter.the_type counter.the_row)
+    (search (counts_send, counts_sync, idle_timer_send, shutdown_send, sendable, crosses) depth 20)
 
 -- ---- what it notes
 trail_send : IsSend trail.the_row
@@ -60,12 +62,13 @@ tap_send : (S : RattleType) (stream : StreamGhosts S.Denot) → IsSend S → IsS
 tap_send S stream sent = declared_send (tap.the_type S stream) (search (trail_send, sendable, crosses) depth 20)
 
 -- A line over a stream may go to another thread where the stream may.
-pub line_send : (S : RattleType) (stream : StreamGhosts S.Denot) → IsSend S → IsSend (tcp_line.the_row S stream)
+pub line_send : (S : RattleType) (stream : StreamGhosts S.Denot) → IsSend S → IsSend (tcp_connection.the_row S stream)
 line_send S stream sent =
     let tap_sent : IsSend (tap.the_row S stream) = tap_send S stream sent in
-    declared_send (tcp_line.the_type S stream) (search (tap_sent, reads_send, meter_send, sendable) depth 20)
+    declared_send (tcp_connection.the_type S stream) (search (tap_sent, reads_send, meter_send, sendable) depth 20)
 
--- A door for streams may go to another thread where its clock, its arrivals and its streams may.
-pub stream_door_send : (R A S : RattleType) (arrivals : ArrivalsGhosts A.Denot S.Denot) (stream : StreamGhosts S.Denot) → IsSend R → IsSend A → IsSend S
-    → IsSend (stream_door.the_row R A S arrivals stream)
-stream_door_send R A S arrivals stream clock ways sent = search (lingering.the_send, sendable, crosses) depth 20
+-- A source for streams may go to another thread where its clock, its arrivals and its streams may.
+pub stream_source_send : (R A S : RattleType) (arrivals : ArrivalsGhosts A.Denot S.Denot)
+    (stream : StreamGhosts S.Denot) → IsSend R → IsSend A → IsSend S
+    → IsSend (stream_source.the_row R A S arrivals stream)
+stream_source_send R A S arrivals stream clock handoffs sent = search (lingering.the_send, sendable, crosses) depth 20

@@ -1,5 +1,6 @@
 -- Two lists, element by element, and what stands at a place; lists and results by themselves.
-use Rattle.std.proofs.Common.{◌≡◌, ℕ, zero, suc, List, [], ◌∷◌, ◌++◌, length, map, Some, refl, sym, ap, subst, slice_set, arith}
+use Rattle.std.proofs.Common.{◌≡◌, ℕ, zero, suc, List, [], ◌∷◌, ◌++◌, length, map, Some, refl, sym, ap, subst}
+use Rattle.std.proofs.Common.{slice_set, arith}
 use Rattle.std.specs.List.{AllByRecursion, slice_get}
 use Rattle.std.specs.Prelude.{IfOk, Result, Ok, Err}
 use Rattle.std.proofs.lemmas.Option.{same_Some}
@@ -13,32 +14,40 @@ zips_length R (x ∷ xs) [] zips = absurd zips
 zips_length R (x ∷ xs) (y ∷ ys) zips = ap suc (zips_length R xs ys zips.1)
 
 -- Two lists whose elements are in the relation that follows.
-pub zips_follow : {A B : Type 0} (xs : List A) (ys : List B) (P : A → Type 0) (R S : A → B → Type 0) → ((x : A) (y : B) → P x → R x y → S x y) → AllByRecursion P xs → Zips R xs ys → Zips S xs ys
+pub zips_follow : {A B : Type 0} (xs : List A) (ys : List B) (P : A → Type 0) (R S : A → B → Type 0)
+    → ((x : A) (y : B) → P x → R x y → S x y) → AllByRecursion P xs → Zips R xs ys → Zips S xs ys
 zips_follow [] [] P R S follows all zips = tt
 zips_follow [] (y ∷ ys) P R S follows all zips = absurd zips
 zips_follow (x ∷ xs) [] P R S follows all zips = absurd zips
-zips_follow (x ∷ xs) (y ∷ ys) P R S follows all zips = (follows x y all.0 zips.0, zips_follow xs ys P R S follows all.1 zips.1)
+zips_follow (x ∷ xs) (y ∷ ys) P R S follows all zips =
+    (follows x y all.0 zips.0, zips_follow xs ys P R S follows all.1 zips.1)
 
 -- Two lists that are seen by functions are in the relation that follows.
-pub zips_map : {A B C D : Type 0} (xs : List A) (ys : List B) (P : A → Type 0) (R : A → B → Type 0) (S : C → D → Type 0) (f : A → C) (g : B → D) → ((x : A) (y : B) → P x → R x y → S (f x) (g y)) → AllByRecursion P xs → Zips R xs ys → Zips S (map f xs) (map g ys)
+pub zips_map : {A B C D : Type 0} (xs : List A) (ys : List B) (P : A → Type 0) (R : A → B → Type 0) (S : C → D → Type 0)
+    (f : A → C) (g : B → D) → ((x : A) (y : B) → P x → R x y → S (f x) (g y)) → AllByRecursion P xs → Zips R xs ys
+    → Zips S (map f xs) (map g ys)
 zips_map [] [] P R S f g follows all zips = tt
 zips_map [] (y ∷ ys) P R S f g follows all zips = absurd zips
 zips_map (x ∷ xs) [] P R S f g follows all zips = absurd zips
-zips_map (x ∷ xs) (y ∷ ys) P R S f g follows all zips = (follows x y all.0 zips.0, zips_map xs ys P R S f g follows all.1 zips.1)
+zips_map (x ∷ xs) (y ∷ ys) P R S f g follows all zips =
+    (follows x y all.0 zips.0, zips_map xs ys P R S f g follows all.1 zips.1)
 
 -- Where what two functions make of two lists is related pair by pair, so are the lists that they make.
-pub zips_seen : {A B C D : Type 0} (xs : List A) (ys : List B) (S : C → D → Type 0) (f : A → C) (g : B → D) → Zips (λ x y. S (f x) (g y)) xs ys → Zips S (map f xs) (map g ys)
+pub zips_seen : {A B C D : Type 0} (xs : List A) (ys : List B) (S : C → D → Type 0) (f : A → C) (g : B → D)
+    → Zips (λ x y. S (f x) (g y)) xs ys → Zips S (map f xs) (map g ys)
 zips_seen [] [] S f g zips = tt
 zips_seen [] (y ∷ ys) S f g zips = absurd zips
 zips_seen (x ∷ xs) [] S f g zips = absurd zips
 zips_seen (x ∷ xs) (y ∷ ys) S f g zips = (zips.0, zips_seen xs ys S f g zips.1)
 
 -- What follows at each place holds of all.
-pub zips_each : {A B : Type 0} (R S : A → B → Type 0) (xs : List A) (ys : List B) → Zips R xs ys → ((i : ℕ) (x : A) (y : B) → slice_get xs i ≡ Some x → slice_get ys i ≡ Some y → R x y → S x y) → Zips S xs ys
+pub zips_each : {A B : Type 0} (R S : A → B → Type 0) (xs : List A) (ys : List B) → Zips R xs ys
+    → ((i : ℕ) (x : A) (y : B) → slice_get xs i ≡ Some x → slice_get ys i ≡ Some y → R x y → S x y) → Zips S xs ys
 zips_each R S [] [] zips follows = tt
 zips_each R S [] (y ∷ ys) zips follows = absurd zips
 zips_each R S (x ∷ xs) [] zips follows = absurd zips
-zips_each R S (x ∷ xs) (y ∷ ys) zips follows = (follows 0 x y refl refl zips.0, zips_each R S xs ys zips.1 (λ i a b here there. follows (suc i) a b here there))
+zips_each R S (x ∷ xs) (y ∷ ys) zips follows =
+    (follows 0 x y refl refl zips.0, zips_each R S xs ys zips.1 (λ i a b here there. follows (suc i) a b here there))
 
 -- The elements of the other list at a place, by those of the one.
 pub record IsMet {A B : Type 0} (R : A → B → Type 0) (xs : List A) (ys : List B) (i : ℕ) (y : B) : Type 0 where
@@ -47,20 +56,25 @@ pub record IsMet {A B : Type 0} (R : A → B → Type 0) (xs : List A) (ys : Lis
   pub met : R one y
 
 -- In lists that are related pair by pair, an element of the second is related to the one at its place in the first.
-pub met_at : {A B : Type 0} (R : A → B → Type 0) (xs : List A) (ys : List B) (i : ℕ) (y : B) → Zips R xs ys → slice_get ys i ≡ Some y → IsMet R xs ys i y
+pub met_at : {A B : Type 0} (R : A → B → Type 0) (xs : List A) (ys : List B) (i : ℕ) (y : B) → Zips R xs ys
+    → slice_get ys i ≡ Some y → IsMet R xs ys i y
 met_at R [] [] i y zips here = absurd (cc)
 met_at R [] (z ∷ ys) i y zips here = absurd zips
 met_at R (x ∷ xs) [] i y zips here = absurd zips
-met_at R (x ∷ xs) (z ∷ ys) zero y zips here = record { one = x; here = refl; met = let P : _ → Type 0 = λ w. R x w in subst P (same_Some z y here) zips.0 }
-met_at R (x ∷ xs) (z ∷ ys) (suc i) y zips here = let rest = met_at R xs ys i y zips.1 here in record { one = rest.one; here = rest.here; met = rest.met }
+met_at R (x ∷ xs) (z ∷ ys) zero y zips here =
+    record { one = x; here = refl; met = let P : _ → Type 0 = λ w. R x w in subst P (same_Some z y here) zips.0 }
+met_at R (x ∷ xs) (z ∷ ys) (suc i) y zips here = let rest =
+    met_at R xs ys i y zips.1 here in record { one = rest.one; here = rest.here; met = rest.met }
 
 -- What holds of a function's value at each element of a list holds of all values that it has there.
-pub all_map : {A B : Type 0} (P : B → Type 0) (f : A → B) (xs : List A) → AllByRecursion (λ x. P (f x)) xs → AllByRecursion P (map f xs)
+pub all_map : {A B : Type 0} (P : B → Type 0) (f : A → B) (xs : List A) → AllByRecursion (λ x. P (f x)) xs
+    → AllByRecursion P (map f xs)
 all_map P f [] all = tt
 all_map P f (x ∷ xs) all = (all.0, all_map P f xs all.1)
 
 -- One element has changed, and is as before to what stands in its place.
-pub zips_set : {A B : Type 0} (R : A → B → Type 0) (xs : List A) (ys : List B) (i : ℕ) (old new : B) → slice_get ys i ≡ Some old → ((x : A) → R x old → R x new) → Zips R xs ys → Zips R xs (slice_set ys i new)
+pub zips_set : {A B : Type 0} (R : A → B → Type 0) (xs : List A) (ys : List B) (i : ℕ) (old new : B) → slice_get ys i
+    ≡ Some old → ((x : A) → R x old → R x new) → Zips R xs ys → Zips R xs (slice_set ys i new)
 zips_set R xs [] i old new here keeps zips = zips
 zips_set R [] (y ∷ ys) i old new here keeps zips = absurd zips
 zips_set {A} {B} R (x ∷ xs) (y ∷ ys) zero old new here keeps zips =
@@ -69,21 +83,25 @@ zips_set {A} {B} R (x ∷ xs) (y ∷ ys) zero old new here keeps zips =
 zips_set R (x ∷ xs) (y ∷ ys) (suc i) old new here keeps zips = (zips.0, zips_set R xs ys i old new here keeps zips.1)
 
 -- Two lists that are related pair by pair still are with two more behind them that are.
-pub zips_append : {A B : Type 0} (R : A → B → Type 0) (xs : List A) (ys : List B) (more : List A) (more' : List B) → Zips R xs ys → Zips R more more' → Zips R (xs ++ more) (ys ++ more')
+pub zips_append : {A B : Type 0} (R : A → B → Type 0) (xs : List A) (ys : List B) (more : List A) (more' : List B)
+    → Zips R xs ys → Zips R more more' → Zips R (xs ++ more) (ys ++ more')
 zips_append R [] [] more more' zips rest = rest
 zips_append R [] (y ∷ ys) more more' zips rest = absurd zips
 zips_append R (x ∷ xs) [] more more' zips rest = absurd zips
 zips_append R (x ∷ xs) (y ∷ ys) more more' zips rest = (zips.0, zips_append R xs ys more more' zips.1 rest)
 
-zips_last : {A B : Type 0} (R : A → B → Type 0) (xs : List A) (ys : List B) (x : A) (y : B) → Zips R xs ys → R x y → Zips R (xs ++ x ∷ []) (ys ++ y ∷ [])
+zips_last : {A B : Type 0} (R : A → B → Type 0) (xs : List A) (ys : List B) (x : A) (y : B) → Zips R xs ys → R x y
+    → Zips R (xs ++ x ∷ []) (ys ++ y ∷ [])
 zips_last R [] [] x y zips this = (this, tt)
 zips_last R [] (z ∷ ys) x y zips this = absurd zips
 zips_last R (w ∷ xs) [] x y zips this = absurd zips
 zips_last R (w ∷ xs) (z ∷ ys) x y zips this = (zips.0, zips_last R xs ys x y zips.1 this)
 
 -- Two lists that are related pair by pair still are once a related pair was added at their ends.
-pub zips_push : {A B : Type 0} (R : A → B → Type 0) (xs : List A) (ys ys' : List B) (x : A) (y : B) → ys' ≡ ys ++ y ∷ [] → Zips R xs ys → R x y → Zips R (xs ++ x ∷ []) ys'
-zips_push R xs ys ys' x y grown zips this = let P : List _ → Type 0 = λ zs. Zips R (xs ++ x ∷ []) zs in subst P (sym grown) (zips_last R xs ys x y zips this)
+pub zips_push : {A B : Type 0} (R : A → B → Type 0) (xs : List A) (ys ys' : List B) (x : A) (y : B) → ys' ≡ ys ++ y ∷ []
+    → Zips R xs ys → R x y → Zips R (xs ++ x ∷ []) ys'
+zips_push R xs ys ys' x y grown zips this = let P : List _ → Type 0 =
+    λ zs. Zips R (xs ++ x ∷ []) zs in subst P (sym grown) (zips_last R xs ys x y zips this)
 
 -- What follows from what is promised of a success is promised of it too.
 pub if_ok : {T E : Type 0} (r : Result T E) (P Q : T → Type 0) → ((x : T) → P x → Q x) → IfOk r P → IfOk r Q
@@ -96,5 +114,6 @@ empty_when [] none = refl
 empty_when (x ∷ xs) none = absurd (omega arith)
 
 -- Two lists that are related pair by pair still are where an equal list stands for the first.
-pub zips_are : {A B : Type 0} (R : A → B → Type 0) (xs ys : List A) (zs : List B) → xs ≡ ys → Zips R xs zs → Zips R ys zs
+pub zips_are : {A B : Type 0} (R : A → B → Type 0) (xs ys : List A) (zs : List B) → xs ≡ ys → Zips R xs zs
+    → Zips R ys zs
 zips_are R xs ys zs same zips = let P : List _ → Type 0 = λ ws. Zips R ws zs in subst P same zips

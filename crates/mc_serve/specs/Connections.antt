@@ -6,7 +6,7 @@ use Rattle.mc_model.specs.Log.{Entry}
 use Rattle.mc_wake.specs.Zips.{Zips}
 use Rattle.mc_seat.specs.Explains.{IsLogOfLines}
 use Rattle.mc_doors.specs.declared.stream.Stream.{Ghosts}
-use Rattle.mc_doors.specs.declared.stream_door.ClosedConnection.{ClosedConnection}
+use Rattle.mc_doors.specs.declared.stream_source.ClosedConnection.{ClosedConnection}
 use Rattle.mc_doors.specs.Tcp.{IsServed, gone_lines}
 use Rattle.mc_serve.specs.Served.{ExplainsSeat}
 use Rattle.mc_serve.specs.declared.outcome.Outcome.{Outcome}
@@ -20,18 +20,21 @@ abbrev pub how_many : {A : Type 0} → List (List A) → ℕ
 how_many [] = 0
 how_many (lines ∷ seats) = length lines + how_many seats
 
--- Of a seat: just the streams that were to come were served, in their order, where they are known; where they aren't, just what
--- came in was.
+-- Of a seat: just the streams that were to come were served, in their order, where they are known; where they aren't,
+-- just what came in was.
 abbrev pub AreServed : {S : Type 0} {g : Ghosts S} → Option (List S) → List (ClosedConnection S g × Unit {0}) → Type 0
 AreServed None gone = AllByRecursion (λ one. IsServed one.0.line.value.tap.begin.value one.0) gone
 AreServed (Some streams) gone = Zips (λ stream one. IsServed stream one.0) streams gone
 
--- As many connections have ended as is said, and are listed, each served by one of the seats from the first byte of its stream on, and
--- one log explains what was read of them, what was written to them and what the shards did. The count stays at its greatest value.
-pub record ServesConnections {S : Type 0} {g : Ghosts S} (sizes : Sizes) (may_answer : ℕ → Type 0) (served : Outcome S g) : Type 0 where
+-- As many connections have ended as is said, and are listed, each served by one of the seats from the first byte of its
+-- stream on, and one log explains what was read of them, what was written to them and what the shards did. The count
+-- stays at its greatest value.
+pub record ServesConnections {S : Type 0} {g : Ghosts S} (sizes : Sizes) (may_answer : ℕ → Type 0)
+    (served : Outcome S g) : Type 0 where
   pub as_many : length (seats_of served) ≡ sizes.seats
   pub counted : served.ended ≡ min (how_many (seats_of served)) (2 ^ 64 - 1)
   pub whole : AllByRecursion (AreServed None) (seats_of served)
   pub log : List Entry
   pub log_is : IsLogOfLines sizes (length (seats_of served)) log
-  pub each : (seat : ℕ) (gone : List (ClosedConnection S g × Unit {0})) → slice_get (seats_of served) seat ≡ Some gone → ExplainsSeat sizes may_answer log seat (gone_lines gone)
+  pub each : (seat : ℕ) (gone : List (ClosedConnection S g × Unit {0})) → slice_get (seats_of served) seat ≡ Some gone
+      → ExplainsSeat sizes may_answer log seat (gone_lines gone)

@@ -1,6 +1,6 @@
 -- What is told of lines that are served by a seat each.
 use Rattle.std.specs.Prelude.{ℕ, ◌≡◌, Bool, List, [], ◌∷◌, length}
-use Rattle.mc_wire.specs.Outlet.{Sight}
+use Rattle.mc_wire.specs.Sink.{Sight}
 use Rattle.mc_sizes.specs.declared.sizes.Sizes.{Sizes}
 use Rattle.mc_seat.specs.Explains.{Explains, LineTold}
 
@@ -17,9 +17,11 @@ came_back line commands broke = record { line = line; commands = commands; broke
 abbrev pub lines_told : List Sight → List CameBack → List LineTold
 lines_told [] after = []
 lines_told (line ∷ before) [] = []
-lines_told (line ∷ before) (back ∷ after) = record { begin = line; now = back.line; commands = back.commands; broke = back.broke } ∷ lines_told before after
+lines_told (line ∷ before) (back ∷ after) =
+    record { begin = line; now = back.line; commands = back.commands; broke = back.broke } ∷ lines_told before after
 
 -- All lines came back, in their order, and one log explains them.
-pub record ServesAll (sizes : Sizes) (may_answer : ℕ → Type 0) (before : List Sight) (after : List CameBack) : Type 0 where
-  pub as_many : length after ≡ length before
-  pub explained : Explains sizes may_answer (lines_told before after)
+pub record ServesAll (sizes : Sizes) (may_answer : ℕ → Type 0) (before : List Sight) (after : List CameBack) : Type 0
+  where
+    pub as_many : length after ≡ length before
+    pub explained : Explains sizes may_answer (lines_told before after)

@@ -1,4 +1,4 @@
--- What is told of all doors once their threads are joined.
+-- What is told of all sources once their threads are joined.
 use Rattle.std.specs.Prelude.{ℕ, ◌≡◌, ◌<◌, List, [], ◌∷◌, length, map, Some}
 use Rattle.std.specs.List.{AllByRecursion, flat_map, slice_get}
 use Rattle.mc_sizes.specs.Sizes.{rules_of}
@@ -9,10 +9,11 @@ use Rattle.mc_wake.specs.Zips.{Zips}
 use Rattle.mc_seat.specs.Story.{Story}
 use Rattle.mc_seat.specs.Reads.{ReadsOwingNothing}
 use Rattle.mc_seat.specs.Explains.{IsLogOfLines, LineTold, log_of}
-use Rattle.mc_doors.specs.Told.{DoorTold, IsDone, Passes, closed}
+use Rattle.mc_doors.specs.Told.{SourceTold, IsDone, Passes, closed}
 
 -- The line's commands, each with its moment and answers, explain what was read of it and what it took.
-pub record ExplainsHistory (sizes : Sizes) (may_answer : ℕ → Type 0) (line : LineTold) (history : List AnsweredCommand) : Type 0 where
+pub record ExplainsHistory (sizes : Sizes) (may_answer : ℕ → Type 0) (line : LineTold)
+    (history : List AnsweredCommand) : Type 0 where
   -- The commands are those of the bytes read, and the line took the texts of their replies.
   pub story : Story (rules_of sizes) line.begin line.now line.broke (map taken_of history) (map text_done history)
   -- It was read only where all replies to the bytes read so far were written out.
@@ -22,32 +23,36 @@ pub record ExplainsHistory (sizes : Sizes) (may_answer : ℕ → Type 0) (line :
   pub counted : line.commands ≡ length history
 
 -- The log explains the lines of a seat by a history each.
-pub record ExplainsSeat (sizes : Sizes) (may_answer : ℕ → Type 0) (log : List Entry) (seat : ℕ) (lines : List LineTold) : Type 0 where
+pub record ExplainsSeat (sizes : Sizes) (may_answer : ℕ → Type 0) (log : List Entry) (seat : ℕ)
+    (lines : List LineTold) : Type 0 where
   pub histories : List (List AnsweredCommand)
   pub each : Zips (ExplainsHistory sizes may_answer) lines histories
   -- What a shard ran for the seat is just what was due there for the first line, then for the second, and so on.
-  pub ran : (shard : ℕ) → shard < sizes.shards → of_asker seat (on_shard shard log) ≡ flat_map (λ history. on_shard shard (log_of sizes.shards seat history)) histories
+  pub ran : (shard : ℕ) → shard < sizes.shards → of_asker seat (on_shard shard log)
+      ≡ flat_map (λ history. on_shard shard (log_of sizes.shards seat history)) histories
 
--- The lines of one door came in and went back, until it said that no more come.
-pub record PassesAll (before : DoorTold) (lines : List LineTold) (after : DoorTold) : Type 0 where
-  pub passed : DoorTold
+-- The lines of one source came in and went back, until it said that no more come.
+pub record PassesAll (before : SourceTold) (lines : List LineTold) (after : SourceTold) : Type 0 where
+  pub passed : SourceTold
   pub passes : Passes before lines passed
   pub done : IsDone passed
   pub over : after ≡ closed passed
 
--- The same of each door.
-abbrev pub PassEach : List DoorTold → List (List LineTold) → List DoorTold → Type 0
+-- The same of each source.
+abbrev pub PassEach : List SourceTold → List (List LineTold) → List SourceTold → Type 0
 PassEach [] [] [] = Unit {0}
 PassEach [] [] (after ∷ afters) = ⊥
 PassEach [] (lines ∷ seats) afters = ⊥
 PassEach (before ∷ befores) [] afters = ⊥
 PassEach (before ∷ befores) (lines ∷ seats) [] = ⊥
-PassEach (before ∷ befores) (lines ∷ seats) (after ∷ afters) = PassesAll before lines after × PassEach befores seats afters
+PassEach (before ∷ befores) (lines ∷ seats) (after ∷ afters) =
+    PassesAll before lines after × PassEach befores seats afters
 
--- Each door let in its lines and took them back, until it said that no more come, and one log explains them all.
-pub record ServesDoors (sizes : Sizes) (may_answer : ℕ → Type 0) (before after : List DoorTold) : Type 0 where
+-- Each source let in its lines and took them back, until it said that no more come, and one log explains them all.
+pub record ServesSources (sizes : Sizes) (may_answer : ℕ → Type 0) (before after : List SourceTold) : Type 0 where
   pub seats : List (List LineTold)
   pub back : PassEach before seats after
   pub log : List Entry
   pub log_is : IsLogOfLines sizes (length seats) log
-  pub each : (seat : ℕ) (lines : List LineTold) → slice_get seats seat ≡ Some lines → ExplainsSeat sizes may_answer log seat lines
+  pub each : (seat : ℕ) (lines : List LineTold) → slice_get seats seat ≡ Some lines
+      → ExplainsSeat sizes may_answer log seat lines

@@ -1,17 +1,17 @@
-//! Serves lines over memory, each by a door of its own.
+//! Serves lines over memory, each by a source of its own.
 ghost use Rattle.std.specs.Prelude.{◌≡◌, ◌≢◌, [], IfErr, IfOk, length, map};
 ghost use Rattle.mc_sizes.specs.Sizes.{MayServe};
 ghost use Rattle.mc_wake.specs.Zips.{Zips};
 ghost use Rattle.mc_serve.specs.Over.{ServesAll, came_back};
-ghost use Rattle.mc_serve.specs.declared.refusal.ServeRefusal.TheVariants.{Bind};
+ghost use Rattle.mc_serve.specs.declared.error.ServeError.TheVariants.{Bind};
 ghost use Rattle.mc_doors.specs.One.{IsBack, told_of, waits};
 
-use crate::refusal::ServeRefusal;
+use crate::error::ServeError;
 use crate::serving::serve;
-use mc_doors::{OneDoor, ServedLine};
-use mc_seat::{Clock, Line};
+use mc_doors::{ServedLine, SingleSource};
+use mc_seat::{Clock, Transport};
 use mc_sizes::Sizes;
-use mc_wake::{Patience, Sleeper};
+use mc_wake::{Poller, SpinPolicy};
 use mc_worker::Gate;
 use std::alloc::{AllocError, Global};
 use std::random::RandomSource;
@@ -25,12 +25,12 @@ pub struct Report<L> {
     pub lines: Vec<ServedLine<L>>,
 }
 
-/// Serves the lines until each has ended, quits or has failed. Each line has a seat, whatever the sizes say, and each line and
-/// each shard has a thread of its own. Every worker passes the gate before each piece. Where it refuses, nothing was read of any
-/// line nor written to it.
+/// Serves the lines until each has ended, quits or has failed. Each line has a seat, whatever the
+/// sizes say, and each line and each shard has a thread of its own. Every worker passes the gate
+/// before each piece. Where it refuses, nothing was read of any line nor written to it.
 pub fn serve_over<
     R: Threads + Wait + RandomSource + Copy + Send + Drop + 'static,
-    L: Line + Send + Drop + 'static,
+    L: Transport + Send + Drop + 'static,
     G: Gate + Send + Sync + Drop + 'static,
     K: Clock + Copy + Send + Drop + 'static,
 >(
@@ -40,9 +40,10 @@ pub fn serve_over<
     sizes: Sizes,
     gate: G,
     clock: K,
-) -> Result<Report<L>, ServeRefusal>
+) -> Result<Report<L>, ServeError>
     requires { MayServe (record sizes { seats = length lines.items }) }
-    // One log explains what was read of all lines, what was written to them and what the shards did.
+    // One log explains what was read of all lines, what was written to them and what the shards
+    // did.
     ensures explained { IfOk result (λ report.
         ServesAll (record sizes { seats = length lines.items }) (K.may_answer clock)
         (map (λ line. L.sight line) lines.items)
@@ -51,65 +52,68 @@ pub fn serve_over<
 {
     // The room for the report comes first: the lines are not lost once they were served.
     let room = Vec::with_capacity(alloc, lines.len())?;
-    let doors = doors_for(alloc, lines)?;
-    let sleepers = sleepers_for(rt, alloc, doors.len(), sizes.shards)?;
-    let back = serve(rt, alloc, doors, sleepers, sizes, gate, clock)?;
+    let sources = sources_for(alloc, lines)?;
+    let pollers = pollers_for(rt, alloc, sources.len(), sizes.shards)?;
+    let back = serve(rt, alloc, sources, pollers, sizes, gate, clock)?;
     gather(back, room)
 }
 
 /// A thread for each of `seats` seats, and one for each of `shards` shards.
-pub(crate) fn sleepers_for<R: Threads>(
+pub(crate) fn pollers_for<R: Threads>(
     rt: &R,
     alloc: Global,
     seats: usize,
     shards: usize,
-) -> Result<Vec<Sleeper>, AllocError> {
+) -> Result<Vec<Poller>, AllocError> {
     let threads = seats.saturating_add(shards);
-    let patience = Patience::among(rt, threads);
-    let mut sleepers = Vec::with_capacity(alloc, threads)?;
+    let spin_policy = SpinPolicy::among(rt, threads);
+    let mut pollers = Vec::with_capacity(alloc, threads)?;
     for thread in 0..threads {
         let (callers, places, workers) = if thread < seats {
             (0, 1, 0)
         } else {
             (seats, 0, 1)
         };
-        sleepers.push(Sleeper::new(alloc, patience, callers, places, workers)?)?;
+        pollers.push(Poller::new(alloc, spin_policy, callers, places, workers)?)?;
     }
-    Ok(sleepers)
+    Ok(pollers)
 }
 
-/// A door for each line.
-fn doors_for<L: Line + Drop>(alloc: Global, lines: Vec<L>) -> Result<Vec<OneDoor<L>>, AllocError>
-    ensures { IfOk result (λ doors.
-        map (λ door. told_of (λ line. L.sight line) door)
-        doors.items ≡ map (λ line. waits (L.sight line)) lines.items) }
+/// A source for each line.
+fn sources_for<L: Transport + Drop>(
+    alloc: Global,
+    lines: Vec<L>,
+) -> Result<Vec<SingleSource<L>>, AllocError>
+    ensures { IfOk result (λ sources.
+        map (λ source. told_of (λ line. L.sight line) source)
+        sources.items ≡ map (λ line. waits (L.sight line)) lines.items) }
 {
-    let mut doors = Vec::with_capacity(alloc, lines.len())?;
+    let mut sources = Vec::with_capacity(alloc, lines.len())?;
     for line in lines {
-        doors.push(OneDoor::new(line))?;
+        sources.push(SingleSource::new(line))?;
     }
-    Ok(doors)
+    Ok(sources)
 }
 
-/// The lines that went back to their doors. The room is for as many.
-fn gather<L: Line + Drop>(
-    doors: Vec<OneDoor<L>>,
+/// The lines that went back to their sources. The room is for as many.
+fn gather<L: Transport + Drop>(
+    sources: Vec<SingleSource<L>>,
     room: Vec<ServedLine<L>>,
-) -> Result<Report<L>, ServeRefusal>
+) -> Result<Report<L>, ServeError>
     requires { room.items ≡ [] }
     ensures back { IfOk result (λ report.
-        Zips (λ door one.
-        IsBack (told_of (λ line. L.sight line) door)
-        (L.sight one.line) one.commands one.broke) doors.items report.lines.items) }
+        Zips (λ source one.
+        IsBack (told_of (λ line. L.sight line) source)
+        (L.sight one.line) one.commands one.broke) sources.items report.lines.items) }
     ensures refused { IfErr result (λ refusal. refusal ≢ Bind) }
 {
     let mut lines = room;
-    for door in doors {
-        let Some(served) = door.served() else {
-            return Err(ServeRefusal::Memory);
+    for source in sources {
+        let Some(served) = source.served() else {
+            return Err(ServeError::Memory);
         };
         let Ok(()) = lines.push(served) else {
-            return Err(ServeRefusal::Memory);
+            return Err(ServeError::Memory);
         };
     }
     Ok(Report { lines })

@@ -1,27 +1,28 @@
-//! Serves the lines of doors, over shards, in threads that each serve some of the seats and some of the shards.
+//! Serves the lines of sources, over shards, in threads that each serve some of the seats and some
+//! of the shards.
 ghost use Rattle.std.specs.Prelude.{◌≡◌, ◌≢◌, [], ◌++◌, IfErr, IfOk, IsTrue, OnOk, length, map};
 ghost use Rattle.std.specs.List.{AllByRecursion, flat_map};
 ghost use Rattle.std.specs.Vec.Iter.{into_iter_items};
 ghost use Rattle.mc_sizes.specs.Sizes.{MayServe, SuitLines, rules_of};
-ghost use Rattle.mc_ring.specs.Made.{AreLanes};
+ghost use Rattle.mc_ring.specs.Made.{AreChannels};
 ghost use Rattle.mc_threads.specs.Session.{seat_ends};
 ghost use Rattle.mc_threads.specs.Workers.{IsFresh, ends_of};
-ghost use Rattle.mc_serve.specs.declared.refusal.ServeRefusal.TheVariants.{Bind};
+ghost use Rattle.mc_serve.specs.declared.error.ServeError.TheVariants.{Bind};
 ghost use Rattle.mc_doors.specs.Told.{IsFree};
 ghost use Rattle.mc_serve.specs.Seats.{HasSatDown};
-ghost use Rattle.mc_serve.specs.Asking.{AreTied, HasLanes};
-ghost use Rattle.mc_serve.specs.Served.{ServesDoors};
+ghost use Rattle.mc_serve.specs.Asking.{AreTied, HasChannels};
+ghost use Rattle.mc_serve.specs.Served.{ServesSources};
 
-use crate::part::Part;
-use crate::refusal::ServeRefusal;
+use crate::connection_slot::ConnectionSlot;
+use crate::error::ServeError;
+use crate::reactor::Reactor;
 use crate::settling::settle;
-use crate::sitting::Sitting;
-use mc_doors::Door;
-use mc_ring::{SeatEnds, lanes};
+use mc_doors::ConnectionSource;
+use mc_ring::{SeatEnds, channels};
 use mc_seat::Clock;
 use mc_sizes::Sizes;
 use mc_threads::{Working, make_workers};
-use mc_wake::{Crew, CrewRefusal, Sleeper, Wakers};
+use mc_wake::{Poller, ThreadGroup, ThreadGroupError, Wakers};
 use mc_worker::{Gate, Worker};
 use std::alloc::{AllocError, Global};
 use std::random::RandomSource;
@@ -29,205 +30,226 @@ use std::sync::{Arc, Wait};
 use std::thread::Threads;
 use std::vec::IntoIter;
 
-/// Serves the lines of the doors until no more come. There is a thread for each sleeper, which serves as many of the seats and
-/// of the shards as the sleeper has places and workers: in their order, so that each seat and each shard has its thread. Each
-/// door has a seat, whatever the sizes say. Every worker passes the gate before each piece. Where it refuses, no door was asked
-/// for a line: `Thread` also where the sleepers have places or workers for more or fewer.
+/// Serves the lines of the sources until no more come. There is a thread for each poller, which
+/// serves as many of the seats and of the shards as the poller has places and workers: in their
+/// order, so that each seat and each shard has its thread. Each source has a seat, whatever the
+/// sizes say. Every worker passes the gate before each piece. Where it refuses, no source was asked
+/// for a line: `Thread` also where the pollers have places or workers for more or fewer.
 pub fn serve<
     R: Threads + Wait + RandomSource + Copy + Send + Drop + 'static,
-    D: Door + Send + Drop + 'static,
+    D: ConnectionSource + Send + Drop + 'static,
     G: Gate + Send + Sync + Drop + 'static,
     K: Clock + Copy + Send + Drop + 'static,
 >(
     rt: &R,
     alloc: Global,
-    doors: Vec<D>,
-    sleepers: Vec<Sleeper>,
+    sources: Vec<D>,
+    pollers: Vec<Poller>,
     sizes: Sizes,
     gate: G,
     clock: K,
-) -> Result<Vec<D>, ServeRefusal>
+) -> Result<Vec<D>, ServeError>
 where
-    D::Line: Send + 'static,
-    requires sizes { MayServe (record sizes { seats = length doors.items }) }
-    requires free { AllByRecursion (λ door. IsFree (D.told door)) doors.items }
-    // One log explains what was read of all lines, what was written to them and what the shards did.
+    D::Transport: Send + 'static,
+    requires sizes { MayServe (record sizes { seats = length sources.items }) }
+    requires free { AllByRecursion (λ source. IsFree (D.told source)) sources.items }
+    // One log explains what was read of all lines, what was written to them and what the shards
+    // did.
     ensures explained { IfOk result (λ back.
-        ServesDoors (record sizes { seats = length doors.items }) (K.may_answer clock)
-        (map (λ door. D.told door) doors.items) (map (λ door. D.told door) back.items)) }
+        ServesSources (record sizes { seats = length sources.items }) (K.may_answer clock)
+        (map (λ source. D.told source) sources.items) (map (λ source. D.told source) back.items)) }
     ensures refused { IfErr result (λ refusal. refusal ≢ Bind) }
 {
-    let seats = doors.len();
+    let seats = sources.len();
     let sizes = Sizes { seats, ..sizes };
-    match serve_all(rt, alloc, doors, sleepers, sizes, gate, clock) {
+    match serve_all(rt, alloc, sources, pollers, sizes, gate, clock) {
         Ok(back) => Ok(back),
-        Err(refusal) => Err(ServeRefusal::from(refusal)),
+        Err(refusal) => Err(ServeError::from(refusal)),
     }
 }
 
-/// Serves the lines of the doors, in threads that begin together or not at all.
+/// Serves the lines of the sources, in threads that begin together or not at all.
 fn serve_all<
     R: Threads + Wait + RandomSource + Copy + Send + Drop + 'static,
-    D: Door + Send + Drop + 'static,
+    D: ConnectionSource + Send + Drop + 'static,
     G: Gate + Send + Sync + Drop + 'static,
     K: Clock + Copy + Send + Drop + 'static,
 >(
     rt: &R,
     alloc: Global,
-    doors: Vec<D>,
-    sleepers: Vec<Sleeper>,
+    sources: Vec<D>,
+    pollers: Vec<Poller>,
     sizes: Sizes,
     gate: G,
     clock: K,
-) -> Result<Vec<D>, CrewRefusal>
+) -> Result<Vec<D>, ThreadGroupError>
 where
-    D::Line: Send + 'static,
+    D::Transport: Send + 'static,
     requires sizes { MayServe sizes }
-    requires seats { length doors.items ≡ sizes.seats }
-    requires free { AllByRecursion (λ door. IsFree (D.told door)) doors.items }
+    requires seats { length sources.items ≡ sizes.seats }
+    requires free { AllByRecursion (λ source. IsFree (D.told source)) sources.items }
     ensures { IfOk result (λ back.
-        ServesDoors sizes (K.may_answer clock) (map (λ door. D.told door) doors.items)
-        (map (λ door. D.told door) back.items)) }
+        ServesSources sizes (K.may_answer clock) (map (λ source. D.told source) sources.items)
+        (map (λ source. D.told source) back.items)) }
 {
-    let mut crew = Crew::new(alloc, sleepers.len())?;
-    let rooms = ReturnRoom::new(alloc, doors.len(), sizes.shards)?;
+    let mut thread_group = ThreadGroup::new(alloc, pollers.len())?;
+    let pool = ReturnRoom::new(alloc, sources.len(), sizes.shards)?;
     let Ok(gate) = Arc::new(alloc, gate) else {
-        return Err(CrewRefusal::Memory);
+        return Err(ThreadGroupError::Memory);
     };
-    let started = start(rt, alloc, &mut crew, doors, sleepers, sizes, &gate, clock);
+    let started = start(
+        rt,
+        alloc,
+        &mut thread_group,
+        sources,
+        pollers,
+        sizes,
+        &gate,
+        clock,
+    );
     if let Err(refusal) = started {
-        crew.dismiss(rt);
+        thread_group.dismiss(rt);
         return Err(refusal);
     }
-    crew.begin(rt);
-    let parts = crew.join(rt)?;
-    rooms.settle(parts)
+    thread_group.begin(rt);
+    let parts = thread_group.join(rt)?;
+    pool.settle(parts)
 }
 
-/// The room for what the threads hand back. It comes before they start: nothing is lost once the lines were served.
+/// The room for what the threads hand back. It comes before they start: nothing is lost once the
+/// lines were served.
 #[derive(Drop)]
-struct ReturnRoom<D: Door, G> {
-    seats: Vec<Sitting<D>>,
+struct ReturnRoom<D: ConnectionSource, G> {
+    seats: Vec<ConnectionSlot<D>>,
     workers: Vec<Working<G>>,
-    doors: Vec<D>,
+    sources: Vec<D>,
     ghost no_seats: { seats.items ≡ [] },
     ghost no_workers: { workers.items ≡ [] },
-    ghost no_doors: { doors.items ≡ [] },
+    ghost no_sources: { sources.items ≡ [] },
 }
 
-impl<D: Door + Drop, G: Gate + Drop> ReturnRoom<D, G> {
+impl<D: ConnectionSource + Drop, G: Gate + Drop> ReturnRoom<D, G> {
     /// The room for as many seats and workers.
     fn new(alloc: Global, seats: usize, workers: usize) -> Result<ReturnRoom<D, G>, AllocError> {
         Ok(ReturnRoom {
             seats: Vec::with_capacity(alloc, seats)?,
             workers: Vec::with_capacity(alloc, workers)?,
-            doors: Vec::with_capacity(alloc, seats)?,
+            sources: Vec::with_capacity(alloc, seats)?,
         })
     }
 
-    /// Looks at the lanes between all seats and all workers of these parts from both ends, and hands back the doors.
-    fn settle<K: Clock + Drop>(self, parts: Vec<Part<D, G, K>>) -> Result<Vec<D>, CrewRefusal>
-        requires { AllByRecursion (λ sitting.
-            HasLanes (seat_ends sitting.session)
+    /// Looks at the channels between all seats and all workers of these parts from both ends, and
+    /// hands back the sources.
+    fn settle<K: Clock + Drop>(
+        self,
+        parts: Vec<Reactor<D, G, K>>,
+    ) -> Result<Vec<D>, ThreadGroupError>
+        requires { AllByRecursion (λ slot.
+            HasChannels (seat_ends slot.session)
             (map (λ one. one.worker) (flat_map (λ part. part.workers.items) parts.items)))
             (flat_map (λ part. part.seats.all.items) parts.items) }
         ensures tied { IfOk result (λ _.
-            AllByRecursion (λ sitting.
-            AreTied (seat_ends sitting.session)
+            AllByRecursion (λ slot.
+            AreTied (seat_ends slot.session)
             (map (λ one. one.worker) (flat_map (λ part. part.workers.items) parts.items)))
             (flat_map (λ part. part.seats.all.items) parts.items)) }
-        ensures doors { IfOk result (λ doors. doors.items ≡
-            map (λ sitting. sitting.door) (flat_map (λ part. part.seats.all.items) parts.items)) }
+        ensures sources { IfOk result (λ sources. sources.items ≡
+            map (λ slot. slot.source) (flat_map (λ part. part.seats.all.items) parts.items)) }
     {
         let ReturnRoom {
             mut seats,
             mut workers,
-            doors,
+            sources,
         } = self;
         take_apart(parts, &mut seats, &mut workers)?;
-        settle(seats, &mut workers, doors)
+        settle(seats, &mut workers, sources)
     }
 }
 
-/// Starts a thread for each sleeper, with as many of the seats and of the workers as it has places and workers for, as far as
-/// they can be started. Any seat of the server may call a worker. `Thread`: some are left.
+/// Starts a thread for each poller, with as many of the seats and of the workers as it has places
+/// and workers for, as far as they can be started. Any seat of the server may call a worker.
+/// `Thread`: some are left.
 fn start<
     R: Threads + Wait + RandomSource + Copy + Send + 'static,
-    D: Door + Send + Drop + 'static,
+    D: ConnectionSource + Send + Drop + 'static,
     G: Gate + Send + Sync + Drop + 'static,
     K: Clock + Copy + Send + Drop + 'static,
 >(
     rt: &R,
     alloc: Global,
-    crew: &mut Crew<Part<D, G, K>>,
-    doors: Vec<D>,
-    sleepers: Vec<Sleeper>,
+    thread_group: &mut ThreadGroup<Reactor<D, G, K>>,
+    sources: Vec<D>,
+    pollers: Vec<Poller>,
     sizes: Sizes,
     gate: &Arc<G, Global>,
     clock: K,
-) -> Result<(), CrewRefusal>
+) -> Result<(), ThreadGroupError>
 where
-    D::Line: Send + 'static,
+    D::Transport: Send + 'static,
     requires sizes { MayServe sizes }
-    requires seats { length doors.items ≡ sizes.seats }
-    requires free { AllByRecursion (λ door. IsFree (D.told door)) doors.items }
-    requires none { crew.old ≡ [] }
-    ensures lanes { OnOk result (AreLanes sizes.seats sizes.shards sizes.ring
-        (map (λ one. seat_ends one.session) (flat_map (λ part. part.seats.all.items) crew.new))
-        (map ends_of (map (λ one. one.worker) (flat_map (λ part. part.workers.items) crew.new)))) }
+    requires seats { length sources.items ≡ sizes.seats }
+    requires free { AllByRecursion (λ source. IsFree (D.told source)) sources.items }
+    requires none { thread_group.old ≡ [] }
+    ensures channels { OnOk result (AreChannels sizes.seats sizes.shards sizes.ring
+        (map (λ one. seat_ends one.session)
+        (flat_map (λ part. part.seats.all.items) thread_group.new))
+        (map ends_of (map (λ one. one.worker)
+        (flat_map (λ part. part.workers.items) thread_group.new)))) }
     ensures fresh { OnOk result
         (AllByRecursion (IsFresh sizes)
-        (map (λ one. one.worker) (flat_map (λ part. part.workers.items) crew.new))) }
-    ensures doors { OnOk result
-        (map (λ one. one.door) (flat_map (λ part. part.seats.all.items) crew.new) ≡ doors.items) }
+        (map (λ one. one.worker) (flat_map (λ part. part.workers.items) thread_group.new))) }
+    ensures sources { OnOk result
+        (map (λ one. one.source) (flat_map (λ part. part.seats.all.items) thread_group.new) ≡
+        sources.items) }
     ensures same { OnOk result
-        (AllByRecursion (λ part. (part.clock ≡ clock) × (part.sizes ≡ sizes)) crew.new) }
+        (AllByRecursion (λ part. (part.clock ≡ clock) × (part.sizes ≡ sizes)) thread_group.new) }
 {
-    let mut left = Unassigned::new(rt, alloc, doors, &sleepers, sizes, gate)?;
-    for sleeper in sleepers {
-        let part = left.next_part(alloc, sleeper, sizes, clock)?;
-        crew.start(rt, alloc, part)?;
+    let mut left = Unassigned::new(rt, alloc, sources, &pollers, sizes, gate)?;
+    for poller in pollers {
+        let part = left.next_part(alloc, poller, sizes, clock)?;
+        thread_group.start(rt, alloc, part)?;
     }
     if left.is_empty() {
         return Ok(());
     }
-    Err(CrewRefusal::Thread)
+    Err(ThreadGroupError::Thread)
 }
 
-/// A seat for each door, over the ends in the same place. The wakers are those of the shards.
-fn sit_down<D: Door + Drop>(
+/// A seat for each source, over the ends in the same place. The wakers are those of the shards.
+fn sit_down<D: ConnectionSource + Drop>(
     alloc: Global,
-    doors: Vec<D>,
+    sources: Vec<D>,
     ends: Vec<SeatEnds>,
     shards: &Wakers,
     sizes: Sizes,
-) -> Result<Vec<Sitting<D>>, AllocError>
+) -> Result<Vec<ConnectionSlot<D>>, AllocError>
     requires sizes { SuitLines sizes }
-    requires width { AllByRecursion (λ seat. length seat.lanes ≡ sizes.shards) ends.items }
-    requires as_many { length doors.items ≡ length ends.items }
-    requires free { AllByRecursion (λ door. IsFree (D.told door)) doors.items }
+    requires width { AllByRecursion (λ seat. length seat.channels ≡ sizes.shards) ends.items }
+    requires as_many { length sources.items ≡ length ends.items }
+    requires free { AllByRecursion (λ source. IsFree (D.told source)) sources.items }
     ensures ends { IfOk result
         (λ seats. map (λ one. seat_ends one.session) seats.items ≡ ends.items) }
-    ensures doors { IfOk result (λ seats. map (λ one. one.door) seats.items ≡ doors.items) }
+    ensures sources { IfOk result (λ seats. map (λ one. one.source) seats.items ≡ sources.items) }
     ensures begin { IfOk result (λ seats.
         AllByRecursion (λ one.
-        HasSatDown sizes.shards (rules_of sizes) (D.told one.door) one.session one.phase)
+        HasSatDown sizes.shards (rules_of sizes) (D.told one.source) one.session one.slot_state)
         seats.items) }
 {
     let mut seats = Vec::with_capacity(alloc, ends.len())?;
-    let mut doors = doors.into_iter();
+    let mut sources = sources.into_iter();
     for ends in ends {
-        let Some(door) = doors.next() else {
+        let Some(source) = sources.next() else {
             return Err(AllocError);
         };
         let shards = shards.share()?;
-        let sitting = Sitting::new(alloc, door, ends, shards, sizes)?;
-        seats.push(sitting)?;
+        let slot = ConnectionSlot::new(alloc, source, ends, shards, sizes)?;
+        seats.push(slot)?;
     }
     Ok(seats)
 }
 
-/// The workers with what their turns need: the gate is theirs together, the wakers are those of the seats.
+/// The workers with what their turns need: the gate is theirs together, the wakers are those of the
+/// seats.
 fn set_working<G: Gate + Drop>(
     alloc: Global,
     workers: Vec<Worker>,
@@ -247,66 +269,68 @@ fn set_working<G: Gate + Drop>(
 
 /// The seats and the workers that no thread serves yet.
 #[derive(Drop)]
-struct Unassigned<D: Door, G> {
-    seats: IntoIter<Sitting<D>>,
+struct Unassigned<D: ConnectionSource, G> {
+    seats: IntoIter<ConnectionSlot<D>>,
     workers: IntoIter<Working<G>>,
 }
 
-impl<D: Door + Drop, G: Gate + Drop> Unassigned<D, G> {
-    /// A seat for each door and a worker for each shard, over new lanes. The sleepers are those of their threads.
+impl<D: ConnectionSource + Drop, G: Gate + Drop> Unassigned<D, G> {
+    /// A seat for each source and a worker for each shard, over new channels. The pollers are those
+    /// of their threads.
     fn new<R: RandomSource>(
         rt: &R,
         alloc: Global,
-        doors: Vec<D>,
-        sleepers: &[Sleeper],
+        sources: Vec<D>,
+        pollers: &[Poller],
         sizes: Sizes,
         gate: &Arc<G, Global>,
     ) -> Result<Unassigned<D, G>, AllocError>
         requires sizes { MayServe sizes }
-        requires seats { length doors.items ≡ sizes.seats }
-        requires free { AllByRecursion (λ door. IsFree (D.told door)) doors.items }
-        ensures lanes { IfOk result (λ left. AreLanes sizes.seats sizes.shards sizes.ring
+        requires seats { length sources.items ≡ sizes.seats }
+        requires free { AllByRecursion (λ source. IsFree (D.told source)) sources.items }
+        ensures channels { IfOk result (λ left. AreChannels sizes.seats sizes.shards sizes.ring
             (map (λ one. seat_ends one.session) (into_iter_items left.seats))
             (map ends_of (map (λ one. one.worker) (into_iter_items left.workers)))) }
         ensures fresh { IfOk result (λ left.
             AllByRecursion (IsFresh sizes)
             (map (λ one. one.worker) (into_iter_items left.workers))) }
-        ensures doors { IfOk result (λ left.
-            map (λ one. one.door) (into_iter_items left.seats) ≡ doors.items) }
+        ensures sources { IfOk result (λ left.
+            map (λ one. one.source) (into_iter_items left.seats) ≡ sources.items) }
         ensures begin { IfOk result (λ left.
             AllByRecursion (λ one.
-            HasSatDown sizes.shards (rules_of sizes) (D.told one.door) one.session one.phase)
+            HasSatDown sizes.shards (rules_of sizes) (D.told one.source) one.session one.slot_state)
             (into_iter_items left.seats)) }
     {
-        let Ok((near, far)) = lanes(alloc, sizes) else {
+        let Ok((near, far)) = channels(alloc, sizes) else {
             // The sizes are within the limits.
             return Err(AllocError);
         };
-        let wakers = Wakers::of(alloc, sleepers)?;
+        let wakers = Wakers::of(alloc, pollers)?;
         let workers = make_workers(rt, alloc, far, sizes)?;
         let workers = set_working(alloc, workers, gate, &wakers)?;
-        let seats = sit_down(alloc, doors, near, &wakers, sizes)?;
+        let seats = sit_down(alloc, sources, near, &wakers, sizes)?;
         Ok(Unassigned {
             seats: seats.into_iter(),
             workers: workers.into_iter(),
         })
     }
 
-    /// The part of the thread that has this sleeper: the next of them, as many as it has places and workers for.
+    /// The part of the thread that has this poller: the next of them, as many as it has places and
+    /// workers for.
     fn next_part<K: Clock + Drop>(
         &mut self,
         alloc: Global,
-        sleeper: Sleeper,
+        poller: Poller,
         sizes: Sizes,
         clock: K,
-    ) -> Result<Part<D, G, K>, AllocError>
+    ) -> Result<Reactor<D, G, K>, AllocError>
         requires begin { AllByRecursion (λ one.
-            HasSatDown sizes.shards (rules_of sizes) (D.told one.door) one.session one.phase)
+            HasSatDown sizes.shards (rules_of sizes) (D.told one.source) one.session one.slot_state)
             (into_iter_items self.old.seats) }
         ensures ready { IfOk result (λ part.
             AllByRecursion (λ one.
-            HasSatDown part.sizes.shards (rules_of part.sizes) (D.told one.door) one.session
-            one.phase) part.seats.all.items) }
+            HasSatDown part.sizes.shards (rules_of part.sizes) (D.told one.source) one.session
+            one.slot_state) part.seats.all.items) }
         ensures seats { IfOk result (λ part.
             part.seats.all.items ++ into_iter_items self.new.seats ≡
             into_iter_items self.old.seats) }
@@ -316,9 +340,9 @@ impl<D: Door + Drop, G: Gate + Drop> Unassigned<D, G> {
         ensures sizes { IfOk result (λ part. part.sizes ≡ sizes) }
         ensures clock { IfOk result (λ part. part.clock ≡ clock) }
     {
-        let seats = take_some(alloc, &mut self.seats, sleeper.places())?;
-        let workers = take_some(alloc, &mut self.workers, sleeper.workers())?;
-        Part::new(alloc, seats, workers, sleeper, sizes, clock)
+        let seats = take_some(alloc, &mut self.seats, poller.places())?;
+        let workers = take_some(alloc, &mut self.workers, poller.workers())?;
+        Reactor::new(alloc, seats, workers, poller, sizes, clock)
     }
 
     /// Whether there are none.
@@ -350,9 +374,9 @@ fn take_some<T: Drop>(
 }
 
 /// Hands the seats and the workers of all parts over, in their order.
-fn take_apart<D: Door + Drop, G: Gate + Drop, K: Clock + Drop>(
-    parts: Vec<Part<D, G, K>>,
-    seats: &mut Vec<Sitting<D>>,
+fn take_apart<D: ConnectionSource + Drop, G: Gate + Drop, K: Clock + Drop>(
+    parts: Vec<Reactor<D, G, K>>,
+    seats: &mut Vec<ConnectionSlot<D>>,
     workers: &mut Vec<Working<G>>,
 ) -> Result<(), AllocError>
     requires no_seats { seats.old.items ≡ [] }

@@ -1,5 +1,6 @@
 -- The pieces that are due are run one after another, and each answer is expected.
-use Rattle.std.proofs.Common.{◌≡◌, ℕ, ◌+◌, ◌-◌, ◌<◌, inl, inr, true, List, ◌∷◌, [], ◌++◌, ◌==◌, length, map, take, set, Some, refl, sym, ap, subst, ◌∙◌, arith, length-drop}
+use Rattle.std.proofs.Common.{◌≡◌, ℕ, ◌+◌, ◌-◌, ◌<◌, inl, inr, true, List, ◌∷◌, [], ◌++◌, ◌==◌, length, map, take, set}
+use Rattle.std.proofs.Common.{Some, refl, sym, ap, subst, ◌∙◌, arith, length-drop}
 use Rattle.std.specs.List.{slice_get}
 use Rattle.std.proofs.lemmas.Bool.{cases_Bool, cases_lt}
 use Rattle.std.proofs.lemmas.List.{length-map, length-set, map-append}
@@ -15,13 +16,13 @@ use Rattle.mc_store.specs.Shard.{Steps}
 use Rattle.mc_conn.specs.declared.conn.Conn.{Conn}
 use Rattle.mc_conn.specs.Conn.{IsConn}
 use Rattle.mc_conn.specs.internal.Inside.{put_first}
-use Rattle.mc_conn.specs.Due.{due, lane}
+use Rattle.mc_conn.specs.Due.{due, channel}
 use Rattle.mc_join.specs.Expects.{Expects}
 use Rattle.mc_conn.specs.Fits.{ReceivesFromShard}
-use Rattle.mc_conn.specs.Told.{Told, all_forms, all_pieces}
+use Rattle.mc_conn.specs.Told.{Told, all_pending_replies, all_pieces}
 use Rattle.mc_conn.proofs.Counting.{due_beyond}
 use Rattle.mc_conn.proofs.Fitting.{next_expected, next_fits}
-use Rattle.mc_conn.proofs.Places.{lane_there}
+use Rattle.mc_conn.proofs.Places.{channel_there}
 use Rattle.mc_conn.proofs.Staying.{is_sound, keeps_accept}
 use Rattle.mc_model.specs.Log.{Entry, on_shard, pieces_in, replies_in, reply_to}
 use Rattle.mc_model.proofs.Lists.{take_next}
@@ -36,37 +37,50 @@ abbrev pub entry_for : ℕ → Piece → Answer → Entry
 entry_for place piece answer = record { shard = place; asker = 0; piece = piece; answer = answer }
 
 -- the reply to it, as it is made
-pub reply_is : (place : ℕ) (piece : Piece) (answer : Answer) (kind : Kind) (reply : Shown) → reply ≡ record { ticket = piece.ticket; part = piece.part; kind = kind; answer = answer } → kind ≡ kind_of piece.op → reply ≡ reply_to (entry_for place piece answer)
-reply_is place piece answer kind reply made same = made ∙ ap (λ (k : Kind). record { ticket = piece.ticket; part = piece.part; kind = k; answer = answer }) same
+pub reply_is : (place : ℕ) (piece : Piece) (answer : Answer) (kind : Kind) (reply : Shown) → reply
+    ≡ record { ticket = piece.ticket; part = piece.part; kind = kind; answer = answer } → kind ≡ kind_of piece.op
+    → reply ≡ reply_to (entry_for place piece answer)
+reply_is place piece answer kind reply made same =
+    made ∙ ap (λ (k : Kind). record { ticket = piece.ticket; part = piece.part; kind = k; answer = answer }) same
 
--- the pieces that a shard ran are those of its lane
-pub lane_ran : (s : ℕ) (log : List Entry) → lane s (map piece_in log) ≡ pieces_in (on_shard s log)
-lane_ran s [] = refl
-lane_ran s (entry ∷ log) = elim (cases_Bool (entry.shard == s)) [
-  | inl here ↦ rw here (ap (λ ps. entry.piece ∷ ps) (lane_ran s log))
-  | inr there ↦ rw there (lane_ran s log)
+-- the pieces that a shard ran are those of its channel
+pub channel_ran : (s : ℕ) (log : List Entry) → channel s (map piece_in log) ≡ pieces_in (on_shard s log)
+channel_ran s [] = refl
+channel_ran s (entry ∷ log) = elim (cases_Bool (entry.shard == s)) [
+  | inl here ↦ rw here (ap (λ ps. entry.piece ∷ ps) (channel_ran s log))
+  | inr there ↦ rw there (channel_ran s log)
 ]
 
 -- the next piece that is out is the next one that is due at its shard
-next_due : (sizes : Sizes) (told : Told) (shards : List Shard) (log : List Entry) (place : ℕ) (piece : Piece) → ShardsAnswered sizes told shards log → slice_get (all_pieces told) told.out ≡ Some (place, piece) → slice_get (due told.shards place told.taken) (length (replies_on log place)) ≡ Some piece
+next_due : (sizes : Sizes) (told : Told) (shards : List Shard) (log : List Entry) (place : ℕ) (piece : Piece)
+    → ShardsAnswered sizes told shards log → slice_get (all_pieces told) told.out ≡ Some (place, piece)
+    → slice_get (due told.shards place told.taken) (length (replies_on log place)) ≡ Some piece
 next_due sizes told shards log place piece answers next =
     let es = on_shard place log in
-    let ran : lane place (take told.out (all_pieces told)) ≡ pieces_in es = ap (lane place) (sym answers.ran) ∙ lane_ran place log in
-    let same : length (replies_on log place) ≡ length (lane place (take told.out (all_pieces told))) =
+    let ran : channel place (take told.out (all_pieces told)) ≡ pieces_in es = ap (channel place) (sym answers.ran)
+    ∙ channel_ran place log in
+    let same : length (replies_on log place) ≡ length (channel place (take told.out (all_pieces told))) =
     omega (arith, ap length ran, length-map es (λ (entry : Entry). entry.piece), length-map es reply_to) in
-    rw same (lane_there place (all_pieces told) told.out piece next)
+    rw same (channel_there place (all_pieces told) told.out piece next)
 
 -- a shard gave one reply more
-receives_entry : (log : List Entry) (entry : Entry) → ReceivesFromShard (replies_on log) entry.shard (reply_to entry) (replies_on (log ++ entry ∷ []))
+receives_entry : (log : List Entry) (entry : Entry)
+    → ReceivesFromShard (replies_on log) entry.shard (reply_to entry) (replies_on (log ++ entry ∷ []))
 receives_entry log entry = record {
-  here = ap replies_in (on_shard-yes entry.shard log entry refl) ∙ map-append reply_to (on_shard entry.shard log) (entry ∷ []);
+  here =
+      ap replies_in (on_shard-yes entry.shard log entry refl)
+      ∙ map-append reply_to (on_shard entry.shard log) (entry ∷ []);
   others = λ k other. ap replies_in (on_shard-no k log entry (λ e. other (sym e)));
 }
 
 -- the next piece was run, and its answer accepted
-answers_next : (sizes : Sizes) (told : Told) (shards : List Shard) (log : List Entry) (place : ℕ) (piece : Piece) (answer : Answer) (was shard : Shard) → ShardsAnswered sizes told shards log → slice_get (all_pieces told) told.out ≡ Some (place, piece) →
+answers_next : (sizes : Sizes) (told : Told) (shards : List Shard) (log : List Entry) (place : ℕ) (piece : Piece)
+    (answer : Answer) (was shard : Shard) → ShardsAnswered sizes told shards log → slice_get (all_pieces told) told.out
+    ≡ Some (place, piece) →
     slice_get shards place ≡ Some was → Steps was piece.op piece.moment answer shard →
-    ShardsAnswered sizes (record told { out = told.out + 1; lent = true; accepted = told.accepted ++ reply_to (entry_for place piece answer) ∷ [] }) (set shards place shard) (log ++ entry_for place piece answer ∷ [])
+    ShardsAnswered sizes (record told
+    { out = told.out + 1; lent = true; accepted = told.accepted ++ reply_to (entry_for place piece answer) ∷ [] }) (set
+    shards place shard) (log ++ entry_for place piece answer ∷ [])
 answers_next sizes told shards log place piece answer was shard answers next got steps =
     let entry = entry_for place piece answer in
     record {
@@ -76,13 +90,20 @@ answers_next sizes told shards log place piece answer was shard answers next got
       count = length-set shards place shard ∙ answers.count;
       backs = Backs-push sizes shards log was shard entry got answers.backs steps;
       mine = all_push (λ (e : Entry). e.asker ≡ 0) log entry answers.mine refl;
-      ran = map-append piece_in log (entry ∷ []) ∙ (ap (λ ps. ps ++ (place, piece) ∷ []) answers.ran ∙ sym (take_next told.out (all_pieces told) (place, piece) next));
-      fits = next_fits told.shards place told.taken told.accepted (replies_on log) (replies_on (log ++ entry ∷ [])) piece (reply_to entry) answers.fits
-          (next_due sizes told shards log place piece answers next) (record { ticket = refl; part = refl; kind = refl }) (receives_entry log entry);
+      ran =
+          map-append piece_in log (entry ∷ [])
+          ∙ (ap (λ ps. ps ++ (place, piece) ∷ []) answers.ran
+          ∙ sym (take_next told.out (all_pieces told) (place, piece) next));
+      fits =
+          next_fits told.shards place told.taken told.accepted (replies_on log) (replies_on (log ++ entry ∷ [])) piece
+          (reply_to entry) answers.fits
+          (next_due sizes told shards log place piece answers next) (record { ticket = refl; part = refl; kind = refl })
+          (receives_entry log entry);
     }
 
 -- before any of them is run
-pub more_none : (sizes : Sizes) (told : Told) (conn : Conn) (shards : List Shard) (log : List Entry) → IsConn conn told → ShardsAnswered sizes told shards log → AnswersMore sizes told conn shards
+pub more_none : (sizes : Sizes) (told : Told) (conn : Conn) (shards : List Shard) (log : List Entry) → IsConn conn told
+    → ShardsAnswered sizes told shards log → AnswersMore sizes told conn shards
 more_none sizes told conn shards log is answers = record {
   out = told.out;
   lent = told.lent;
@@ -93,29 +114,35 @@ more_none sizes told conn shards log is answers = record {
   handed = record { within = (is_sound conn told is).handed; same = refl };
 }
 
--- what is told once these pieces were answered
-abbrev pub told_more : {sizes : Sizes} {conn : Conn} {shards : List Shard} (told : Told) → AnswersMore sizes told conn shards → Told
+-- what is known once these pieces are answered
+abbrev pub told_more : {sizes : Sizes} {conn : Conn} {shards : List Shard} (told : Told)
+    → AnswersMore sizes told conn shards → Told
 told_more told more = record told { out = more.out; lent = more.lent; accepted = more.accepted }
 
 -- and once the next one is out
-abbrev pub told_next : {sizes : Sizes} {conn : Conn} {shards : List Shard} (told : Told) → AnswersMore sizes told conn shards → Told
+abbrev pub told_next : {sizes : Sizes} {conn : Conn} {shards : List Shard} (told : Told)
+    → AnswersMore sizes told conn shards → Told
 told_next told more = record told { out = more.out + 1; lent = true; accepted = more.accepted }
 
 -- what is known once the next piece is out
-pub record IsNext (sizes : Sizes) (told : Told) (conn : Conn) (shards : List Shard) (place : ℕ) (piece : Piece) (sent : Conn) : Type 0 where
+pub record IsNext (sizes : Sizes) (told : Told) (conn : Conn) (shards : List Shard) (place : ℕ) (piece : Piece)
+    (sent : Conn) : Type 0 where
   pub more : AnswersMore sizes told conn shards
   pub here : slice_get (all_pieces told) more.out ≡ Some (place, piece)
   pub sent_is : IsConn sent (told_next told more)
 
--- by what the call says that took it out
-pub is_next : (sizes : Sizes) (told : Told) (conn sent : Conn) (shards : List Shard) (place : ℕ) (piece : Piece) → AnswersMore sizes told conn shards →
-    ((now : Told) → IsConn conn now → (slice_get (all_pieces now) now.out ≡ Some (place, piece)) × IsConn sent (record now { out = now.out + 1; lent = true })) → IsNext sizes told conn shards place piece sent
+-- by the contract of the call that took it out
+pub is_next : (sizes : Sizes) (told : Told) (conn sent : Conn) (shards : List Shard) (place : ℕ) (piece : Piece)
+    → AnswersMore sizes told conn shards →
+    ((now : Told) → IsConn conn now → (slice_get (all_pieces now) now.out ≡ Some (place, piece))
+    × IsConn sent (record now { out = now.out + 1; lent = true })) → IsNext sizes told conn shards place piece sent
 is_next sizes told conn sent shards place piece more gives =
     let next = gives (told_more told more) more.conn_is in
     record { more = more; here = next.0; sent_is = next.1 }
 
--- its shard is there
-pub place_there : (sizes : Sizes) (told : Told) (conn sent : Conn) (shards : List Shard) (place : ℕ) (piece : Piece) → IsNext sizes told conn shards place piece sent → place < length shards
+-- its shard exists
+pub place_there : (sizes : Sizes) (told : Told) (conn sent : Conn) (shards : List Shard) (place : ℕ) (piece : Piece)
+    → IsNext sizes told conn shards place piece sent → place < length shards
 place_there sizes told conn sent shards place piece next =
     let answers = next.more.answers in
     let some = answers.some in
@@ -129,16 +156,21 @@ place_there sizes told conn sent shards place piece next =
           absurd (cc)
     ]
 
--- the next piece was run and its answer accepted, as the calls tell it
-pub more_step : (sizes : Sizes) (told : Told) (conn sent new : Conn) (shards : List Shard) (place : ℕ) (piece : Piece) (answer : Answer) (was shard : Shard) (reply : Shown) → (next : IsNext sizes told conn shards place piece sent) → slice_get shards place ≡ Some was → Steps was piece.op piece.moment answer shard → reply ≡ reply_to (entry_for place piece answer) →
-    (IsConn sent (told_next told next.more) → Expects (all_forms told) next.more.accepted reply × IsConn new (record (told_next told next.more) { accepted = next.more.accepted ++ reply ∷ [] })) →
+-- the next piece was run and its answer accepted, by the contracts of the calls
+pub more_step : (sizes : Sizes) (told : Told) (conn sent new : Conn) (shards : List Shard) (place : ℕ) (piece : Piece)
+    (answer : Answer) (was shard : Shard) (reply : Shown) → (next : IsNext sizes told conn shards place piece sent)
+    → slice_get shards place ≡ Some was → Steps was piece.op piece.moment answer shard → reply
+    ≡ reply_to (entry_for place piece answer) →
+    (IsConn sent (told_next told next.more) → Expects (all_pending_replies told) next.more.accepted reply
+    × IsConn new (record (told_next told next.more) { accepted = next.more.accepted ++ reply ∷ [] })) →
     AnswersMore sizes told new (set shards place shard)
 more_step sizes told conn sent new shards place piece answer was shard reply next got steps same accepts =
     let more = next.more in
     let entry = entry_for place piece answer in
     let out : Told = told_next told more in
     let later : Told = record out { accepted = more.accepted ++ reply_to entry ∷ [] } in
-    let P : Shown → Type 0 = λ r. Expects (all_forms out) out.accepted r × IsConn new (record out { accepted = out.accepted ++ r ∷ [] }) in
+    let P : Shown → Type 0 = λ r. Expects (all_pending_replies out) out.accepted r
+    × IsConn new (record out { accepted = out.accepted ++ r ∷ [] }) in
     let accepted = subst P same (accepts next.sent_is) in
     record {
       out = more.out + 1;
@@ -146,18 +178,26 @@ more_step sizes told conn sent new shards place piece answer was shard reply nex
       accepted = more.accepted ++ reply_to entry ∷ [];
       log = more.log ++ entry ∷ [];
       conn_is = accepted.1;
-      answers = answers_next sizes (told_more told more) shards more.log place piece answer was shard more.answers next.here got steps;
-      handed = keeps_trans told out later refl (record { within = more.handed.within; same = more.handed.same }) (keeps_accept sent out (reply_to entry) next.sent_is accepted.0);
+      answers =
+          answers_next sizes (told_more told more) shards more.log place piece answer was shard more.answers next.here
+          got steps;
+      handed =
+          keeps_trans told out later refl (record { within = more.handed.within; same = more.handed.same })
+          (keeps_accept sent out (reply_to entry) next.sent_is accepted.0);
     }
 
--- the answer is expected, and so it is not handed back
-pub never_strange : (sizes : Sizes) (told : Told) (conn sent : Conn) (shards : List Shard) (place : ℕ) (piece : Piece) (answer : Answer) (reply : Shown) → (next : IsNext sizes told conn shards place piece sent) → reply ≡ reply_to (entry_for place piece answer) →
-    (IsConn sent (told_next told next.more) → Expects (all_forms told) next.more.accepted reply → ⊥) → ⊥
+-- the answer is expected, so it is not returned
+pub never_strange : (sizes : Sizes) (told : Told) (conn sent : Conn) (shards : List Shard) (place : ℕ) (piece : Piece)
+    (answer : Answer) (reply : Shown) → (next : IsNext sizes told conn shards place piece sent) → reply
+    ≡ reply_to (entry_for place piece answer) →
+    (IsConn sent (told_next told next.more) → Expects (all_pending_replies told) next.more.accepted reply → ⊥) → ⊥
 never_strange sizes told conn sent shards place piece answer reply next same refuses =
     let more = next.more in
-    let expects = next_expected told.shards place told.taken more.accepted (replies_on more.log) piece (reply_to (entry_for place piece answer)) more.answers.fits
-    (next_due sizes (told_more told more) shards more.log place piece more.answers next.here) (record { ticket = refl; part = refl; kind = refl }) in
-    let P : Shown → Type 0 = λ r. Expects (all_forms told) more.accepted r in
+    let expects = next_expected told.shards place told.taken more.accepted (replies_on more.log) piece
+    (reply_to (entry_for place piece answer)) more.answers.fits
+    (next_due sizes (told_more told more) shards more.log place piece more.answers next.here)
+    (record { ticket = refl; part = refl; kind = refl }) in
+    let P : Shown → Type 0 = λ r. Expects (all_pending_replies told) more.accepted r in
     refuses next.sent_is (subst P (sym same) expects)
 
 -- how many pieces are not out
@@ -169,9 +209,13 @@ unfolding IsConn
 unsent_is conn told is = ap length is.unsent ∙ length-drop told.out (all_pieces told)
 
 -- one piece less is left
-pub one_less : (sizes : Sizes) (told : Told) (conn sent new : Conn) (shards : List Shard) (place : ℕ) (piece : Piece) (accepted : List Shown) → (next : IsNext sizes told conn shards place piece sent) → IsConn new (record (told_next told next.more) { accepted = accepted }) → unsent_count new < unsent_count conn
+pub one_less : (sizes : Sizes) (told : Told) (conn sent new : Conn) (shards : List Shard) (place : ℕ) (piece : Piece)
+    (accepted : List Shown) → (next : IsNext sizes told conn shards place piece sent)
+    → IsConn new (record (told_next told next.more) { accepted = accepted }) → unsent_count new < unsent_count conn
 one_less sizes told conn sent new shards place piece accepted next now =
-    let before : unsent_count conn ≡ length (all_pieces told) - next.more.out = unsent_is conn (told_more told next.more) next.more.conn_is in
-    let after : unsent_count new ≡ length (all_pieces told) - (next.more.out + 1) = unsent_is new (record (told_next told next.more) { accepted = accepted }) now in
+    let before : unsent_count conn ≡ length (all_pieces told) - next.more.out =
+    unsent_is conn (told_more told next.more) next.more.conn_is in
+    let after : unsent_count new ≡ length (all_pieces told) - (next.more.out + 1) =
+    unsent_is new (record (told_next told next.more) { accepted = accepted }) now in
     let below = slice_get_within (all_pieces told) next.more.out (place, piece) next.here in
     omega (arith, before, after, below)

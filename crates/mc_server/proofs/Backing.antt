@@ -16,26 +16,36 @@ pub Backs-none : (sizes : Sizes) → Backs sizes [] []
 Backs-none sizes shard kept found = absurd cc
 
 -- one shard more
-pub Backs-new : (sizes : Sizes) (shards : List Shard) (shard : Shard) → Backs sizes shards [] → IsShard shard (empty_shard sizes (length shards)) → Backs sizes (shards ++ shard ∷ []) []
+pub Backs-new : (sizes : Sizes) (shards : List Shard) (shard : Shard) → Backs sizes shards []
+    → IsShard shard (empty_shard sizes (length shards)) → Backs sizes (shards ++ shard ∷ []) []
 Backs-new sizes shards shard backs new place kept found = elim (push_cases shards shard place kept found) [
   | inl old ↦ backs place kept old
   | inr last ↦ (empty_shard sizes place, refl, rw (last.1, last.0) new)
 ]
 
 -- a shard ran a piece
-pub Backs-push : (sizes : Sizes) (shards : List Shard) (log : List Entry) (old new : Shard) (entry : Entry) → slice_get shards entry.shard ≡ Some old → Backs sizes shards log → Steps old entry.piece.op entry.piece.moment entry.answer new → Backs sizes (set shards entry.shard new) (log ++ entry ∷ [])
-Backs-push sizes shards log old new entry got backs steps shard kept found = elim (set_cases shards entry.shard new shard kept found) [
-  | inl here ↦
-      let was = backs shard old (rw here.0 got) in
-      let now = steps was.0 was.2 in
-      (now.0, rw (on_shard-yes shard log entry (sym here.0)) (Run-push (empty_shard sizes shard) (on_shard shard log) was.0 now.0 entry was.1 now.1), rw here.1 now.2)
-  | inr there ↦
-      let was = backs shard kept there.1 in
-      (was.0, rw (on_shard-no shard log entry (λ e. there.0 (sym e))) was.1, was.2)
-]
+pub Backs-push : (sizes : Sizes) (shards : List Shard) (log : List Entry) (old new : Shard) (entry : Entry)
+    → slice_get shards entry.shard ≡ Some old → Backs sizes shards log
+    → Steps old entry.piece.op entry.piece.moment entry.answer new
+    → Backs sizes (set shards entry.shard new) (log ++ entry ∷ [])
+Backs-push sizes shards log old new entry got backs steps shard kept found =
+    elim (set_cases shards entry.shard new shard kept found) [
+      | inl here ↦
+          let was = backs shard old (rw here.0 got) in
+          let now = steps was.0 was.2 in (
+            now.0,
+            rw (on_shard-yes shard log entry (sym here.0))
+                (Run-push (empty_shard sizes shard) (on_shard shard log) was.0 now.0 entry was.1 now.1),
+            rw here.1 now.2,
+          )
+      | inr there ↦
+          let was = backs shard kept there.1 in
+          (was.0, rw (on_shard-no shard log entry (λ e. there.0 (sym e))) was.1, was.2)
+    ]
 
 -- what all shards together did is lawful
-pub lawful : (sizes : Sizes) (shards : List Shard) (log : List Entry) → length shards ≡ sizes.shards → Backs sizes shards log → IsLawful sizes log
+pub lawful : (sizes : Sizes) (shards : List Shard) (log : List Entry) → length shards ≡ sizes.shards
+    → Backs sizes shards log → IsLawful sizes log
 lawful sizes shards log count backs shard below =
     let kept = get_below shards shard (omega (arith, below, count)) in
     let is = backs shard kept.0 kept.1 in

@@ -1,10 +1,11 @@
 -- The log of a line's shards explains it.
-use Rattle.std.proofs.Common.{◌≡◌, ℕ, ◌+◌, ◌<◌, Bool, List, [], ◌∷◌, ◌++◌, length, map, take, drop, refl, sym, ap, ◌∙◌, inl, inr, arith}
+use Rattle.std.proofs.Common.{◌≡◌, ℕ, ◌+◌, ◌<◌, Bool, List, [], ◌∷◌, ◌++◌, length, map, take, drop, refl, sym, ap, ◌∙◌}
+use Rattle.std.proofs.Common.{inl, inr, arith}
 use Rattle.std.specs.List.{AllByRecursion, concat}
 use Rattle.std.proofs.lemmas.Bool.Decides.{eqb_tells}
 use Rattle.std.proofs.lemmas.List.{length-map, take-append-drop, take_all}
 use Rattle.std.proofs.lemmas.Simd.{map-map}
-use Rattle.mc_wire.specs.Outlet.{Sight}
+use Rattle.mc_wire.specs.Sink.{Sight}
 use Rattle.mc_sizes.specs.Sizes.{rules_of}
 use Rattle.mc_sizes.specs.declared.sizes.Sizes.{Sizes}
 use Rattle.mc_split.specs.declared.plan.Piece.{Piece}
@@ -15,13 +16,14 @@ use Rattle.mc_split.proofs.Shards.{pieces_within}
 use Rattle.mc_store.specs.declared.shard.Shard.{Shard}
 use Rattle.mc_conn.specs.declared.conn.Conn.{Conn}
 use Rattle.mc_conn.specs.Conn.{IsConn}
-use Rattle.mc_conn.specs.Due.{Ran, due, history_of, lane, pieces_at, pieces_from, ran_on, ticket_at}
+use Rattle.mc_conn.specs.Due.{Ran, due, history_of, channel, pieces_at, pieces_from, ran_on, ticket_at}
 use Rattle.mc_conn.specs.Due as due
 use Rattle.mc_conn.specs.Fits.{HasCome, KeysFit, Tells, counts}
-use Rattle.mc_conn.specs.History.{AnsweredCommand, IsAnswered, Taken, entries_of, planned, taken_of, text_done, texts_of}
+use Rattle.mc_conn.specs.History.{AnsweredCommand, IsAnswered, Taken, entries_of, planned, taken_of, text_done}
+use Rattle.mc_conn.specs.History.{texts_of}
 use Rattle.mc_conn.specs.Told.{Told, all_pieces, all_texts, commands_of}
 use Rattle.mc_conn.proofs.Counting.{count_from_come}
-use Rattle.mc_conn.proofs.Places.{lane-append}
+use Rattle.mc_conn.proofs.Places.{channel-append}
 use Rattle.mc_conn.proofs.Serving.{keys_came}
 use Rattle.mc_conn.proofs.Staying.{is_sound}
 use Rattle.mc_conn.proofs.Telling.{ran_on-same, tells}
@@ -29,12 +31,13 @@ use Rattle.mc_model.specs.Sized.{empty_shard}
 use Rattle.mc_model.specs.Log.{Entry, on_shard, pieces_in, reply_to}
 use Rattle.mc_model.specs.Alone.{empty_shards}
 use Rattle.mc_model.proofs.Lists.{all_unmap}
-use Rattle.mc_model.proofs.Alone.{Continues, all_mine, alone_goes, on_its_shard, pieces_of_ran, ran_of, replies_of_ran, run_of}
+use Rattle.mc_model.proofs.Alone.{Continues, all_mine, alone_goes, on_its_shard, pieces_of_ran, ran_of, replies_of_ran}
+use Rattle.mc_model.proofs.Alone.{run_of}
 use Rattle.mc_seat.specs.Story.{Story}
 use Rattle.mc_seat.specs.internal.Steps.{IsServed}
 use Rattle.mc_seat.specs.Explains.{IsExplained, entry_of}
 use Rattle.mc_server.specs.internal.Answering.{ShardsAnswered, piece_in, replies_on}
-use Rattle.mc_server.proofs.Answering.{lane_ran}
+use Rattle.mc_server.proofs.Answering.{channel_ran}
 use Rattle.mc_server.proofs.Backing.{lawful}
 use Rattle.mc_ring.proofs.Lists.{all_append}
 
@@ -44,13 +47,16 @@ pub record RanAll (sizes : Sizes) (told : Told) (shards : List Shard) (log : Lis
   pub all : told.out ≡ length (all_pieces told)
 
 -- what a shard ran is what was due there
-pub ran_due : (sizes : Sizes) (told : Told) (shards : List Shard) (log : List Entry) (s : ℕ) → RanAll sizes told shards log → pieces_in (on_shard s log) ≡ due told.shards s told.taken
+pub ran_due : (sizes : Sizes) (told : Told) (shards : List Shard) (log : List Entry) (s : ℕ)
+    → RanAll sizes told shards log → pieces_in (on_shard s log) ≡ due told.shards s told.taken
 ran_due sizes told shards log s ran =
     let all = ran.all in
-    sym (lane_ran s log) ∙ (ap (lane s) ran.answers.ran ∙ ap (lane s) (take_all told.out (all_pieces told) (omega (arith, all))))
+    sym (channel_ran s log) ∙
+    (ap (channel s) ran.answers.ran ∙ ap (channel s) (take_all told.out (all_pieces told) (omega (arith, all))))
 
--- and its replies came for all commands taken
-pub all_come : (sizes : Sizes) (told : Told) (shards : List Shard) (log : List Entry) → RanAll sizes told shards log → HasCome told.shards told.taken (counts (replies_on log)) (length told.taken)
+-- replies came for all commands taken
+pub all_come : (sizes : Sizes) (told : Told) (shards : List Shard) (log : List Entry) → RanAll sizes told shards log
+    → HasCome told.shards told.taken (counts (replies_on log)) (length told.taken)
 all_come sizes told shards log ran s =
     let es = on_shard s log in
     let is = ap length (ran_due sizes told shards log s ran) in
@@ -58,28 +64,35 @@ all_come sizes told shards log ran s =
     omega (arith, is, whole, length-map es (λ (entry : Entry). entry.piece), length-map es reply_to)
 
 -- every command taken has its reply
-pub all_complete : (sizes : Sizes) (told : Told) (shards : List Shard) (log : List Entry) (conn : Conn) → IsConn conn told → RanAll sizes told shards log → length (all_texts told) ≡ length told.taken
+pub all_complete : (sizes : Sizes) (told : Told) (shards : List Shard) (log : List Entry) (conn : Conn)
+    → IsConn conn told → RanAll sizes told shards log → length (all_texts told) ≡ length told.taken
 all_complete sizes told shards log conn is ran =
     let complete = (is_sound conn told is).complete in
-    let most = count_from_come told.shards (length told.taken) told.taken told.accepted (replies_on log) (omega arith) ran.answers.fits (all_come sizes told shards log ran) in
+    let most = count_from_come told.shards (length told.taken) told.taken told.accepted (replies_on log) (omega arith)
+    ran.answers.fits (all_come sizes told shards log ran) in
     omega (arith, complete, most)
 
--- The history whose answers are those accepted tells all commands taken.
+-- The history whose answers are those accepted has all commands taken.
 pub record TellsAll (sizes : Sizes) (told : Told) (log : List Entry) (history : List AnsweredCommand) : Type 0 where
   pub same : map taken_of history ≡ told.taken
   pub texts : all_texts told ≡ map text_done history
   pub bytes : concat (all_texts told) ≡ texts_of history
   pub answered : AllByRecursion (IsAnswered told.shards) history
-  pub ran : (s : ℕ) → due.on_shard s (due.log_of told.shards history) ≡ ran_on s (due told.shards s told.taken) (replies_on log s)
+  pub ran : (s : ℕ) → due.on_shard s (due.log_of told.shards history)
+      ≡ ran_on s (due told.shards s told.taken) (replies_on log s)
 
-tells_all : (sizes : Sizes) (told : Told) (shards : List Shard) (log : List Entry) (conn : Conn) → IsConn conn told → RanAll sizes told shards log → TellsAll sizes told log (history_of told.shards told.accepted (take (length told.taken) told.taken))
+tells_all : (sizes : Sizes) (told : Told) (shards : List Shard) (log : List Entry) (conn : Conn) → IsConn conn told
+    → RanAll sizes told shards log
+    → TellsAll sizes told log (history_of told.shards told.accepted (take (length told.taken) told.taken))
 tells_all sizes told shards log conn is ran =
     let count = length told.taken in
     let t : Tells told.shards told.taken told.accepted (replies_on log) count =
-    tells told.shards count told.taken told.accepted (replies_on log) (omega arith) (is_sound conn told is).may ran.answers.fits (all_come sizes told shards log ran) in
+    tells told.shards count told.taken told.accepted (replies_on log) (omega arith) (is_sound conn told is).may
+    ran.answers.fits (all_come sizes told shards log ran) in
     let whole : take count told.taken ≡ told.taken = take_all count told.taken (omega arith) in
     let complete = all_complete sizes told shards log conn is ran in
-    let texts : take count (all_texts told) ≡ all_texts told = take_all count (all_texts told) (omega (arith, complete)) in
+    let texts : take count (all_texts told) ≡ all_texts told =
+    take_all count (all_texts told) (omega (arith, complete)) in
     record {
       same = t.same ∙ whole;
       texts = sym texts ∙ t.texts;
@@ -89,29 +102,39 @@ tells_all sizes told shards log conn is ran =
     }
 
 -- what the history logs on a shard is what the shard ran
-on_shard_is : (sizes : Sizes) (told : Told) (shards : List Shard) (log : List Entry) (history : List AnsweredCommand) → RanAll sizes told shards log → TellsAll sizes told log history → (s : ℕ) → due.on_shard s (due.log_of told.shards history) ≡ map ran_of (on_shard s log)
+on_shard_is : (sizes : Sizes) (told : Told) (shards : List Shard) (log : List Entry) (history : List AnsweredCommand)
+    → RanAll sizes told shards log → TellsAll sizes told log history → (s : ℕ)
+    → due.on_shard s (due.log_of told.shards history) ≡ map ran_of (on_shard s log)
 on_shard_is sizes told shards log history ran t s =
     let es = on_shard s log in
-    t.ran s ∙ rw (← ran_due sizes told shards log s ran, ← pieces_of_ran es, ← replies_of_ran es) (ran_on-same s (map ran_of es) (on_its_shard s log))
+    t.ran s ∙ rw (← ran_due sizes told shards log s ran, ← pieces_of_ran es, ← replies_of_ran es)
+    (ran_on-same s (map ran_of es) (on_its_shard s log))
 
 -- the keys of the replies are those of what was due
-pub keys_fit : (sizes : Sizes) (told : Told) (shards : List Shard) (log : List Entry) → ShardsAnswered sizes told shards log → KeysFit told.shards told.taken (replies_on log)
+pub keys_fit : (sizes : Sizes) (told : Told) (shards : List Shard) (log : List Entry)
+    → ShardsAnswered sizes told shards log → KeysFit told.shards told.taken (replies_on log)
 keys_fit sizes told shards log answers = keys_came told.shards told.taken (replies_on log) (λ s.
     let es = on_shard s log in
     let front = take told.out (all_pieces told) in
     let back = drop told.out (all_pieces told) in
-    let ran : lane s front ≡ map (λ (r : Ran). r.piece) (map ran_of es) = ap (lane s) (sym answers.ran) ∙ (lane_ran s log ∙ sym (pieces_of_ran es)) in
+    let ran : channel s front ≡ map (λ (r : Ran). r.piece) (map ran_of es) = ap (channel s) (sym answers.ran)
+    ∙ (channel_ran s log ∙ sym (pieces_of_ran es)) in
     record {
       ran = map ran_of es;
-      rest = lane s back;
-      asked = ap (lane s) (sym (take-append-drop told.out (all_pieces told))) ∙ (lane-append s front back ∙ ap (λ ps. ps ++ lane s back) ran);
+      rest = channel s back;
+      asked =
+          ap (channel s) (sym (take-append-drop told.out (all_pieces told)))
+          ∙ (channel-append s front back ∙ ap (λ ps. ps ++ channel s back) ran);
       replies_are = sym (replies_of_ran es);
     })
 
 -- entries of one line, on a shard
-entries_of_ran : (log : List Entry) → AllByRecursion (λ (entry : Entry). entry.asker ≡ 0) log → map (entry_of 0) (map ran_of log) ≡ log
+entries_of_ran : (log : List Entry) → AllByRecursion (λ (entry : Entry). entry.asker ≡ 0) log
+    → map (entry_of 0) (map ran_of log) ≡ log
 entries_of_ran [] mine = refl
-entries_of_ran (entry ∷ log) mine = λ i. record { shard = entry.shard; asker = sym mine.0 i; piece = entry.piece; answer = entry.answer } ∷ entries_of_ran log mine.1 i
+entries_of_ran (entry ∷ log) mine =
+    λ i. record { shard = entry.shard; asker = sym mine.0 i; piece = entry.piece; answer = entry.answer } ∷
+    entries_of_ran log mine.1 i
 
 shard_of_entries : (s : ℕ) (ran : List Ran) → on_shard s (map (entry_of 0) ran) ≡ map (entry_of 0) (due.on_shard s ran)
 shard_of_entries s [] = refl
@@ -120,47 +143,65 @@ shard_of_entries s (one ∷ ran) = elim (eqb_tells one.shard s) [
   | inr there ↦ rw there.0 (shard_of_entries s ran)
 ]
 
-mine_on : (s : ℕ) (log : List Entry) → AllByRecursion (λ (entry : Entry). entry.asker ≡ 0) log → AllByRecursion (λ (entry : Entry). entry.asker ≡ 0) (on_shard s log)
+mine_on : (s : ℕ) (log : List Entry) → AllByRecursion (λ (entry : Entry). entry.asker ≡ 0) log
+    → AllByRecursion (λ (entry : Entry). entry.asker ≡ 0) (on_shard s log)
 mine_on s [] mine = tt
 mine_on s (entry ∷ log) mine = elim (eqb_tells entry.shard s) [
   | inl here ↦ rw here.0 (mine.0, mine_on s log mine.1)
   | inr there ↦ rw there.0 (mine_on s log mine.1)
 ]
 
--- each entry is on a shard that is there, for the only line
-owned : (shards : ℕ) (log : List Entry) → AllByRecursion (λ (piece : ℕ × Piece). piece.0 < shards) (map piece_in log) → AllByRecursion (λ (entry : Entry). entry.asker ≡ 0) log → AllByRecursion (λ (entry : Entry). (entry.shard < shards) × (entry.asker < 1)) log
+-- each entry is on an existing shard, for the only line
+owned : (shards : ℕ) (log : List Entry) → AllByRecursion (λ (piece : ℕ × Piece). piece.0 < shards) (map piece_in log)
+    → AllByRecursion (λ (entry : Entry). entry.asker ≡ 0) log
+    → AllByRecursion (λ (entry : Entry). (entry.shard < shards) × (entry.asker < 1)) log
 owned shards [] there mine = tt
-owned shards (entry ∷ log) there mine = let asker = mine.0 in ((there.0, omega (arith, asker)), owned shards log there.1 mine.1)
+owned shards (entry ∷ log) there mine = let asker =
+    mine.0 in ((there.0, omega (arith, asker)), owned shards log there.1 mine.1)
 
-parts_there : (shards part : ℕ) (ticket : Ticket) (moment : ℕ) (asked : List ShardOp) → AllByRecursion (λ (one : ShardOp). one.shard < shards) asked → AllByRecursion (λ (piece : ℕ × Piece). piece.0 < shards) (parts_from part ticket moment asked)
+parts_there : (shards part : ℕ) (ticket : Ticket) (moment : ℕ) (asked : List ShardOp)
+    → AllByRecursion (λ (one : ShardOp). one.shard < shards) asked
+    → AllByRecursion (λ (piece : ℕ × Piece). piece.0 < shards) (parts_from part ticket moment asked)
 parts_there shards part ticket moment [] all = tt
-parts_there shards part ticket moment (one ∷ asked) all = (all.0, parts_there shards (part + 1) ticket moment asked all.1)
+parts_there shards part ticket moment (one ∷ asked) all =
+    (all.0, parts_there shards (part + 1) ticket moment asked all.1)
 
-pieces_there : (shards number : ℕ) (taken : List Taken) → 0 < shards → AllByRecursion (λ (piece : ℕ × Piece). piece.0 < shards) (pieces_from shards number taken)
+pieces_there : (shards number : ℕ) (taken : List Taken) → 0 < shards
+    → AllByRecursion (λ (piece : ℕ × Piece). piece.0 < shards) (pieces_from shards number taken)
 pieces_there shards number [] some = tt
 pieces_there shards number (one ∷ taken) some =
-    all_append (λ (piece : ℕ × Piece). piece.0 < shards) (pieces_at shards number one) (pieces_from shards (number + 1) taken)
-    (parts_there shards 0 (ticket_at number) one.moment (pieces_of shards (planned one)) (pieces_within shards some (planned one)))
+    all_append (λ (piece : ℕ × Piece). piece.0 < shards) (pieces_at shards number one)
+    (pieces_from shards (number + 1) taken)
+    (parts_there shards 0 (ticket_at number) one.moment (pieces_of shards (planned one))
+    (pieces_within shards some (planned one)))
     (pieces_there shards (number + 1) taken some)
 
--- One log explains the line, by what its connection was told and its shards ran.
-pub explains : (sizes : Sizes) (may_answer : ℕ → Type 0) (begin now : Sight) (told : Told) (broke : Bool) (commands : ℕ) (conn last : Conn) (shards : List Shard) (log : List Entry) → IsConn conn told → RanAll sizes told shards log →
-    AllByRecursion (λ (one : Taken). may_answer one.moment) told.taken → commands ≡ length told.taken → IsServed (replies_on log) begin now told broke last →
+-- One log explains the line, from its connection's lists and what its shards ran.
+pub explains : (sizes : Sizes) (may_answer : ℕ → Type 0) (begin now : Sight) (told : Told) (broke : Bool) (commands : ℕ)
+    (conn last : Conn) (shards : List Shard) (log : List Entry) → IsConn conn told → RanAll sizes told shards log →
+    AllByRecursion (λ (one : Taken). may_answer one.moment) told.taken → commands ≡ length told.taken
+    → IsServed (replies_on log) begin now told broke last →
     IsExplained sizes may_answer (record { begin = begin; now = now; commands = commands; broke = broke })
 explains sizes may_answer begin now told broke commands conn last shards log is ran moments counted served =
     let answers = ran.answers in
     let history = history_of told.shards told.accepted (take (length told.taken) told.taken) in
     let t = tells_all sizes told shards log conn is ran in
     let long = ap length t.same in
-    let commands_are : commands_of told.taken ≡ entries_of history = ap commands_of (sym t.same) ∙ map-map (λ (one : Taken). one.entry) taken_of history in
-    let story : Story (rules_of sizes) begin now broke (map taken_of history) (map text_done history) = rw (← answers.rules_are, t.same, ← t.texts) served.story in
+    let commands_are : commands_of told.taken ≡ entries_of history = ap commands_of (sym t.same)
+    ∙ map-map (λ (one : Taken). one.entry) taken_of history in
+    let story : Story (rules_of sizes) begin now broke (map taken_of history) (map text_done history) =
+    rw (← answers.rules_are, t.same, ← t.texts) served.story in
     let answered : AllByRecursion (IsAnswered sizes.shards) history = rw (← answers.same) t.answered in
-    let logged : (s : ℕ) → due.on_shard s (due.log_of sizes.shards history) ≡ map ran_of (on_shard s log) = λ s. rw (← answers.same) (on_shard_is sizes told shards log history ran t s) in
-    let mine : (s : ℕ) → AllByRecursion (λ (entry : Entry). entry.asker ≡ 0) (on_shard s log) = λ s. mine_on s log answers.mine in
+    let logged : (s : ℕ) → due.on_shard s (due.log_of sizes.shards history) ≡ map ran_of (on_shard s log) =
+    λ s. rw (← answers.same) (on_shard_is sizes told shards log history ran t s) in
+    let mine : (s : ℕ) → AllByRecursion (λ (entry : Entry). entry.asker ≡ 0) (on_shard s log) =
+    λ s. mine_on s log answers.mine in
     let law = lawful sizes shards log answers.count answers.backs in
     let all = ran.all in
-    let whole : take told.out (all_pieces told) ≡ all_pieces told = take_all told.out (all_pieces told) (omega (arith, all)) in
-    let there : AllByRecursion (λ (piece : ℕ × Piece). piece.0 < sizes.shards) (map piece_in log) = rw (answers.ran, whole, ← answers.same) (pieces_there told.shards 0 told.taken (rw answers.same answers.some)) in
+    let whole : take told.out (all_pieces told) ≡ all_pieces told =
+    take_all told.out (all_pieces told) (omega (arith, all)) in
+    let there : AllByRecursion (λ (piece : ℕ × Piece). piece.0 < sizes.shards) (map piece_in log) =
+    rw (answers.ran, whole, ← answers.same) (pieces_there told.shards 0 told.taken (rw answers.same answers.some)) in
     let goes : Continues sizes.shards (empty_shards sizes) (due.log_of sizes.shards history) = λ s below.
     let run = law s below in
     (run.0, rw (logged s) (run_of (empty_shard sizes s) (on_shard s log) run.0 run.1)) in
@@ -170,15 +211,18 @@ explains sizes may_answer begin now told broke commands conn last shards log is 
       explained = record {
         history = history;
         story = story;
-        reads = rw (← answers.rules_are, ← commands_are, ← t.texts) (served.reads (keys_fit sizes told shards log answers));
+        reads =
+            rw (← answers.rules_are, ← commands_are, ← t.texts) (served.reads (keys_fit sizes told shards log answers));
         answered = answered;
         moments = all_unmap (λ (one : Taken). may_answer one.moment) taken_of history (rw t.same moments);
         counted = omega (arith, counted, long, length-map history taken_of);
         ran = λ s below.
             all_mine 0 (on_shard s log) (mine s)
-            ∙ (sym (entries_of_ran (on_shard s log) (mine s)) ∙ (ap (map (entry_of 0)) (sym (logged s)) ∙ sym (shard_of_entries s (due.log_of sizes.shards history))));
+            ∙ (sym (entries_of_ran (on_shard s log) (mine s))
+            ∙ (ap (map (entry_of 0)) (sym (logged s)) ∙ sym (shard_of_entries s (due.log_of sizes.shards history))));
       };
       alone_is = λ unbroken had.
           let written : story.written ≡ concat (map text_done history) = rw unbroken at story.writes in
-          written ∙ (ap concat (sym t.texts) ∙ (t.bytes ∙ alone_goes sizes.shards 0 (empty_shards sizes) history answers.some had answered goes));
+          written ∙ (ap concat (sym t.texts)
+          ∙ (t.bytes ∙ alone_goes sizes.shards 0 (empty_shards sizes) history answers.some had answered goes));
     }

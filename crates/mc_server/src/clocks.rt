@@ -1,4 +1,4 @@
-//! The machine's time, and a clock that stands still.
+//! The machine's time, and a clock with a fixed time.
 ghost use Rattle.std.specs.Prelude.{◌≡◌, ◌+◌, ◌/◌, IfOk, OnErr, min};
 ghost use Rattle.std.specs.Duration.{as_nanos, max_nanos};
 ghost use Rattle.mc_reply.specs.Server.{no_server};
@@ -9,11 +9,11 @@ use mc_seat::Clock;
 use std::time::Duration;
 use std::{io, time};
 
-/// A clock that stands still, at the given number of seconds since 1970.
+/// A clock with a fixed time, in seconds since 1970.
 #[derive(Clone, Copy)]
-pub struct StillClock(pub u64);
+pub struct FixedClock(pub u64);
 
-impl Clock for StillClock {
+impl Clock for FixedClock {
     ghost may_answer = { λ clock moment. moment ≡ clock.0 };
 
     fn now(&self) -> u64 {
@@ -21,8 +21,8 @@ impl Clock for StillClock {
     }
 }
 
-/// It knows its time alone.
-impl StatsSource for StillClock {
+/// It knows only its time.
+impl StatsSource for FixedClock {
     ghost may_show = { λ clock shown. shown ≡ record no_server { time = clock.0 } };
 
     fn server_stats(&self) -> ServerStats {
@@ -33,17 +33,18 @@ impl StatsSource for StillClock {
     }
 }
 
-/// The machine's time, which nobody sets once it has begun: the wall clock's at the start, and by the monotonic clock from there
-/// on. It answers 0 where a clock can't be read, and no clause tells what else.
+/// The wall clock's time at the start, advanced by the monotonic clock, so that setting the wall
+/// clock has no effect (docs/DECISIONS.md, S2). 0 if a clock can't be read. No clause says what
+/// time it shows.
 #[derive(Clone, Copy)]
 pub struct MachineClock<R> {
     rt: R,
-    /// The time since 1970 at which the monotonic clock began, by both clocks at the start.
+    /// The time since 1970 at the monotonic clock's zero, from both clocks at the start.
     begin: Option<Duration>,
 }
 
 impl<R: time::Clock> MachineClock<R> {
-    /// It starts now.
+    /// A clock that starts now.
     pub fn start(rt: R) -> MachineClock<R> {
         let begin = match (rt.since_1970(), rt.monotonic()) {
             (Ok(wall), Ok(monotonic)) => Some(wall.saturating_sub(monotonic)),
@@ -53,7 +54,7 @@ impl<R: time::Clock> MachineClock<R> {
     }
 }
 
-/// It knows the time alone.
+/// It knows only the time.
 impl<R: time::Clock> StatsSource for MachineClock<R> {
     ghost may_show = { λ _ _. Unit {0} };
 
@@ -76,7 +77,8 @@ impl<R: time::Clock> Clock for MachineClock<R> {
     }
 }
 
-/// The whole seconds of a time since 1970, and of what has passed since then; 0 where the clock can't be read.
+/// The whole seconds of a time since 1970 plus the time passed since then; 0 if the clock can't be
+/// read.
 fn seconds(begin: Duration, passed: io::Result<Duration>) -> u64
     ensures read { IfOk passed (λ passed.
         result ≡ min (as_nanos begin + as_nanos passed) max_nanos / 1_000_000_000) }

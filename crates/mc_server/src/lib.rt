@@ -1,8 +1,8 @@
-//! The server: lines of commands in, replies out.
+//! A server of one line without threads, and clocks.
 #![tactic(auto)]
 
 mod clocks;
 mod serve;
 
-pub use clocks::{MachineClock, StillClock};
-pub use serve::{LineRefusal, serve_one};
+pub use clocks::{FixedClock, MachineClock};
+pub use serve::{LineError, serve_one};

@@ -1,4 +1,5 @@
-//! Serves one line, over shards of its own.
+//! Serves one line over shards of its own, without threads. Each piece runs where it is made
+//! (docs/DECISIONS.md, E7).
 ghost use Rattle.std.specs.Prelude.{◌≡◌, ◌+◌, [], IfOk, OnErr, length};
 ghost use Rattle.mc_sizes.specs.Sizes.{SuitLines, SuitShards};
 ghost use Rattle.mc_seat.specs.Explains.{IsExplained};
@@ -6,7 +7,7 @@ ghost use Rattle.mc_server.specs.internal.Answering.{AnswersAll, Backs, CanAnswe
 
 use mc_conn::Conn;
 use mc_ring::Reply;
-use mc_seat::{Clock, Line, LineStep, Rooms, Served, Service};
+use mc_seat::{BufferPool, BufferedConn, Clock, LineStep, Served, Transport};
 use mc_sizes::Sizes;
 use mc_store::Shard;
 use std::alloc::{AllocError, Global};
@@ -15,10 +16,11 @@ use std::sync::Wait;
 use std::thread;
 use thiserror::Error;
 
-/// Why a line was not served. Nothing was read of it nor written to it.
+/// Why a line was not served. Nothing was read from it or written to it.
 #[derive(Clone, Copy, Debug, Error)]
-pub enum LineRefusal {
-    /// There is no memory for the shards or the connection, or the system gives no random bytes for a hash.
+pub enum LineError {
+    /// There is no memory for the shards or the connection, or the system provides no random bytes
+    /// for a hash.
     #[error("out of memory for the shards or the connection, or no random bytes from the system")]
     Memory,
 }
@@ -43,7 +45,7 @@ fn make_shards<R: RandomSource>(
     Ok(shards)
 }
 
-/// Runs the pieces that are due, in order, each on its shard, and takes in their answers.
+/// Runs the pending pieces in order, each on its shard, and accepts their answers.
 fn answer(alloc: Global, conn: &mut Conn, shards: &mut Vec<Shard>)
     requires { CanAnswer conn.old shards.old.items }
     ensures { AnswersAll conn.old shards.old.items conn.new shards.new.items }
@@ -61,14 +63,15 @@ fn answer(alloc: Global, conn: &mut Conn, shards: &mut Vec<Shard>)
     }
 }
 
-/// Serves one line until its input ends, it quits or it fails. It has one seat, whatever the sizes say.
-pub fn serve_one<R: Wait + RandomSource, L: Line, K: Clock>(
+/// Serves one line until its input ends, it quits or it fails. It uses one slot, whatever
+/// `sizes.seats` is.
+pub fn serve_one<R: Wait + RandomSource, L: Transport, K: Clock>(
     rt: &R,
     alloc: Global,
     line: &mut L,
     sizes: Sizes,
     clock: &K,
-) -> Result<Served, LineRefusal>
+) -> Result<Served, LineError>
     requires shards { SuitShards sizes }
     requires lines { SuitLines sizes }
     // One log explains what was read, what was written and what the shards did.
@@ -82,17 +85,17 @@ pub fn serve_one<R: Wait + RandomSource, L: Line, K: Clock>(
         })) }
     ensures refused { OnErr result (L.sight line.new ≡ L.sight line.old) }
 {
-    let (Ok(mut shards), Ok(mut service), Ok(mut rooms)) = (
+    let (Ok(mut shards), Ok(mut buffered_conn), Ok(mut pool)) = (
         make_shards(rt, alloc, sizes),
-        Service::new(alloc, sizes),
-        Rooms::new(alloc),
+        BufferedConn::new(alloc, sizes),
+        BufferPool::new(alloc),
     ) else {
-        return Err(LineRefusal::Memory);
+        return Err(LineError::Memory);
     };
-    service.take_all(clock);
+    buffered_conn.take_all(clock);
     for _ in rt.forever() {
-        answer(alloc, &mut service.conn, &mut shards);
-        match service.go_on(line, clock, &mut rooms) {
+        answer(alloc, &mut buffered_conn.conn, &mut shards);
+        match buffered_conn.go_on(line, clock, &mut pool) {
             LineStep::Did => {}
             LineStep::Waits => thread::yield_now(),
             LineStep::Ended(served) => return Ok(served),

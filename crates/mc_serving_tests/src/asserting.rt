@@ -1,15 +1,16 @@
-//! What tests assert. It stands by itself, so that how a failure is told is proved once, and not at each place that asserts.
+//! The assertions of tests, in functions of their own: how a failure is reported is proved once,
+//! not at each assertion.
 ghost use Rattle.std.specs.Prelude.{◌≡◌, true};
 
 use std::fmt::Debug;
 use std::process::Abort;
 
-/// Asserts that what was found is what was wanted.
+/// Asserts that the result is the expected one.
 pub fn equal<T: PartialEq + Debug + Copy>(rt: &impl Abort, found: T, wanted: T) {
     assert_eq!(rt; found, wanted);
 }
 
-/// Asserts that it holds.
+/// Asserts that the condition holds.
 pub fn holds(rt: &impl Abort, condition: bool)
     ensures { condition ≡ true }
 {

@@ -1,12 +1,10 @@
-//! Tests of what serves connections and of the program around it: how threads wait and begin, the simulator, the worker of a
-//! shard, one line, sockets, the command line, replay files. They stand apart from the crates that they call, which are so
-//! proved once, and not a second time with their tests.
+//! Tests of serving and of the program: how threads wait and start, the simulator, a shard's
+//! worker, one line, sockets, the command line, replay files. They are in a crate of their own, so
+//! that the crates that they call are proved only once (docs/DECISIONS.md, C3).
 #![tactic(auto)]
 
 #[cfg(test)]
 mod asserting;
-#[cfg(test)]
-mod crew;
 #[cfg(test)]
 mod line;
 #[cfg(test)]
@@ -31,6 +29,8 @@ mod start;
 mod streams;
 #[cfg(test)]
 mod tcp;
+#[cfg(test)]
+mod thread_group;
 #[cfg(test)]
 mod wake;
 #[cfg(test)]

@@ -1,12 +1,12 @@
-//! One line is served: how often it is read and written, when the clock is asked, and what a refused allocation changes.
-//! The worked rows stand in the crate mc_rows.
+//! One line is served: how often it is read and written, when the clock is read, and what a refused
+//! allocation changes. The worked rows are in the crate mc_rows.
 use crate::asserting::{equal, holds};
 use crate::memory_line::MemoryLine;
 use crate::sizes::SMALL;
 use mc_conn::StatsSource;
 use mc_reply::ServerStats;
 use mc_seat::Clock;
-use mc_server::{LineRefusal, StillClock, serve_one};
+use mc_server::{FixedClock, LineError, serve_one};
 use mc_sizes::Sizes;
 use std::alloc::Global;
 use std::cell::Cell;
@@ -19,13 +19,13 @@ const SIZES: Sizes = Sizes {
     ..SMALL
 };
 
-/// Serves the line with these sizes, and answers what was served: how many commands, and whether the line broke.
+/// Serves the line with these sizes. Returns the number of commands, and whether the line broke.
 fn serve<R: RandomSource + Wait, C: Clock>(
     rt: &R,
     alloc: Global,
     line: &mut MemoryLine,
     clock: &C,
-) -> Result<(u64, bool), LineRefusal> {
+) -> Result<(u64, bool), LineError> {
     let served = serve_one(rt, alloc, line, SIZES, clock)?;
     Ok((served.commands, served.broke))
 }
@@ -35,16 +35,16 @@ fn replies_in_one_write(rt: HostRuntime) -> Result<(), Fail> {
     let input =
         b"set a 7 0 2\r\nhi\r\nget a\r\nstats\r\nset b 0 0 1 noreply\r\nx\r\nmn\r\nquit\r\nmn\r\n";
     let mut line = MemoryLine::new(rt.alloc(), input.as_slice())?;
-    let served = serve(&rt, rt.alloc(), &mut line, &StillClock(1000))?;
+    let served = serve(&rt, rt.alloc(), &mut line, &FixedClock(1000))?;
     equal(&rt, served, (6, false));
     let output = b"STORED\r\nVALUE a 7 2\r\nhi\r\nEND\r\nERROR\r\nMN\r\n";
     equal(&rt, line.output.as_slice(), output.as_slice());
-    // One read and one write: nothing is read behind `quit`.
+    // One read and one write: nothing is read after `quit`.
     equal(&rt, line.calls, 2);
     Ok(())
 }
 
-/// A clock that is a second further at each call.
+/// A clock that advances by a second at each call.
 #[derive(Drop)]
 struct RisingClock(Cell<u64>);
 
@@ -66,8 +66,8 @@ impl Clock for RisingClock {
     }
 }
 
-/// The clock is asked once for each command that is taken: an item that is stored at 1000 and lives for three seconds is
-/// there at 1001 and 1002, and gone at 1003.
+/// The clock is read once for each command taken: an item that is stored at 1000 and lives for
+/// three seconds is there at 1001 and 1002, and expired at 1003.
 #[test]
 fn a_moment_for_each_command(rt: HostRuntime) -> Result<(), Fail> {
     let input = b"set a 0 3 1\r\nx\r\nget a\r\nget a\r\nget a\r\nquit\r\n";
@@ -79,12 +79,13 @@ fn a_moment_for_each_command(rt: HostRuntime) -> Result<(), Fail> {
     Ok(())
 }
 
-/// Stores, changes and reads of two shards, after which nothing is read. Keys of 39 bytes take memory.
+/// Stores, changes and reads on two shards; after them nothing is read. Keys of 39 bytes take
+/// memory.
 const SCRIPT: &[u8] =
     b"set aaaaaaaaaaaaaaaaaaaaaaaaaaaaaaaaaaaaaaa 0 0 1\r\nx\r\nget aaaaaaaaaaaaaaaaaaaaaaaaaaaaaaaaaaaaaaa b\r\nappend aaaaaaaaaaaaaaaaaaaaaaaaaaaaaaaaaaaaaaa 0 0 1\r\ny\r\nincr aaaaaaaaaaaaaaaaaaaaaaaaaaaaaaaaaaaaaaa 1\r\nms ccccccccccccccccccccccccccccccccccccccc 1 c\r\nz\r\nmg ccccccccccccccccccccccccccccccccccccccc v\r\nflush_all\r\nmn\r\nget aaaaaaaaaaaaaaaaaaaaaaaaaaaaaaaaaaaaaaa\r\nquit\r\n";
 
-/// The replies to the script where all commands were done, and where one found no memory: the set, the get of two
-/// keys, the append, the incr, the ms, the mg, the flush_all, the last get.
+/// The replies to the script if all commands ran, and if one found no memory: the set, the get of
+/// two keys, the append, the incr, the ms, the mg, the flush_all, the last get.
 const OUTPUTS: [&[u8]; 9] = [
     b"STORED\r\nVALUE aaaaaaaaaaaaaaaaaaaaaaaaaaaaaaaaaaaaaaa 0 1\r\nx\r\nEND\r\nSTORED\r\nCLIENT_ERROR cannot increment or decrement non-numeric value\r\nHD c5\r\nVA 1\r\nz\r\nOK\r\nMN\r\nEND\r\n",
     b"SERVER_ERROR out of memory\r\nEND\r\nNOT_STORED\r\nNOT_FOUND\r\nHD c1\r\nVA 1\r\nz\r\nOK\r\nMN\r\nEND\r\n",
@@ -100,22 +101,23 @@ const OUTPUTS: [&[u8]; 9] = [
 #[test]
 fn all_is_done_where_memory_is_ample(rt: HostRuntime) -> Result<(), Fail> {
     let mut line = MemoryLine::new(rt.alloc(), SCRIPT)?;
-    let served = serve(&rt, rt.alloc(), &mut line, &StillClock(1000))?;
+    let served = serve(&rt, rt.alloc(), &mut line, &FixedClock(1000))?;
     equal(&rt, served, (10, false));
     equal(&rt, line.output.as_slice(), OUTPUTS[0]);
     Ok(())
 }
 
-/// Holds with all allocations, and with any one of them refused: then nothing was read, or just one command found no
-/// memory, and the others were answered as they are without it. Which one it is depends on what was taken when, as all of
-/// them are taken before the shards run the first: `tools/checks/test_refused_allocations.py` tells that, with a window of one.
+/// Holds with all allocations, and with any one of them refused: then nothing was read, or exactly
+/// one command found no memory, and the others were answered as usual. Which command it is depends
+/// on what was taken when, since all are taken before the shards run the first;
+/// `tools/checks/test_refused_allocations.py` shows it, with a window of one.
 #[test]
 fn a_refused_allocation(rt: HostRuntime) -> Result<(), Fail> {
     let Ok(mut line) = MemoryLine::new(rt.alloc(), SCRIPT) else {
         return Ok(());
     };
-    match serve(&rt, rt.alloc(), &mut line, &StillClock(1000)) {
-        Err(LineRefusal::Memory) => equal(&rt, line.calls, 0),
+    match serve(&rt, rt.alloc(), &mut line, &FixedClock(1000)) {
+        Err(LineError::Memory) => equal(&rt, line.calls, 0),
         Ok(served) => {
             equal(&rt, served, (10, false));
             holds(

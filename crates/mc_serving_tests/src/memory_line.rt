@@ -1,18 +1,18 @@
-//! A line over memory, which tells what it gave and took.
+//! A line over memory, which records the bytes that it gave and took.
 ghost use Rattle.std.specs.Prelude.{◌≤◌, None, length, take};
 
-use mc_seat::{Line, LineFault};
-use mc_wire::{OutFault, Outlet};
+use mc_seat::{Transport, TransportError};
+use mc_wire::{Sink, SinkError};
 use std::alloc::{AllocError, Global};
 
 /// A line over memory.
 #[derive(Drop)]
 pub struct MemoryLine {
     input: &'static [u8],
-    /// How many bytes of the input were read.
+    /// Number of input bytes read.
     at: usize,
     pub output: Vec<u8>,
-    /// How many reads and writes there were.
+    /// Number of reads and of writes.
     pub calls: usize,
     failed: bool,
     ended: bool,
@@ -20,7 +20,7 @@ pub struct MemoryLine {
 }
 
 impl MemoryLine {
-    /// A line of which nothing was read, with room for what it will take.
+    /// A line of which nothing was read, with room for its output.
     pub fn new(alloc: Global, input: &'static [u8]) -> Result<MemoryLine, AllocError> {
         Ok(MemoryLine {
             input,
@@ -33,9 +33,9 @@ impl MemoryLine {
     }
 }
 
-impl Outlet for MemoryLine {
+impl Sink for MemoryLine {
     ghost use Rattle.std.specs.Prelude.{take};
-    ghost use Rattle.mc_wire.specs.Outlet.{Listed};
+    ghost use Rattle.mc_wire.specs.Sink.{Listed};
 
     ghost sight = { λ line.
         record {
@@ -46,23 +46,23 @@ impl Outlet for MemoryLine {
           failed = line.failed;
         } };
 
-    fn write(&mut self, bytes: &[u8]) -> Result<usize, OutFault> {
+    fn write(&mut self, bytes: &[u8]) -> Result<usize, SinkError> {
         self.calls = self.calls.wrapping_add(1);
         match self.output.extend_from_slice(bytes) {
             Ok(()) => Ok(bytes.len()),
             Err(_) => {
                 self.failed = true;
-                Err(OutFault)
+                Err(SinkError)
             }
         }
     }
 }
 
-impl Line for MemoryLine {
-    fn read(&mut self, room: &mut [u8]) -> Result<usize, LineFault> {
+impl Transport for MemoryLine {
+    fn read(&mut self, room: &mut [u8]) -> Result<usize, TransportError> {
         self.calls = self.calls.wrapping_add(1);
         if self.failed {
-            return Err(LineFault);
+            return Err(TransportError);
         }
         let (_, rest) = self.input.split_at(self.at);
         let count = room.len().min(rest.len());

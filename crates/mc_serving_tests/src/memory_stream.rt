@@ -1,13 +1,13 @@
-//! Streams over memory, whose bytes are known, and that come in at a seat one after another.
+//! Streams over memory, whose bytes are known, which come in at a slot one after another.
 ghost use Rattle.std.specs.Prelude.{Some};
 ghost use Rattle.std.specs.Vec.Iter.{into_iter_items};
 
 use crate::asserting::{equal, holds};
 use crate::sizes::SMALL;
-use mc_doors::{Arrival, Arrivals, NewStream, Stream};
-use mc_serve::{ServeRefusal, serve_streams};
-use mc_server::StillClock;
-use mc_wake::{Patience, Sleeper};
+use mc_doors::{Accept, Arrivals, NewStream, Stream};
+use mc_serve::{ServeError, serve_streams};
+use mc_server::FixedClock;
+use mc_wake::{Poller, SpinPolicy};
 use mc_watch::Meter;
 use mc_worker::OpenGate;
 use std::alloc::{AllocError, Global};
@@ -23,7 +23,7 @@ use std::vec::IntoIter;
 struct MemoryStream {
     input: &'static [u8],
     output: Vec<u8>,
-    /// How many bytes this and others took.
+    /// Number of bytes that this stream and others took.
     written: Arc<AtomicU64, Global>,
 }
 
@@ -57,7 +57,7 @@ impl Stream for MemoryStream {
     }
 }
 
-/// Those of one seat.
+/// The streams of one slot.
 #[derive(Drop)]
 struct MemoryArrivals {
     coming: IntoIter<MemoryStream>,
@@ -68,14 +68,14 @@ impl Arrivals for MemoryArrivals {
 
     ghost coming = { λ arrivals. Some (into_iter_items arrivals.coming) };
 
-    fn next(&mut self) -> Arrival<NewStream<MemoryStream>> {
+    fn next(&mut self) -> Accept<NewStream<MemoryStream>> {
         match self.coming.next() {
-            Some(stream) => Arrival::Came(NewStream {
+            Some(stream) => Accept::Came(NewStream {
                 stream,
                 meter: Meter::unwatched(),
                 is_polled: false,
             }),
-            None => Arrival::Over,
+            None => Accept::Over,
         }
     }
 
@@ -107,7 +107,7 @@ fn arrivals(
     })
 }
 
-/// Each stream of each seat is served, in turn, and what comes after quit is left.
+/// Each stream of each slot is served in turn, and nothing after `quit` is read.
 #[test]
 fn streams_over_memory_are_served(rt: HostRuntime) -> Result<(), Fail> {
     let alloc = rt.alloc();
@@ -115,16 +115,16 @@ fn streams_over_memory_are_served(rt: HostRuntime) -> Result<(), Fail> {
     let mut seats = Vec::new(alloc);
     seats.push(arrivals(alloc, &[b"mn\r\n", b"mn\r\nquit\r\nmn\r\n"], &written)?)?;
     seats.push(arrivals(alloc, &[b"set a 0 0 1\r\nx\r\nget a\r\n"], &written)?)?;
-    let patience = Patience::among(&rt, 4);
-    let mut sleepers = Vec::new(alloc);
+    let spin_policy = SpinPolicy::among(&rt, 4);
+    let mut pollers = Vec::new(alloc);
     for _ in 0..2 {
-        sleepers.push(Sleeper::new(alloc, patience, 0, 1, 0)?)?;
+        pollers.push(Poller::new(alloc, spin_policy, 0, 1, 0)?)?;
     }
     for _ in 0..2 {
-        sleepers.push(Sleeper::new(alloc, patience, 2, 0, 1)?)?;
+        pollers.push(Poller::new(alloc, spin_policy, 2, 0, 1)?)?;
     }
-    let clock = StillClock(1000);
-    match serve_streams(&rt, alloc, seats, sleepers, SMALL, OpenGate, clock) {
+    let clock = FixedClock(1000);
+    match serve_streams(&rt, alloc, seats, pollers, SMALL, OpenGate, clock) {
         Ok(served) => {
             equal(&rt, served.ended, 3);
             let replies = b"MN\r\nMN\r\nSTORED\r\nVALUE a 0 1\r\nx\r\nEND\r\n";
@@ -132,7 +132,7 @@ fn streams_over_memory_are_served(rt: HostRuntime) -> Result<(), Fail> {
         }
         Err(refusal) => holds(
             &rt,
-            refusal == ServeRefusal::Memory || refusal == ServeRefusal::Thread,
+            refusal == ServeError::Memory || refusal == ServeError::Thread,
         ),
     }
     Ok(())

@@ -1,7 +1,7 @@
-//! The calls of the program, read from their words.
+//! The calls of the program, from the words of their command lines.
 use crate::asserting::{equal, holds};
 use mc_command::Profile;
-use mc_options::{OptionFault, Options, read_options};
+use mc_options::{OptionError, Options, read_options};
 use mc_sizes::Sizes;
 use std::alloc::{AllocError, Global};
 
@@ -19,8 +19,8 @@ impl From<AllocError> for Fail {
     }
 }
 
-impl From<OptionFault<'_>> for Fail {
-    fn from(fault: OptionFault<'_>) -> Fail {
+impl From<OptionError<'_>> for Fail {
+    fn from(fault: OptionError<'_>) -> Fail {
         Fail::Options(fault.status())
     }
 }
@@ -47,6 +47,7 @@ fn no_option(rt: HostRuntime) -> Result<(), Fail> {
         value: 1_048_576,
         line: 65_536,
         window: 256,
+        shutdown: false,
     };
     match read_options(alloc, words.as_slice())? {
         Options::Listen {
@@ -92,6 +93,7 @@ fn each_call(rt: HostRuntime) -> Result<(), Fail> {
         value: 8_388_608,
         line: 1_048_576,
         window: 1,
+        shutdown: false,
     };
     holds(
         &rt,

@@ -1,9 +1,10 @@
-//! What no clause says: a whole file is read and replayed, and each kind of bad line is told, where memory is ample.
+//! What no clause says: with ample memory a whole file is read and replayed, and each kind of bad
+//! line is reported.
 use crate::asserting::{equal, holds};
 use crate::memory_line::MemoryLine;
 use mc_model::Event;
-use mc_replay::{ReplayFault, ScheduleFault, read_schedule, replay};
-use mc_sizes::SizeFault;
+use mc_replay::{ReplayError, ScheduleError, read_schedule, replay};
+use mc_sizes::SizeError;
 use std::test::Fail;
 
 #[test]
@@ -69,17 +70,18 @@ fn bad_lines_are_told(rt: HostRuntime) {
     ];
     for (file, line) in files {
         match read_schedule(rt.alloc(), file) {
-            Err(ScheduleFault::Bad(number)) => equal(&rt, (file, number), (file, line)),
+            Err(ScheduleError::Bad(number)) => equal(&rt, (file, number), (file, line)),
             _ => assert!(rt; false, "{file:?}"),
         }
     }
 }
 
-/// One command, and then the end of the input. A second take, hand and end are idle, and so is a feed after the end.
+/// One command, and then the end of the input. A second take, hand and end are idle, and so is a
+/// feed after the end.
 const ENDS: &[u8] =
     b"sim 1 1 1024 1\nopen 0\nfeed 0 6d6e0d0a\ntake 0 7\ntake 0 8\nhand 0\nhand 0\nend 0\nend 0\nfeed 0 6d6e0d0a\n";
 
-/// The events that are done are counted, and those that aren't.
+/// The events that are done are counted, and the idle ones.
 #[test]
 fn what_was_done_is_told(rt: HostRuntime) -> Result<(), Fail> {
     let plan = read_schedule(rt.alloc(), ENDS)?;
@@ -96,7 +98,7 @@ fn a_size_out_of_its_limits_is_refused(rt: HostRuntime) -> Result<(), Fail> {
     plan.sizes.seats = 65_537;
     let mut told = MemoryLine::new(rt.alloc(), b"")?;
     let refused = replay(&rt, rt.alloc(), &plan, &mut told);
-    equal(&rt, refused, Err(ReplayFault::Size(SizeFault::Seats)));
+    equal(&rt, refused, Err(ReplayError::Size(SizeError::Seats)));
     equal(&rt, told.output.len(), 0);
     Ok(())
 }

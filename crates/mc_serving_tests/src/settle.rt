@@ -1,4 +1,5 @@
-//! A core that is settled. What no clause says: that it comes to rest where memory is ample, and what it tells of its sizes.
+//! A core that is settled. What no clause says: that it comes to rest with ample memory, and which
+//! sizes it reports.
 use crate::asserting::{equal, holds};
 use crate::sim::{MOMENT, core_of, feed, handed_both, handed_to, ran, take};
 use crate::sizes::SMALL;
@@ -11,17 +12,17 @@ use std::alloc::{AllocError, Global};
 use std::process::Abort;
 use std::test::Fail;
 
-/// What two connections send. `a` belongs to the first shard, `d` to the second.
+/// The input of two connections. `a` belongs to the first shard, `d` to the second.
 const FIRST: &[u8] = b"set a 0 0 1\r\nx\r\nget d\r\nmn\r\n";
 
 const SECOND: &[u8] = b"set d 0 0 1\r\nz\r\nget d a\r\n";
 
-/// What they get where their commands take turns.
+/// Their output if their commands alternate.
 const TO_FIRST: &[u8] = b"STORED\r\nVALUE d 0 1\r\nz\r\nEND\r\nMN\r\n";
 
 const TO_SECOND: &[u8] = b"STORED\r\nVALUE d 0 1\r\nz\r\nVALUE a 0 1\r\nx\r\nEND\r\n";
 
-/// Both connections begin, and send all of that.
+/// Both connections begin and send all of their input.
 fn begin_both(alloc: Global) -> Result<[Event; 4], AllocError> {
     Ok([
         Event::Open { seat: 0 },
@@ -68,7 +69,7 @@ fn all_replies_are_out(rt: HostRuntime) -> Result<(), Fail> {
     settle(&mut sim, alloc, MOMENT)?;
     holds(&rt, handed_both(&sim, TO_FIRST, TO_SECOND));
     rests(&rt, alloc, &mut sim);
-    // A core at rest is settled, and takes more.
+    // A core at rest is settled, and takes more input.
     settle(&mut sim, alloc, MOMENT)?;
     holds(&rt, handed_both(&sim, TO_FIRST, TO_SECOND));
     let more = [Event::End { seat: 0 }, feed(alloc, 1, b"delete a\r\n")?];
@@ -79,7 +80,8 @@ fn all_replies_are_out(rt: HostRuntime) -> Result<(), Fail> {
     Ok(())
 }
 
-/// In each round a seat has a command taken and a piece sent, each shard runs one piece of it, and then comes the next seat.
+/// In each round a slot has a command taken and a piece sent, and each shard runs one piece of it;
+/// then the next slot follows.
 #[test]
 fn seats_take_turns(rt: HostRuntime) -> Result<(), Fail> {
     let alloc = rt.alloc();
@@ -124,7 +126,7 @@ fn a_core_tells_its_sizes(rt: HostRuntime) -> Result<(), Fail> {
     Ok(())
 }
 
-/// The events, each given again where it found no memory; false where it found none again.
+/// The events, each repeated if it found no memory; false if it found none again.
 fn all_done(alloc: Global, sim: &mut Sim, events: &[Event]) -> bool {
     for event in events {
         if sim.step(alloc, event) == StepReply::NoMemory
@@ -136,13 +138,13 @@ fn all_done(alloc: Global, sim: &mut Sim, events: &[Event]) -> bool {
     true
 }
 
-/// Whether the bytes handed to the connections are a beginning of these.
+/// Whether the bytes written to the connections are a prefix of these.
 fn handed_some(sim: &Sim, first: &[u8], second: &[u8]) -> bool {
     first.starts_with(handed_to(sim, 0)) && second.starts_with(handed_to(sim, 1))
 }
 
-/// Holds with all allocations, and with any one of them refused. Where memory ran out some of the work is done, and the rest of it
-/// when the core is settled again; at most one command is given up.
+/// Holds with all allocations, and with any one of them refused. If memory ran out, part of the
+/// work is done, and the rest when the core is settled again; at most one command is given up.
 #[test]
 fn a_refused_allocation_stops_it(rt: HostRuntime) {
     let alloc = rt.alloc();

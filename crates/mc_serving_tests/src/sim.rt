@@ -1,11 +1,11 @@
-//! Schedules, event by event. What no clause says: that a core is made, and an event done, where memory is ample; and that
-//! only one command finds no memory where one allocation is refused.
+//! Schedules, event by event. What no clause says: with ample memory a core is made and each event
+//! done, and with one allocation refused only one command finds no memory.
 use crate::asserting::{equal, holds};
-use crate::sizes::{ONE_LANE, SMALL};
+use crate::sizes::{ONE_CHANNEL, SMALL};
 use mc_model::{Event, StepReply};
 use mc_reply::Ticket;
-use mc_ring::lanes;
-use mc_sim::{LogEntry, Sim, SimRefusal};
+use mc_ring::channels;
+use mc_sim::{LogEntry, Sim, SimError};
 use mc_sizes::Sizes;
 use mc_store::Shard;
 use mc_worker::Worker;
@@ -14,21 +14,21 @@ use std::hash::RandomState;
 use std::random::RandomSource;
 use std::test::Fail;
 
-/// The moment of all commands.
+/// The time of all commands.
 pub(crate) const MOMENT: u64 = 1000;
 
-/// What a shard's items may cost together, in bytes.
+/// The budget of a shard, in bytes.
 const BUDGET: usize = 1_024;
 
-/// How many bytes a value has at most.
+/// The maximum size of a value, in bytes.
 const VALUE_LIMIT: usize = 1_024;
 
-/// A core of `seats` seats, and two shards.
+/// A core with `seats` slots and two shards.
 pub(crate) fn core_of<R: RandomSource>(
     rt: &R,
     alloc: Global,
     seats: usize,
-) -> Result<Sim, SimRefusal> {
+) -> Result<Sim, SimError> {
     let sizes = Sizes {
         seats,
         bytes: BUDGET,
@@ -40,13 +40,13 @@ pub(crate) fn core_of<R: RandomSource>(
     Sim::new(rt, alloc, sizes)
 }
 
-/// These bytes come in at the seat.
+/// Feeds these bytes to the slot.
 pub(crate) fn feed(alloc: Global, seat: usize, text: &[u8]) -> Result<Event, AllocError> {
     let bytes = Vec::from_slice(alloc, text)?;
     Ok(Event::Feed { seat, bytes })
 }
 
-/// The seat's next command is taken.
+/// Takes the slot's next command.
 pub(crate) fn take(seat: usize) -> Event {
     Event::Take {
         seat,
@@ -65,12 +65,13 @@ fn entry(shard: usize, connection: usize, ticket: u64) -> LogEntry {
     }
 }
 
-/// The bytes that the connection of this number was handed.
+/// The bytes written to the connection of this number.
 pub(crate) fn handed_to(sim: &Sim, number: usize) -> &[u8] {
     sim.handed(number).unwrap_or(b"")
 }
 
-/// How an event is answered, how many pieces the shards ran by then, and how many bytes the first two connections were handed.
+/// The result of an event, the number of pieces that the shards have run, and the number of bytes
+/// written to the first two connections.
 fn moved(alloc: Global, sim: &mut Sim, event: &Event) -> (StepReply, usize, usize, usize) {
     let reply = sim.step(alloc, event);
     (
@@ -81,17 +82,17 @@ fn moved(alloc: Global, sim: &mut Sim, event: &Event) -> (StepReply, usize, usiz
     )
 }
 
-/// Whether the two connections were handed these bytes.
+/// Whether these bytes were written to the two connections.
 pub(crate) fn handed_both(sim: &Sim, first: &[u8], second: &[u8]) -> bool {
     handed_to(sim, 0) == first && handed_to(sim, 1) == second
 }
 
-/// Whether the shards ran just these pieces, in this order.
+/// Whether the shards ran exactly these pieces, in this order.
 pub(crate) fn ran(sim: &Sim, entries: &[LogEntry]) -> bool {
     sim.log() == entries
 }
 
-/// The second of two connections stores `d`, and then the first gets it.
+/// The second of two connections stores `d`, and then the first one reads it.
 fn store_and_get(alloc: Global) -> Result<[Event; 16], AllocError> {
     Ok([
         Event::Open { seat: 0 },
@@ -117,7 +118,7 @@ fn store_and_get(alloc: Global) -> Result<[Event; 16], AllocError> {
 fn two_connections(rt: HostRuntime) -> Result<(), Fail> {
     let alloc = rt.alloc();
     let mut sim = core_of(&rt, alloc, 2)?;
-    // How many pieces ran by then, and how many bytes each connection was handed.
+    // The number of pieces run so far, and of bytes written to each connection.
     let rows = [
         (0, 0, 0),
         (0, 0, 0),
@@ -148,8 +149,8 @@ fn two_connections(rt: HostRuntime) -> Result<(), Fail> {
     Ok(())
 }
 
-/// Holds with all allocations, and with any one of them refused. An event that finds no memory is given again, and one that
-/// needs none never lacks it.
+/// Holds with all allocations, and with any one of them refused. An event that finds no memory is
+/// repeated, and one that needs none never lacks it.
 #[test]
 fn a_refused_allocation_gives_up_one_command(rt: HostRuntime) {
     let alloc = rt.alloc();
@@ -243,12 +244,15 @@ fn what_is_kept_of_a_connection(rt: HostRuntime) -> Result<(), Fail> {
     Ok(())
 }
 
-/// Holds with all allocations, and with any one of them refused: once a worker is made, only the items of its shard take memory.
+/// Holds with all allocations, and with any one of them refused: once a worker is made, only its
+/// shard's items take memory.
 #[test]
 fn a_worker_takes_no_memory(rt: HostRuntime) {
     let alloc = rt.alloc();
-    let (Ok((mut seats, mut shards)), Ok(hasher)) = (lanes(alloc, ONE_LANE), RandomState::new(&rt))
-    else {
+    let (Ok((mut seats, mut shards)), Ok(hasher)) = (
+        channels(alloc, ONE_CHANNEL),
+        RandomState::new(&rt),
+    ) else {
         return;
     };
     let Ok(shard) = Shard::new(alloc, hasher, 0, 1, BUDGET, 0, VALUE_LIMIT) else {

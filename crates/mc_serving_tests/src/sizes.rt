@@ -1,8 +1,8 @@
-//! The sizes that tests begin with.
+//! The sizes that tests start from.
 use mc_command::Profile;
 use mc_sizes::Sizes;
 
-/// Those of a small server.
+/// The sizes of a small server.
 pub(crate) const SMALL: Sizes = Sizes {
     profile: Profile::Own,
     seats: 2,
@@ -12,10 +12,11 @@ pub(crate) const SMALL: Sizes = Sizes {
     value: 1_048_576,
     line: 65_536,
     window: 256,
+    shutdown: false,
 };
 
-/// One seat and one shard, and rings of one place.
-pub(crate) const ONE_LANE: Sizes = Sizes {
+/// One slot and one shard, and rings of one place.
+pub(crate) const ONE_CHANNEL: Sizes = Sizes {
     seats: 1,
     shards: 1,
     ring: 1,

@@ -1,11 +1,11 @@
-//! Lines of which nothing is read where the threads that were to serve them can't all be started.
+//! Nothing is read of lines whose threads can't all be started.
 use crate::asserting::{equal, holds};
 use crate::memory_line::MemoryLine;
 use crate::sizes::SMALL;
-use mc_seat::{Line, LineFault};
-use mc_serve::{ServeRefusal, serve_over};
-use mc_server::StillClock;
-use mc_wire::{OutFault, Outlet};
+use mc_seat::{Transport, TransportError};
+use mc_serve::{ServeError, serve_over};
+use mc_server::FixedClock;
+use mc_wire::{Sink, SinkError};
 use mc_worker::OpenGate;
 use std::alloc::{AllocError, Global};
 use std::sync::Arc;
@@ -19,23 +19,23 @@ struct Counted<L> {
     calls: Arc<AtomicU64, Global>,
 }
 
-impl<L: Outlet> Outlet for Counted<L> {
+impl<L: Sink> Sink for Counted<L> {
     ghost sight = { λ counted. L.sight counted.line };
 
-    fn write(&mut self, bytes: &[u8]) -> Result<usize, OutFault> {
+    fn write(&mut self, bytes: &[u8]) -> Result<usize, SinkError> {
         self.calls.fetch_add(1, Ordering::SeqCst);
         self.line.write(bytes)
     }
 }
 
-impl<L: Line> Line for Counted<L> {
-    fn read(&mut self, room: &mut [u8]) -> Result<usize, LineFault> {
+impl<L: Transport> Transport for Counted<L> {
+    fn read(&mut self, room: &mut [u8]) -> Result<usize, TransportError> {
         self.calls.fetch_add(1, Ordering::SeqCst);
         self.line.read(room)
     }
 }
 
-/// Two lines that send what takes no memory once they are served.
+/// Two lines whose commands take no memory once they are served.
 fn two_lines(
     alloc: Global,
     calls: &Arc<AtomicU64, Global>,
@@ -50,8 +50,9 @@ fn two_lines(
     Ok(lines)
 }
 
-/// Holds whichever allocation is refused: nothing was read or written and all threads are gone, or all is served, but for a line
-/// that found no memory for its replies: it was given up before it took any.
+/// Holds whichever allocation is refused. Either nothing was read or written and all threads have
+/// ended, or all lines are served. Then only a line that found no memory for its replies was given
+/// up, before it took any.
 #[test]
 fn a_refused_start(rt: HostRuntime) -> Result<(), Fail> {
     let Ok(calls) = Arc::new(rt.alloc(), AtomicU64::new(0)) else {
@@ -61,7 +62,7 @@ fn a_refused_start(rt: HostRuntime) -> Result<(), Fail> {
         return Ok(());
     };
     assert_eq!(rt; lines.len(), 2);
-    match serve_over(&rt, rt.alloc(), lines, SMALL, OpenGate, StillClock(1000)) {
+    match serve_over(&rt, rt.alloc(), lines, SMALL, OpenGate, FixedClock(1000)) {
         Ok(report) => {
             for one in report.lines {
                 let output = if one.broke {
@@ -76,10 +77,10 @@ fn a_refused_start(rt: HostRuntime) -> Result<(), Fail> {
         Err(refusal) => {
             holds(
                 &rt,
-                refusal == ServeRefusal::Memory || refusal == ServeRefusal::Thread,
+                refusal == ServeError::Memory || refusal == ServeError::Thread,
             );
             equal(&rt, calls.load(Ordering::SeqCst), 0);
-            // Each thread that held a line is gone.
+            // Each thread that held a line has ended.
             equal(&rt, Arc::strong_count(&calls), 1);
         }
     }

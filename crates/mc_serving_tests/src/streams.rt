@@ -1,27 +1,27 @@
-//! A connection over a stream that takes and gives little at a call, and whose calls a signal interrupts.
+//! A connection over a stream that moves few bytes at a call, and whose calls a signal interrupts.
 use crate::asserting::{equal, holds};
 use crate::sizes::SMALL;
-use mc_doors::{Stream, TcpLine};
-use mc_seat::{Line, Ready, Unwritten};
-use mc_server::{StillClock, serve_one};
+use mc_doors::{Stream, TcpConnection};
+use mc_seat::{Ready, Transport, WriteBuffer};
+use mc_server::{FixedClock, serve_one};
 use mc_sizes::Sizes;
 use mc_watch::Meter;
-use mc_wire::{Outlet, put_all};
+use mc_wire::{Sink, write_all};
 use std::alloc::Global;
 use std::io;
 use std::io::{ErrorKind, IoSlice, Write};
 use std::sync::ArcSlice;
 use std::test::Fail;
 
-/// The most bytes that it takes or gives at once.
+/// The maximum number of bytes that it moves at a call.
 const MOST: usize = 3;
 
-/// A stream over memory, of which every second call is interrupted before it does anything.
+/// A stream over memory. Every second call is interrupted before it does anything.
 #[derive(Drop)]
 struct Slow {
     input: &'static [u8],
     output: Vec<u8>,
-    /// The next call is interrupted.
+    /// Whether the next call is interrupted.
     interrupted: bool,
 }
 
@@ -34,7 +34,7 @@ impl Slow {
         }
     }
 
-    /// Whether this call is interrupted; the next one is then not.
+    /// Whether this call is interrupted; then the next one isn't.
     fn is_interrupted(&mut self) -> bool {
         let interrupted = self.interrupted;
         self.interrupted = !interrupted;
@@ -94,9 +94,9 @@ impl Stream for Slow {
 #[test]
 fn what_is_written_goes_out_whole_and_once(rt: HostRuntime) -> Result<(), Fail> {
     let mut stream = Slow::new(rt.alloc(), b"");
-    let mut line = TcpLine::new(&mut stream);
+    let mut line = TcpConnection::new(&mut stream);
     let text = b"VALUE a 0 10\r\n0123456789\r\nEND\r\n";
-    holds(&rt, put_all(&mut line, text).is_ok());
+    holds(&rt, write_all(&mut line, text).is_ok());
     drop(line);
     equal(&rt, stream.output.as_slice(), text.as_slice());
     Ok(())
@@ -105,13 +105,13 @@ fn what_is_written_goes_out_whole_and_once(rt: HostRuntime) -> Result<(), Fail> 
 #[test]
 fn pieces_that_wait_go_out_whole_and_once(rt: HostRuntime) -> Result<(), Fail> {
     let mut stream = Slow::new(rt.alloc(), b"");
-    let mut line = TcpLine::new(&mut stream);
-    let mut waiting = Unwritten::new(rt.alloc());
+    let mut line = TcpConnection::new(&mut stream);
+    let mut waiting = WriteBuffer::new(rt.alloc());
     let value = ArcSlice::from_slice(rt.alloc(), b"0123456789")?;
     for _ in 0..3 {
-        holds(&rt, put_all(&mut waiting, b"VALUE a 0 10\r\n").is_ok());
+        holds(&rt, write_all(&mut waiting, b"VALUE a 0 10\r\n").is_ok());
         holds(&rt, waiting.put_shared(&value).is_ok());
-        holds(&rt, put_all(&mut waiting, b"\r\nEND\r\n").is_ok());
+        holds(&rt, write_all(&mut waiting, b"\r\nEND\r\n").is_ok());
     }
     holds(&rt, matches!(waiting.flush(&mut line), Ok(true)));
     drop(line);
@@ -125,14 +125,14 @@ fn pieces_that_wait_go_out_whole_and_once(rt: HostRuntime) -> Result<(), Fail> {
 fn a_line_is_served_over_it(rt: HostRuntime) -> Result<(), Fail> {
     let input = b"set a 7 0 10\r\n0123456789\r\nget a\r\nmn\r\nquit\r\nmn\r\n";
     let mut stream = Slow::new(rt.alloc(), input);
-    let mut line = TcpLine::new(&mut stream);
+    let mut line = TcpConnection::new(&mut stream);
     let sizes = Sizes {
         bytes: 1_024,
         value: 1_024,
         window: 2,
         ..SMALL
     };
-    let served = serve_one(&rt, rt.alloc(), &mut line, sizes, &StillClock(1000))?;
+    let served = serve_one(&rt, rt.alloc(), &mut line, sizes, &FixedClock(1000))?;
     equal(&rt, (served.commands, served.broke), (4, false));
     drop(line);
     let wanted = b"STORED\r\nVALUE a 7 10\r\n0123456789\r\nEND\r\nMN\r\n";
@@ -140,7 +140,7 @@ fn a_line_is_served_over_it(rt: HostRuntime) -> Result<(), Fail> {
     Ok(())
 }
 
-/// What other protocols send first.
+/// The first bytes of other protocols.
 const FOREIGN: [&[u8]; 4] = [
     b"GET / HTTP/1.1\r\n",
     b"OPTIONS /a",
@@ -148,13 +148,14 @@ const FOREIGN: [&[u8]; 4] = [
     b"\x16\x03\x01\x02\0\x01",
 ];
 
-/// Lines that begin much like that.
+/// Lines that begin similarly.
 const LINES: [&[u8]; 3] = [b"get /key\r\n", b"GET a\r\n", b"\x16\x02\r\n"];
 
-/// How many bytes the first read of a line gives, wary or not, and how many are left.
-fn read_first(alloc: Global, input: &'static [u8], wary: bool) -> (Option<usize>, usize) {
+/// The number of bytes that the first read of a line returns, with detection of other protocols or
+/// without, and the number left.
+fn read_first(alloc: Global, input: &'static [u8], sniff_protocol: bool) -> (Option<usize>, usize) {
     let mut stream = Slow::new(alloc, input);
-    let mut line = TcpLine::begin(&mut stream, Meter::unwatched(), true, wary);
+    let mut line = TcpConnection::begin(&mut stream, Meter::unwatched(), true, sniff_protocol);
     line.rouse(Ready::Open);
     let mut room = [0; 16];
     let given = line.read_if_ready(&mut room).unwrap_or(None);
@@ -162,7 +163,7 @@ fn read_first(alloc: Global, input: &'static [u8], wary: bool) -> (Option<usize>
     (given, stream.input.len())
 }
 
-/// It reads as ended, and what came is left.
+/// The line reads as ended, and its bytes are left.
 #[test]
 fn another_protocol_ends_a_wary_line(rt: HostRuntime) -> Result<(), Fail> {
     for input in FOREIGN {

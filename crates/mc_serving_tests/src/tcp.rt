@@ -5,9 +5,9 @@ use crate::asserting::equal;
 use crate::sizes::SMALL;
 use mc_doors::Listener;
 use mc_serve::serve_tcp;
-use mc_server::StillClock;
+use mc_server::FixedClock;
 use mc_sizes::Sizes;
-use mc_watch::{Counts, EndTotals, IdleLimit, Seconds, ShardTotals, Totals, Watch};
+use mc_watch::{CoarseClock, Counts, EndTotals, IdleLimit, ShardTotals, Telemetry, Totals};
 use std::alloc::Global;
 use std::io::{Read, Write};
 use std::net::{Net, SocketAddr, TcpListener, TcpStream};
@@ -17,7 +17,7 @@ use std::test::Fail;
 use std::thread::Threads;
 use std::{io, thread, time};
 
-/// Sends the commands, and reads the replies to their end.
+/// Sends the commands, and reads the replies until their end.
 fn talk<R: Net<Listener = TcpListener, Stream = TcpStream>>(
     rt: &R,
     alloc: Global,
@@ -31,7 +31,8 @@ fn talk<R: Net<Listener = TcpListener, Stream = TcpStream>>(
     Ok(replies)
 }
 
-/// Serves one client that sends these commands; the replies, and how many connections ended.
+/// Serves one client that sends these commands. Returns the replies, and how many connections
+/// ended.
 fn serve_client<
     R: Threads
         + Wait
@@ -62,15 +63,15 @@ fn serve_client<
         window,
         ..SMALL
     };
-    let watch = Watch::nothing(alloc);
+    let telemetry = Telemetry::nothing(alloc);
     let served = serve_tcp(
         rt,
         alloc,
         listeners,
         sizes,
         Some(1),
-        StillClock(1000),
-        watch,
+        FixedClock(1000),
+        telemetry,
     );
     Ok((client.join(rt)?, served.ok().map(|served| served.ended)))
 }
@@ -85,7 +86,8 @@ fn a_client_is_served(rt: HostRuntime) -> Result<(), Fail> {
     Ok(())
 }
 
-/// Serves three clients, one of them at another address, by `seats` seats; whether each had its replies, and how many connections ended.
+/// Serves three clients, one of them at another address, on `seats` slots. Returns whether each had
+/// its replies, and how many connections ended.
 fn serve_three<
     R: Threads
         + Wait
@@ -115,15 +117,15 @@ fn serve_three<
         window: 2,
         ..SMALL
     };
-    let watch = Watch::nothing(alloc);
+    let telemetry = Telemetry::nothing(alloc);
     let served = serve_tcp(
         rt,
         alloc,
         listeners,
         sizes,
         Some(3),
-        StillClock(1000),
-        watch,
+        FixedClock(1000),
+        telemetry,
     );
     let ended = served.ok().map(|served| served.ended);
     let no_op = first.join(rt)?.as_slice() == b"MN\r\n".as_slice();
@@ -132,7 +134,7 @@ fn serve_three<
     Ok((no_op && miss && bad, ended))
 }
 
-/// Also where there are more seats than shards, or fewer than clients.
+/// Also with more slots than shards, or fewer than clients.
 #[test]
 fn each_connection_is_counted(rt: HostRuntime) -> Result<(), Fail> {
     equal(&rt, serve_three(&rt, rt.alloc(), 1)?, (true, Some(3)));
@@ -141,8 +143,8 @@ fn each_connection_is_counted(rt: HostRuntime) -> Result<(), Fail> {
     Ok(())
 }
 
-/// Serves one client that sends nothing, by a server that gives up a connection that moves no byte for a second and counts what
-/// it serves. What the client got, and what was counted.
+/// Serves one client that sends nothing, with an idle timeout of one second and counters. Returns
+/// what the client read, and the counts.
 fn serve_idle<
     R: Threads
         + Wait
@@ -163,10 +165,10 @@ fn serve_idle<
         move || talk(&own, alloc, server, b"mn\r\nset a 0 0 9\r\nx"),
     )?;
     let counts = Counts::new(alloc, 2, 2)?;
-    let mut watch = Watch::nothing(alloc);
-    watch.counts = Some(counts.share(alloc)?);
-    watch.idle_limit = Some(IdleLimit {
-        seconds: Seconds::new(alloc)?,
+    let mut telemetry = Telemetry::nothing(alloc);
+    telemetry.counts = Some(counts.share(alloc)?);
+    telemetry.idle_limit = Some(IdleLimit {
+        seconds: CoarseClock::new(alloc)?,
         limit: 1,
     });
     let served = serve_tcp(
@@ -175,17 +177,17 @@ fn serve_idle<
         listeners,
         SMALL,
         Some(1),
-        StillClock(1000),
-        watch,
+        FixedClock(1000),
+        telemetry,
     );
     let ended = served.ok().map(|served| served.ended);
     let mut totals = counts.totals();
-    // The connection that has ended is the one that was counted.
+    // The connection that ended is the one that was counted.
     totals.ended = totals.ended.min(ended.unwrap_or(0));
     Ok((client.join(rt)?, totals))
 }
 
-/// It is closed amid a block, and what it sent before was answered.
+/// It is closed within a block, after its earlier commands were answered.
 #[test]
 fn an_idle_client_is_given_up(rt: HostRuntime) -> Result<(), Fail> {
     let (replies, totals) = serve_idle(&rt, rt.alloc())?;
@@ -203,7 +205,7 @@ fn an_idle_client_is_given_up(rt: HostRuntime) -> Result<(), Fail> {
             idle: 1,
             ..EndTotals::default()
         },
-        // Nothing of it came to a shard.
+        // None of its commands reached a shard.
         shards: ShardTotals::default(),
     };
     equal(&rt, totals, expected);

@@ -1,6 +1,6 @@
-//! Threads wake each other, whether they sleep in a parker or in a poll, and none is left asleep.
+//! Threads wake each other, whether they sleep in a parker or in a poll, and none sleeps on.
 use crate::asserting::{equal, holds};
-use mc_wake::{Marked, Patience, Readiness, Sleeper, Wakers};
+use mc_wake::{Poller, Readiness, SetBits, SpinPolicy, Wakers};
 use mio::net::TcpStream;
 use std::alloc::{AllocError, Global};
 use std::io::Write;
@@ -11,49 +11,50 @@ use std::test::Fail;
 use std::thread::Threads;
 use std::{io, net, thread};
 
-/// How often each of the threads waits for the other.
+/// How often each of the threads waits for the other one.
 const ROUNDS: u64 = 20_000;
 
-/// How often a thread rouses a seat before it waits until that was seen.
+/// How often a thread wakes a slot before it waits until that was seen.
 const BATCH: u64 = 8;
 
-/// No thread looks again before it sleeps.
-const AT_ONCE: Patience = Patience {
+/// Threads sleep without spinning.
+const AT_ONCE: SpinPolicy = SpinPolicy {
     looks: 0,
     yields: 0,
 };
 
-/// Adds to the count whenever it is this thread's turn: even counts are the first thread's, odd ones the second's.
+/// Increments the count when it is this thread's turn: even counts are the first thread's, odd ones
+/// the second's.
 fn take_turns<R: Wait>(
     rt: &R,
-    sleeper: Sleeper,
+    poller: Poller,
     wakers: &Wakers,
     count: &AtomicU64,
     mine: u64,
     other: usize,
 ) {
-    let mut sleeper = sleeper;
+    let mut poller = poller;
     for _ in rt.forever() {
         let now = count.load(Ordering::SeqCst);
         if now >= 2 * ROUNDS {
             return;
         }
         if now % 2 == mine {
-            sleeper.found();
+            poller.found();
             count.store(now + 1, Ordering::SeqCst);
             wakers.rouse(other);
         } else {
-            sleeper.wait(rt);
+            poller.wait(rt);
         }
     }
 }
 
-/// Has two threads, of one seat each, take turns, and gives how many turns they took.
+/// Has two threads of one slot each take turns, and returns how many turns they took.
 fn turns_of_two<R: Threads + Wait + Copy + Send + 'static>(
     rt: &R,
     alloc: Global,
-    first: Sleeper,
-    second: Sleeper,
+    first: Poller,
+    second: Poller,
 ) -> Result<u64, AllocError> {
     let both = vec![in alloc; first, second]?;
     let wakers = Wakers::of(alloc, both.as_slice())?;
@@ -76,8 +77,8 @@ fn turns_of_two<R: Threads + Wait + Copy + Send + 'static>(
 #[test]
 fn both_end_where_they_sleep_at_once(rt: HostRuntime) -> Result<(), Fail> {
     let alloc = rt.alloc();
-    let first = Sleeper::new(alloc, AT_ONCE, 2, 1, 0)?;
-    let second = Sleeper::new(alloc, AT_ONCE, 2, 1, 0)?;
+    let first = Poller::new(alloc, AT_ONCE, 2, 1, 0)?;
+    let second = Poller::new(alloc, AT_ONCE, 2, 1, 0)?;
     equal(&rt, turns_of_two(&rt, alloc, first, second)?, 2 * ROUNDS);
     Ok(())
 }
@@ -85,9 +86,9 @@ fn both_end_where_they_sleep_at_once(rt: HostRuntime) -> Result<(), Fail> {
 #[test]
 fn both_end_where_they_look_again_first(rt: HostRuntime) -> Result<(), Fail> {
     let alloc = rt.alloc();
-    let patience = Patience::among(&rt, 2);
-    let first = Sleeper::new(alloc, patience, 2, 1, 0)?;
-    let second = Sleeper::new(alloc, patience, 2, 1, 0)?;
+    let spin_policy = SpinPolicy::among(&rt, 2);
+    let first = Poller::new(alloc, spin_policy, 2, 1, 0)?;
+    let second = Poller::new(alloc, spin_policy, 2, 1, 0)?;
     equal(&rt, turns_of_two(&rt, alloc, first, second)?, 2 * ROUNDS);
     Ok(())
 }
@@ -95,20 +96,20 @@ fn both_end_where_they_look_again_first(rt: HostRuntime) -> Result<(), Fail> {
 #[test]
 fn both_end_where_they_sleep_in_polls(rt: HostRuntime) -> Result<(), Fail> {
     let alloc = rt.alloc();
-    let first = Sleeper::polling(&rt, alloc, AT_ONCE, 2, 1, 0)?;
-    let second = Sleeper::polling(&rt, alloc, AT_ONCE, 2, 1, 0)?;
+    let first = Poller::polling(&rt, alloc, AT_ONCE, 2, 1, 0)?;
+    let second = Poller::polling(&rt, alloc, AT_ONCE, 2, 1, 0)?;
     equal(&rt, turns_of_two(&rt, alloc, first, second)?, 2 * ROUNDS);
     Ok(())
 }
 
-/// What two threads say, and what a third has seen of it.
+/// The numbers that two threads publish, and what a third has seen of them.
 #[derive(Drop)]
 struct Said {
     said: AtomicU64,
     seen: AtomicU64,
 }
 
-/// Says one number after another, and waits now and then until the last one was seen.
+/// Publishes one number after another, and sometimes waits until the last one was seen.
 fn say_all<R: Wait>(rt: &R, wakers: &Wakers, seat: usize, word: &Said) {
     for number in 1..=ROUNDS {
         word.said.store(number, Ordering::SeqCst);
@@ -124,13 +125,14 @@ fn say_all<R: Wait>(rt: &R, wakers: &Wakers, seat: usize, word: &Said) {
     }
 }
 
-/// Looks at what was said at the places that were roused, until all was; how often a place was roused.
-fn see_all<R: Wait>(rt: &R, sleeper: Sleeper, words: &[Said]) -> u64 {
-    let mut sleeper = sleeper;
+/// Reads the numbers of the slots that were woken, until all were seen. Returns how often a slot
+/// was woken.
+fn see_all<R: Wait>(rt: &R, poller: Poller, words: &[Said]) -> u64 {
+    let mut poller = poller;
     let mut roused = 0;
     for _ in rt.forever() {
         let before = roused;
-        for place in Marked::of(0, sleeper.roused_in(0)) {
+        for place in SetBits::of(0, poller.roused_in(0)) {
             if let Some(word) = words.get(place) {
                 let said = word.said.load(Ordering::SeqCst);
                 word.seen.store(said, Ordering::SeqCst);
@@ -144,19 +146,20 @@ fn see_all<R: Wait>(rt: &R, sleeper: Sleeper, words: &[Said]) -> u64 {
             return roused;
         }
         if roused == before {
-            sleeper.wait(rt);
+            poller.wait(rt);
         } else {
-            sleeper.found();
+            poller.found();
         }
     }
     unreachable!()
 }
 
-/// Two threads rouse seats of a third, which sleeps; how often it found one roused.
+/// Two threads wake slots of a third one, which sleeps. Returns how often it found a slot that was
+/// woken.
 fn two_rouse_a_third<R: Threads + Wait + Copy + Send + 'static>(
     rt: &R,
     alloc: Global,
-    sleeper: Sleeper,
+    poller: Poller,
 ) -> Result<u64, AllocError> {
     let mut words = Vec::new(alloc);
     for _ in 0..2 {
@@ -166,7 +169,7 @@ fn two_rouse_a_third<R: Threads + Wait + Copy + Send + 'static>(
         })?;
     }
     let words = Arc::new(alloc, words)?;
-    let one = vec![in alloc; sleeper]?;
+    let one = vec![in alloc; poller]?;
     let wakers = Wakers::of(alloc, one.as_slice())?;
     let mut threads = Vec::new(alloc);
     for seat in 0..2 {
@@ -180,10 +183,10 @@ fn two_rouse_a_third<R: Threads + Wait + Copy + Send + 'static>(
         })?;
         threads.push(thread)?;
     }
-    let Some(sleeper) = one.into_iter().next() else {
+    let Some(poller) = one.into_iter().next() else {
         return Ok(0);
     };
-    let roused = see_all(rt, sleeper, words.as_slice());
+    let roused = see_all(rt, poller, words.as_slice());
     for thread in threads {
         thread.join(rt);
     }
@@ -193,21 +196,21 @@ fn two_rouse_a_third<R: Threads + Wait + Copy + Send + 'static>(
 #[test]
 fn none_of_many_wakes_is_lost(rt: HostRuntime) -> Result<(), Fail> {
     let alloc = rt.alloc();
-    let parked = Sleeper::new(alloc, AT_ONCE, 2, 2, 0)?;
+    let parked = Poller::new(alloc, AT_ONCE, 2, 2, 0)?;
     let roused = two_rouse_a_third(&rt, alloc, parked)?;
     holds(&rt, roused >= 2 * ROUNDS / BATCH);
-    let polling = Sleeper::polling(&rt, alloc, AT_ONCE, 2, 2, 0)?;
+    let polling = Poller::polling(&rt, alloc, AT_ONCE, 2, 2, 0)?;
     let roused = two_rouse_a_third(&rt, alloc, polling)?;
     holds(&rt, roused >= 2 * ROUNDS / BATCH);
     Ok(())
 }
 
-/// The second of two threads has the second shard, and the first the seat.
+/// The second of two threads has the second shard, and the first one the slot.
 #[test]
 fn a_call_is_told_once(rt: HostRuntime) -> Result<(), Fail> {
     let alloc = rt.alloc();
-    let first = Sleeper::new(alloc, AT_ONCE, 70, 70, 1)?;
-    let second = Sleeper::new(alloc, AT_ONCE, 70, 0, 1)?;
+    let first = Poller::new(alloc, AT_ONCE, 70, 70, 1)?;
+    let second = Poller::new(alloc, AT_ONCE, 70, 0, 1)?;
     let both = vec![in alloc; first, second]?;
     let wakers = Wakers::of(alloc, both.as_slice())?;
     let Some(second) = both.get(1) else {
@@ -224,34 +227,34 @@ fn a_call_is_told_once(rt: HostRuntime) -> Result<(), Fail> {
     Ok(())
 }
 
-/// Each seat that called stands in one of the words, whatever its number, until the words are taken.
+/// Each slot that called is in one of the words, whatever its number, until the words are taken.
 #[test]
 fn the_words_of_callers_are_given_once(rt: HostRuntime) -> Result<(), Fail> {
     let alloc = rt.alloc();
-    let all = vec![in alloc; Sleeper::new(alloc, AT_ONCE, 9_000, 0, 1)?]?;
+    let all = vec![in alloc; Poller::new(alloc, AT_ONCE, 9_000, 0, 1)?]?;
     let wakers = Wakers::of(alloc, all.as_slice())?;
-    let Some(sleeper) = all.get(0) else {
+    let Some(poller) = all.get(0) else {
         return Ok(());
     };
     wakers.call(0, 130);
     wakers.call(0, 70);
-    holds(&rt, sleeper.called_words() == (1, 3));
-    let (first, end) = sleeper.called_words();
+    holds(&rt, poller.called_words() == (1, 3));
+    let (first, end) = poller.called_words();
     holds(&rt, first >= end);
     wakers.call(0, 8_999);
-    holds(&rt, sleeper.called_words() == (0, 141));
-    sleeper.call_again(5, 6);
-    holds(&rt, sleeper.called_words() == (5, 6));
-    equal(&rt, sleeper.callers_in(5), 6);
+    holds(&rt, poller.called_words() == (0, 141));
+    poller.call_again(5, 6);
+    holds(&rt, poller.called_words() == (5, 6));
+    equal(&rt, poller.callers_in(5), 6);
     Ok(())
 }
 
-/// At first each place is roused.
+/// At first each slot is marked.
 #[test]
 fn a_place_is_roused_once(rt: HostRuntime) -> Result<(), Fail> {
     let alloc = rt.alloc();
-    let first = Sleeper::new(alloc, AT_ONCE, 5, 3, 0)?;
-    let second = Sleeper::new(alloc, AT_ONCE, 5, 2, 1)?;
+    let first = Poller::new(alloc, AT_ONCE, 5, 3, 0)?;
+    let second = Poller::new(alloc, AT_ONCE, 5, 2, 1)?;
     let both = vec![in alloc; first, second]?;
     let wakers = Wakers::of(alloc, both.as_slice())?;
     let Some(second) = both.get(1) else {
@@ -266,27 +269,28 @@ fn a_place_is_roused_once(rt: HostRuntime) -> Result<(), Fail> {
     Ok(())
 }
 
-/// One that the sleeper wasn't made for is heard whenever it is asked for: too few callers hang nobody.
+/// A slot for which the poller wasn't made is always marked, so too small a number of callers
+/// hangs no slot.
 #[test]
 fn a_caller_too_many_is_heard(rt: HostRuntime) -> Result<(), Fail> {
-    let sleeper = Sleeper::new(rt.alloc(), AT_ONCE, 64, 2, 1)?;
-    equal(&rt, sleeper.callers_in(1), u64::MAX);
-    equal(&rt, sleeper.callers_in(1), u64::MAX);
-    equal(&rt, sleeper.callers_in(0), 0);
-    equal(&rt, sleeper.roused_in(1), u64::MAX);
+    let poller = Poller::new(rt.alloc(), AT_ONCE, 64, 2, 1)?;
+    equal(&rt, poller.callers_in(1), u64::MAX);
+    equal(&rt, poller.callers_in(1), u64::MAX);
+    equal(&rt, poller.callers_in(0), 0);
+    equal(&rt, poller.roused_in(1), u64::MAX);
     Ok(())
 }
 
 #[test]
 fn the_marked_numbers_are_given(rt: HostRuntime) -> Result<(), Fail> {
-    let numbers: Vec<usize> = Marked::of(2, 0x8000_0000_0000_0101).collect(rt.alloc())?;
+    let numbers: Vec<usize> = SetBits::of(2, 0x8000_0000_0000_0101).collect(rt.alloc())?;
     equal(&rt, numbers.as_slice(), [128, 136, 191].as_slice());
-    equal(&rt, Marked::of(0, 0).count(), 0);
-    equal(&rt, Marked::of(0, u64::MAX).count(), 64);
+    equal(&rt, SetBits::of(0, 0).count(), 0);
+    equal(&rt, SetBits::of(0, u64::MAX).count(), 64);
     Ok(())
 }
 
-/// A connection that doesn't block, and its peer.
+/// A non-blocking connection, and its peer.
 fn pair<R: Net<Listener = TcpListener, Stream = net::TcpStream>>(
     rt: &R,
 ) -> io::Result<(TcpStream, net::TcpStream)> {
@@ -301,45 +305,45 @@ fn pair<R: Net<Listener = TcpListener, Stream = net::TcpStream>>(
 fn a_socket_rouses_its_seat(rt: HostRuntime) -> Result<(), Fail> {
     let alloc = rt.alloc();
     let (mut near, far) = pair(&rt)?;
-    let mut one = vec![in alloc; Sleeper::polling(&rt, alloc, AT_ONCE, 1, 2, 0)?]?;
+    let mut one = vec![in alloc; Poller::polling(&rt, alloc, AT_ONCE, 1, 2, 0)?]?;
     let wakers = Wakers::of(alloc, one.as_slice())?;
     wakers.register(1, &mut near)?;
-    let Some(sleeper) = one.get_mut(0) else {
+    let Some(poller) = one.get_mut(0) else {
         return Ok(());
     };
-    equal(&rt, sleeper.roused_in(0), 3);
-    // It may be written to.
-    sleeper.wait(&rt);
-    sleeper.wait(&rt);
-    equal(&rt, sleeper.roused_in(0), 2);
-    equal(&rt, sleeper.ready(1), Some(Readiness::Ready));
-    equal(&rt, sleeper.ready(1), None);
+    equal(&rt, poller.roused_in(0), 3);
+    // The socket is writable.
+    poller.wait(&rt);
+    poller.wait(&rt);
+    equal(&rt, poller.roused_in(0), 2);
+    equal(&rt, poller.ready(1), Some(Readiness::Ready));
+    equal(&rt, poller.ready(1), None);
     (&far).write_all(b"a")?;
-    sleeper.wait(&rt);
-    sleeper.wait(&rt);
-    equal(&rt, sleeper.roused_in(0), 2);
-    equal(&rt, sleeper.ready(1), Some(Readiness::Ready));
+    poller.wait(&rt);
+    poller.wait(&rt);
+    equal(&rt, poller.roused_in(0), 2);
+    equal(&rt, poller.ready(1), Some(Readiness::Ready));
     far.shutdown(net::Shutdown::Write)?;
-    sleeper.wait(&rt);
-    sleeper.wait(&rt);
-    equal(&rt, sleeper.roused_in(0), 2);
-    equal(&rt, sleeper.ready(1), Some(Readiness::Closing));
+    poller.wait(&rt);
+    poller.wait(&rt);
+    equal(&rt, poller.roused_in(0), 2);
+    equal(&rt, poller.ready(1), Some(Readiness::Closing));
     Ok(())
 }
 
 #[test]
 fn a_seat_is_reminded(rt: HostRuntime) -> Result<(), Fail> {
     let alloc = rt.alloc();
-    let mut one = vec![in alloc; Sleeper::polling(&rt, alloc, AT_ONCE, 1, 2, 0)?]?;
+    let mut one = vec![in alloc; Poller::polling(&rt, alloc, AT_ONCE, 1, 2, 0)?]?;
     let wakers = Wakers::of(alloc, one.as_slice())?;
-    let Some(sleeper) = one.get_mut(0) else {
+    let Some(poller) = one.get_mut(0) else {
         return Ok(());
     };
-    equal(&rt, sleeper.roused_in(0), 3);
+    equal(&rt, poller.roused_in(0), 3);
     wakers.remind(1);
-    sleeper.wait(&rt);
-    equal(&rt, sleeper.roused_in(0), 0);
-    sleeper.wait(&rt);
-    equal(&rt, sleeper.roused_in(0), 2);
+    poller.wait(&rt);
+    equal(&rt, poller.roused_in(0), 0);
+    poller.wait(&rt);
+    equal(&rt, poller.roused_in(0), 2);
     Ok(())
 }

@@ -1,22 +1,23 @@
-//! The calls that take no memory, each made once all that it needs was made. The tests hold whichever allocation is refused,
-//! alone or with all that follow it: where something that a call needs can't be made, its test ends.
+//! The calls that take no memory, each made after everything that it needs. The tests hold
+//! whichever allocation is refused, alone or with all later ones: if something that a call needs
+//! can't be made, its test ends.
 ghost use Rattle.std.specs.Prelude.{◌<◌};
 
 use crate::asserting::{equal, holds};
 use crate::memory_line::MemoryLine;
-use crate::sizes::ONE_LANE;
-use mc_command::{Command, MetaRemoval, Refusal, StoreMode, StoreRequest};
+use crate::sizes::ONE_CHANNEL;
+use mc_command::{Command, CommandError, MetaRemoval, StoreMode, StoreRequest};
 use mc_conn::{Conn, Taken};
 use mc_item::{Answer, Expiry, Item, Kind, Op, PackedExpiry, Value, expiry};
 use mc_reader::{Next, Reader};
 use mc_reply::{ServerStats, Ticket};
-use mc_ring::{Parcel, Reply, SeatEnds, ShardEnds, lanes};
+use mc_ring::{Reply, Request, SeatEnds, ShardEnds, channels};
 use mc_sizes::Sizes;
 use mc_split::Piece;
 use mc_store::Shard;
 use mc_wire::{
-    DEFAULT_LINE_LIMIT, DEFAULT_VALUE_LIMIT, Key, WireFault, key_fault, number_i64, number_u64,
-    put_all, words,
+    DEFAULT_LINE_LIMIT, DEFAULT_VALUE_LIMIT, Key, WireError, key_fault, number_i64, number_u64,
+    words, write_all,
 };
 use std::alloc::{AllocError, Global};
 use std::hash::RandomState;
@@ -24,10 +25,10 @@ use std::process::Abort;
 
 static LONG: [u8; DEFAULT_LINE_LIMIT] = [b'x'; DEFAULT_LINE_LIMIT];
 
-/// One lane, with rings of three places.
+/// One channel, with rings of three places.
 const THREE_PLACES: Sizes = Sizes {
     ring: 3,
-    ..ONE_LANE
+    ..ONE_CHANNEL
 };
 
 /// A key that takes memory.
@@ -59,7 +60,7 @@ fn item_of(alloc: Global) -> Result<Item, AllocError> {
     })
 }
 
-/// Where memory is ample all that these tests need is made: none of them ends before its calls.
+/// With ample memory everything that these tests need is made: none of them ends before its calls.
 #[test]
 fn what_is_needed_is_made(rt: HostRuntime) {
     let alloc = rt.alloc();
@@ -67,7 +68,7 @@ fn what_is_needed_is_made(rt: HostRuntime) {
     holds(&rt, set(alloc).is_ok() && invalidation(alloc).is_ok());
     holds(&rt, Reader::new(alloc, DEFAULT_VALUE_LIMIT).is_ok());
     holds(&rt, holding(&rt, alloc).is_ok());
-    holds(&rt, lanes(alloc, THREE_PLACES).is_ok());
+    holds(&rt, channels(alloc, THREE_PLACES).is_ok());
     holds(&rt, Conn::new(alloc, 2, DEFAULT_VALUE_LIMIT, 4).is_ok());
 }
 
@@ -86,7 +87,7 @@ fn words_numbers_and_items(rt: HostRuntime) {
     equal(&rt, walk.text(), b" bc ".as_slice());
     equal(&rt, walk.next(), Some(b"bc".as_slice()));
     equal(&rt, walk.next(), None);
-    equal(&rt, key_fault(b"a b"), Some(WireFault::KeyByte));
+    equal(&rt, key_fault(b"a b"), Some(WireError::KeyByte));
     equal(&rt, number_u64(b"18446744073709551615"), Ok(u64::MAX));
     equal(&rt, number_i64(b"-17"), Ok(-17));
     equal(&rt, key.bytes(), LONG_KEY);
@@ -96,31 +97,31 @@ fn words_numbers_and_items(rt: HostRuntime) {
     holds(&rt, item.is_dead(1_010));
     equal(&rt, item.number(), Some(17));
     holds(&rt, Answer::Stored.is_lawful(Kind::Store));
-    holds(&rt, put_all(&mut line, b"abc").is_ok());
+    holds(&rt, write_all(&mut line, b"abc").is_ok());
     equal(&rt, line.output.as_slice(), b"abc".as_slice());
 }
 
-/// The name of what came of a stream.
+/// The name of a result of a stream.
 fn name_of(next: &Next) -> &'static str {
     match next {
         Next::Command(Command::MetaNoop) => "mn",
         Next::Command(Command::Version(_)) => "version",
         Next::Command(Command::Verbosity { .. }) => "verbosity",
         Next::Command(Command::Quit) => "quit",
-        Next::Command(Command::Refused(Refusal::Unknown)) => "unknown",
-        Next::Command(Command::Refused(Refusal::LineTooLong)) => "too long",
+        Next::Command(Command::Refused(CommandError::Unknown)) => "unknown",
+        Next::Command(Command::Refused(CommandError::LineTooLong)) => "too long",
         Next::Command(_) => "another",
         Next::NeedMore => "more",
         Next::Closed => "closed",
     }
 }
 
-/// What comes next of a stream, by name.
+/// The name of a stream's next item.
 fn next(alloc: Global, reader: &mut Reader) -> &'static str {
     name_of(&reader.next(alloc))
 }
 
-/// Feeds the bytes, all of which are taken, and asserts what comes then.
+/// Feeds the bytes, all of which are taken, and asserts the next item.
 fn reads(rt: &impl Abort, alloc: Global, reader: &mut Reader, bytes: &[u8], names: &[&str]) {
     equal(rt, reader.feed(bytes), bytes.len());
     for name in names {
@@ -137,7 +138,7 @@ fn lines_without_a_key_and_skipped_blocks(rt: HostRuntime) {
     let lines = b"mn\r\nversion\r\nverbosity 1\r\nstats\r\n";
     let names = ["mn", "version", "verbosity", "unknown", "more"];
     reads(&rt, alloc, &mut reader, lines, &names);
-    // A line that is refused, whose block is longer than what is held at most.
+    // A line that is refused, with a block longer than the value limit.
     reads(&rt, alloc, &mut reader, b"set a 0 0 65536 x\r\n", &["more"]);
     holds(&rt, reader.is_skipping());
     reads(&rt, alloc, &mut reader, &LONG, &["more"]);
@@ -159,7 +160,7 @@ fn lines_without_a_key_and_skipped_blocks(rt: HostRuntime) {
     equal(&rt, next(alloc, &mut reader), "closed");
 }
 
-/// Asks the shard, and asserts the name of its answer.
+/// Runs the operation on the shard, and asserts the name of its answer.
 fn asks(rt: &impl Abort, alloc: Global, shard: &mut Shard, op: Op, name: &str) {
     let found = match &shard.run(alloc, op, 1_000) {
         Answer::Stored => "stored",
@@ -249,20 +250,20 @@ fn piece(ticket: u64) -> Piece {
     }
 }
 
-/// Whether the first shard's ring takes the parcel.
-fn is_sent(seat: &mut SeatEnds, parcel: Parcel) -> bool {
-    seat.shards() > 0 && seat.send(0, parcel).is_ok()
+/// Whether the first shard's ring accepts the parcel.
+fn is_sent(seat: &mut SeatEnds, request: Request) -> bool {
+    seat.shards() > 0 && seat.send(0, request).is_ok()
 }
 
-/// The first seat's next parcel.
-fn taken(shard: &mut ShardEnds) -> Option<Parcel> {
+/// The first slot's next parcel.
+fn taken(shard: &mut ShardEnds) -> Option<Request> {
     if shard.seats() == 0 {
         return None;
     }
     shard.take(0)
 }
 
-/// Whether the first seat's ring takes a reply to this ticket.
+/// Whether the first slot's ring accepts a reply to this ticket.
 fn is_given(shard: &mut ShardEnds, ticket: u64) -> bool {
     if shard.seats() == 0 || !Answer::Done.is_lawful(Kind::Flush) {
         return false;
@@ -281,21 +282,21 @@ fn received(seat: &mut SeatEnds) -> Option<u64> {
 
 #[test]
 fn rings_that_have_room(rt: HostRuntime) {
-    let Ok((mut seats, mut shards)) = lanes(rt.alloc(), THREE_PLACES) else {
+    let Ok((mut seats, mut shards)) = channels(rt.alloc(), THREE_PLACES) else {
         return;
     };
     let (Some(mut seat), Some(mut shard)) = (seats.pop(), shards.pop()) else {
         return;
     };
-    holds(&rt, is_sent(&mut seat, Parcel::Piece(piece(0))));
-    holds(&rt, is_sent(&mut seat, Parcel::Piece(piece(1))));
-    holds(&rt, is_sent(&mut seat, Parcel::End));
+    holds(&rt, is_sent(&mut seat, Request::Piece(piece(0))));
+    holds(&rt, is_sent(&mut seat, Request::Piece(piece(1))));
+    holds(&rt, is_sent(&mut seat, Request::End));
     for ticket in 0..2 {
-        holds(&rt, matches!(taken(&mut shard), Some(Parcel::Piece(_))));
+        holds(&rt, matches!(taken(&mut shard), Some(Request::Piece(_))));
         holds(&rt, is_given(&mut shard, ticket));
         equal(&rt, received(&mut seat), Some(ticket));
     }
-    holds(&rt, matches!(taken(&mut shard), Some(Parcel::End)));
+    holds(&rt, matches!(taken(&mut shard), Some(Request::End)));
 }
 
 /// Misses the next piece of the connection, which is put back once.

@@ -1,32 +1,32 @@
-//! A worker between two seats, on rings of one place.
+//! A worker between two slots, on rings of one place.
 ghost use Rattle.mc_ring.specs.Ends.{AreSameEnds};
 
 use crate::asserting::{equal, holds};
-use crate::sizes::{ONE_LANE, SMALL};
+use crate::sizes::{ONE_CHANNEL, SMALL};
 use mc_item::Op;
 use mc_reply::Ticket;
-use mc_ring::{Parcel, SeatEnds, lanes};
+use mc_ring::{Request, SeatEnds, channels};
 use mc_sizes::Sizes;
 use mc_split::Piece;
 use mc_store::Shard;
-use mc_worker::{Gate, OpenGate, Turn, Worker};
+use mc_worker::{Gate, OpenGate, Served, Turn, Worker};
 use std::alloc::Global;
 use std::cell::Cell;
 use std::hash::RandomState;
 use std::test::Fail;
 
-/// The moment of all pieces.
+/// The time of all pieces.
 const MOMENT: u64 = 1000;
 
-/// What the shard's items may cost together, in bytes.
+/// The budget of the shard, in bytes.
 const BUDGET: usize = 65_536;
 
-/// How many bytes a value has at most.
+/// The maximum size of a value, in bytes.
 const VALUE_LIMIT: usize = 1_024;
 
 /// A piece of the command of this number.
-fn piece(number: u64) -> Parcel {
-    Parcel::Piece(Piece {
+fn piece(number: u64) -> Request {
+    Request::Piece(Piece {
         ticket: Ticket(number),
         part: 0,
         op: Op::Flush { delay: 0 },
@@ -34,7 +34,7 @@ fn piece(number: u64) -> Parcel {
     })
 }
 
-/// What a turn answers that ran it.
+/// The result of a turn that ran the piece.
 fn ran(number: u64) -> Option<Turn> {
     Some(Turn::Ran {
         ticket: Ticket(number),
@@ -43,7 +43,7 @@ fn ran(number: u64) -> Option<Turn> {
     })
 }
 
-/// A turn for a seat, where it is there.
+/// A turn for a slot, if it exists.
 fn turn(alloc: Global, worker: &mut Worker, seat: usize) -> Option<Turn>
     ensures { AreSameEnds worker.old.ends worker.new.ends }
 {
@@ -54,8 +54,8 @@ fn turn(alloc: Global, worker: &mut Worker, seat: usize) -> Option<Turn>
     }
 }
 
-/// Turns for a seat, where it is there and each seat has a mark.
-fn serve(alloc: Global, worker: &mut Worker, seat: usize, given: &mut [bool]) -> Option<bool> {
+/// Turns for a slot, if it exists and each slot has a mark.
+fn serve(alloc: Global, worker: &mut Worker, seat: usize, given: &mut [bool]) -> Option<Served> {
     if seat < worker.seats() && given.len() == worker.seats() {
         Some(worker.serve(alloc, seat, &OpenGate, given))
     } else {
@@ -63,15 +63,15 @@ fn serve(alloc: Global, worker: &mut Worker, seat: usize, given: &mut [bool]) ->
     }
 }
 
-/// Sends a parcel to the last shard, and tells whether it went out.
-fn sends(seat: &mut SeatEnds, parcel: Parcel) -> bool
+/// Sends a parcel to the last shard. Returns whether it was sent.
+fn sends(seat: &mut SeatEnds, request: Request) -> bool
     ensures { AreSameEnds seat.old seat.new }
 {
     let shards = seat.shards();
-    0 < shards && seat.send(shards - 1, parcel).is_ok()
+    0 < shards && seat.send(shards - 1, request).is_ok()
 }
 
-/// The number of the command that the last shard's next reply is of.
+/// The command number of the last shard's next reply.
 fn receives(seat: &mut SeatEnds) -> Option<u64> {
     let shards = seat.shards();
     if shards == 0 {
@@ -80,10 +80,10 @@ fn receives(seat: &mut SeatEnds) -> Option<u64> {
     seat.receive(shards - 1).map(|reply| reply.ticket.0)
 }
 
-/// Both seats, and the worker of the second of two shards.
+/// Both slots, and the worker of the second of two shards.
 fn two_seats(alloc: Global, hasher: RandomState) -> Result<(SeatEnds, SeatEnds, Worker), Fail> {
     let sizes = Sizes { ring: 1, ..SMALL };
-    let (mut seats, mut shards) = lanes(alloc, sizes)?;
+    let (mut seats, mut shards) = channels(alloc, sizes)?;
     let shard = Shard::new(alloc, hasher, 1, 2, BUDGET, 0, VALUE_LIMIT)?;
     let worker = Worker::new(alloc, shard, shards.remove(1))?;
     let second = seats.remove(1);
@@ -112,14 +112,14 @@ fn a_full_ring_holds_the_worker_up(rt: HostRuntime) -> Result<(), Fail> {
 }
 
 #[test]
-fn it_has_ended_when_every_lane_has(rt: HostRuntime) -> Result<(), Fail> {
+fn it_has_ended_when_every_channel_has(rt: HostRuntime) -> Result<(), Fail> {
     let alloc = rt.alloc();
     let (mut first, mut second, mut worker) = two_seats(alloc, RandomState::new(&rt)?)?;
-    holds(&rt, sends(&mut second, Parcel::End));
+    holds(&rt, sends(&mut second, Request::End));
     equal(&rt, turn(alloc, &mut worker, 1), Some(Turn::Ended));
     equal(&rt, turn(alloc, &mut worker, 1), Some(Turn::Nothing));
     holds(&rt, !worker.ended());
-    holds(&rt, sends(&mut first, Parcel::End));
+    holds(&rt, sends(&mut first, Request::End));
     equal(&rt, turn(alloc, &mut worker, 0), Some(Turn::Ended));
     holds(&rt, worker.ended());
     Ok(())
@@ -130,26 +130,42 @@ fn a_seat_is_served_until_nothing_waits(rt: HostRuntime) -> Result<(), Fail> {
     let alloc = rt.alloc();
     let (mut first, mut second, mut worker) = two_seats(alloc, RandomState::new(&rt)?)?;
     let mut given = [false, false];
-    equal(&rt, serve(alloc, &mut worker, 1, &mut given), Some(false));
+    equal(
+        &rt,
+        serve(alloc, &mut worker, 1, &mut given),
+        Some(Served::Nothing),
+    );
     holds(&rt, sends(&mut second, piece(4)));
-    equal(&rt, serve(alloc, &mut worker, 1, &mut given), Some(true));
+    equal(
+        &rt,
+        serve(alloc, &mut worker, 1, &mut given),
+        Some(Served::All),
+    );
     equal(&rt, given, [false, true]);
     holds(&rt, sends(&mut first, piece(7)));
-    equal(&rt, serve(alloc, &mut worker, 0, &mut given), Some(true));
+    equal(
+        &rt,
+        serve(alloc, &mut worker, 0, &mut given),
+        Some(Served::All),
+    );
     equal(&rt, given, [true, true]);
     equal(
         &rt,
         (receives(&mut first), receives(&mut second)),
         (Some(7), Some(4)),
     );
-    equal(&rt, serve(alloc, &mut worker, 0, &mut given), Some(false));
+    equal(
+        &rt,
+        serve(alloc, &mut worker, 0, &mut given),
+        Some(Served::Nothing),
+    );
     Ok(())
 }
 
 #[test]
 fn what_waits_for_a_worker_is_counted(rt: HostRuntime) -> Result<(), Fail> {
     let alloc = rt.alloc();
-    let (mut seats, mut shards) = lanes(alloc, ONE_LANE)?;
+    let (mut seats, mut shards) = channels(alloc, ONE_CHANNEL)?;
     let shard = Shard::new(alloc, RandomState::new(&rt)?, 0, 1, BUDGET, 0, VALUE_LIMIT)?;
     let mut worker = Worker::new(alloc, shard, shards.remove(0))?;
     let seat = &mut seats[0];
@@ -162,7 +178,7 @@ fn what_waits_for_a_worker_is_counted(rt: HostRuntime) -> Result<(), Fail> {
     Ok(())
 }
 
-/// A gate that keeps what it was asked for so far: each time the shard's number and the command's, as four digits.
+/// A gate that records its calls: each time the shard's number and the command's, as four digits.
 #[derive(Drop)]
 struct Recording(Cell<u64>);
 
@@ -174,7 +190,7 @@ impl Gate for Recording {
     }
 }
 
-/// A turn for a seat, where it is there, by way of this gate.
+/// A turn for a slot, if it exists, through this gate.
 fn turn_by(alloc: Global, worker: &mut Worker, seat: usize, gate: &Recording) -> Option<Turn> {
     if seat < worker.seats() {
         Some(worker.turn(alloc, seat, gate))
@@ -198,12 +214,12 @@ fn the_gate_is_asked_before_each_piece(rt: HostRuntime) -> Result<(), Fail> {
     holds(&rt, sends(&mut first, piece(6)));
     equal(&rt, turn_by(alloc, &mut worker, 1, &gate), ran(5));
     equal(&rt, gate.0.get(), 7_0105);
-    // Its reply is given, and the gate isn't asked for that.
+    // Its reply is given, for which the gate isn't called.
     equal(&rt, turn_by(alloc, &mut worker, 0, &gate), Some(Turn::Gave));
     equal(&rt, gate.0.get(), 7_0105);
     equal(&rt, turn_by(alloc, &mut worker, 0, &gate), ran(6));
     equal(&rt, gate.0.get(), 7_0105_0106);
-    holds(&rt, sends(&mut second, Parcel::End));
+    holds(&rt, sends(&mut second, Request::End));
     equal(&rt, turn_by(alloc, &mut worker, 1, &gate), Some(Turn::Gave));
     equal(
         &rt,

@@ -26,7 +26,8 @@ one_at w c k j link one a b = elim (cases_eq k j) [
 ]
 
 -- the changed connection has its seat
-pub at_same : (w : World) (c k : ℕ) (link next : Link) → IsAt w c k link → next.seat ≡ link.seat → IsAt (with_link w k next) c k next
+pub at_same : (w : World) (c k : ℕ) (link next : Link) → IsAt w c k link
+    → next.seat ≡ link.seat → IsAt (with_link w k next) c k next
 at_same w c k link next at seat = record {
   here = set_here w.links k next link at.here;
   seat_is = seat ∙ at.seat_is;
@@ -37,18 +38,21 @@ at_same w c k link next at seat = record {
 }
 
 -- and so has each other one
-pub at_apart : (w : World) (c j k : ℕ) (one link next : Link) → IsAt w c j one → IsLink w k link → next.seat ≡ link.seat → j ≢ k → IsAt (with_link w k next) c j one
+pub at_apart : (w : World) (c j k : ℕ) (one link next : Link) → IsAt w c j one → IsLink w k link
+    → next.seat ≡ link.seat → j ≢ k → IsAt (with_link w k next) c j one
 at_apart w c j k one link next at here seat apart = record {
   here = set_other w.links k next j apart ∙ at.here;
   seat_is = at.seat_is;
   last = λ i other less at_i. elim (set_cases w.links k next i other at_i) [
-    | inl this ↦ λ e. at.last k link (let same = this.0 in omega (arith, less, same)) here (sym seat ∙ (ap seat_of (sym this.1) ∙ e))
+    | inl this ↦ λ e. at.last k link (let same = this.0 in omega (arith, less, same)) here
+        (sym seat ∙ (ap seat_of (sym this.1) ∙ e))
     | inr old ↦ at.last i other less old.1
   ];
 }
 
 -- who has a seat after the change had it before
-pub at_back : (w : World) (c j k : ℕ) (one link next : Link) → IsLink w k link → next.seat ≡ link.seat → IsAt (with_link w k next) c j one →
+pub at_back : (w : World) (c j k : ℕ) (one link next : Link) → IsLink w k link
+    → next.seat ≡ link.seat → IsAt (with_link w k next) c j one →
     ((j ≡ k) × (one ≡ next) × IsAt w c k link) ⊎ ((j ≢ k) × IsAt w c j one)
 at_back w c j k one link next here seat at = elim (set_cases w.links k next j one at.here) [
   | inl this ↦ inl (
@@ -59,7 +63,8 @@ at_back w c j k one link next here seat at = elim (set_cases w.links k next j on
       seat_is = sym seat ∙ (ap seat_of (sym this.1) ∙ at.seat_is);
       last = λ i other less at_i.
           let same = this.0 in
-          at.last i other (omega (arith, less, same)) (set_other w.links k next i (λ e. absurd (omega (arith, e, less))) ∙ at_i);
+          at.last i other (omega (arith, less, same))
+          (set_other w.links k next i (λ e. absurd (omega (arith, e, less))) ∙ at_i);
     },
   )
   | inr old ↦ inr (
@@ -68,28 +73,33 @@ at_back w c j k one link next here seat at = elim (set_cases w.links k next j on
       here = old.1;
       seat_is = at.seat_is;
       last = λ i other less at_i. elim (cases_eq i k) [
-        | inl same ↦ λ e. at.last k next (omega (arith, less, same)) (set_here w.links k next link here) (seat ∙ (ap seat_of (at_once w.links k i link other here at_i (sym same)) ∙ e))
+        | inl same ↦ λ e. at.last k next (omega (arith, less, same)) (set_here w.links k next link here)
+            (seat ∙ (ap seat_of (at_once w.links k i link other here at_i (sym same)) ∙ e))
         | inr apart ↦ at.last i other less (set_other w.links k next i apart ∙ at_i)
       ];
     },
   )
 ]
 
-pub unused_back : (w : World) (c k : ℕ) (link next : Link) → IsLink w k link → next.seat ≡ link.seat → IsUnusedSeat (with_link w k next) c → IsUnusedSeat w c
+pub unused_back : (w : World) (c k : ℕ) (link next : Link) → IsLink w k link
+    → next.seat ≡ link.seat → IsUnusedSeat (with_link w k next) c → IsUnusedSeat w c
 unused_back w c k link next here seat unused j one at_j is = elim (cases_eq j k) [
-  | inl same ↦ unused k next (set_here w.links k next link here) (seat ∙ (ap seat_of (at_once w.links k j link one here at_j (sym same)) ∙ is))
+  | inl same ↦ unused k next (set_here w.links k next link here)
+      (seat ∙ (ap seat_of (at_once w.links k j link one here at_j (sym same)) ∙ is))
   | inr apart ↦ unused j one (set_other w.links k next j apart ∙ at_j) is
 ]
 
 -- A seat that has had no connection still has had none once a connection changes that keeps its seat.
-pub unused_on : (w : World) (c k : ℕ) (link next : Link) → IsLink w k link → next.seat ≡ link.seat → IsUnusedSeat w c → IsUnusedSeat (with_link w k next) c
+pub unused_on : (w : World) (c k : ℕ) (link next : Link) → IsLink w k link → next.seat ≡ link.seat → IsUnusedSeat w c
+    → IsUnusedSeat (with_link w k next) c
 unused_on w c k link next here seat unused j one at_j is = elim (set_cases w.links k next j one at_j) [
   | inl this ↦ unused k link here (sym seat ∙ (ap seat_of (sym this.1) ∙ is))
   | inr old ↦ unused j one old.1 is
 ]
 
 -- a worker holds the same reply if no answer was sent
-pub hand_on : (w : World) (s k : ℕ) (link next : Link) (hand : Option (ℕ × Shown)) → IsLink w k link → next.seat ≡ link.seat → next.given s ≡ link.given s → HandIs w s hand → HandIs (with_link w k next) s hand
+pub hand_on : (w : World) (s k : ℕ) (link next : Link) (hand : Option (ℕ × Shown)) → IsLink w k link
+    → next.seat ≡ link.seat → next.given s ≡ link.given s → HandIs w s hand → HandIs (with_link w k next) s hand
 hand_on w s k link next None here seat given empty = λ j one at_j. elim (set_cases w.links k next j one at_j) [
   | inl this ↦
       let number = ap (λ n. ran w n s) this.0 in
@@ -101,7 +111,8 @@ hand_on w s k link next None here seat given empty = λ j one at_j. elim (set_ca
 hand_on w s k link next (Some held) here seat given h = elim (cases_eq h.number k) [
   | inl same ↦
       let this : h.link ≡ link = at_once w.links h.number k h.link link h.at.here here same in
-      let at_k : IsAt w held.0 k link = subst (λ x. IsAt w held.0 k x) this (subst (λ n. IsAt w held.0 n h.link) same h.at) in
+      let at_k : IsAt w held.0 k link =
+      subst (λ x. IsAt w held.0 k x) this (subst (λ n. IsAt w held.0 n h.link) same h.at) in
       let count : next.given s ≡ h.link.given s = given ∙ ap (λ (x : Link). x.given s) (sym this) in
       let ungiven = h.ungiven in
       record {
@@ -121,22 +132,27 @@ hand_on w s k link next (Some held) here seat given h = elim (cases_eq h.number 
 ]
 
 -- the rings hold what they are to hold, where they do for the changed connection
-pub mirrors_on : (sizes : Sizes) (w : World) (wires wires' : Wires) (c k : ℕ) (link next : Link) → Mirrors sizes w wires → IsAt w c k link → next.seat ≡ link.seat →
+pub mirrors_on : (sizes : Sizes) (w : World) (wires wires' : Wires) (c k : ℕ) (link next : Link) → Mirrors sizes w wires
+    → IsAt w c k link → next.seat ≡ link.seat →
     ((s : ℕ) → (wires'.pieces c s ≡ unrun sizes w k s next) × (wires'.replies c s ≡ unreceived w k s next)) →
     ((d s : ℕ) → d ≢ c → (wires'.pieces d s ≡ wires.pieces d s) × (wires'.replies d s ≡ wires.replies d s)) →
     ((s : ℕ) → s < sizes.shards → HandIs (with_link w k next) s (wires'.hand s)) →
     ((s : ℕ) → wires'.state s ≡ wires.state s) →
     Mirrors sizes (with_link w k next) wires'
 mirrors_on sizes w wires wires' c k link next m at seat mine others hands states = record {
-  lanes = λ d j one at_j s. elim (at_back w d j k one link next at.here seat at_j) [
+  channels = λ d j one at_j s. elim (at_back w d j k one link next at.here seat at_j) [
     | inl this ↦
         let same : d ≡ c = sym this.2.seat_is ∙ at.seat_is in (
-          ap (λ e. wires'.pieces e s) same ∙ ((mine s).0 ∙ (ap (λ n. unrun sizes w n s next) (sym this.0) ∙ ap (λ x. unrun sizes w j s x) (sym this.1))),
-          ap (λ e. wires'.replies e s) same ∙ ((mine s).1 ∙ (ap (λ n. unreceived w n s next) (sym this.0) ∙ ap (λ x. unreceived w j s x) (sym this.1))),
+          ap (λ e. wires'.pieces e s) same
+              ∙ ((mine s).0 ∙ (ap (λ n. unrun sizes w n s next) (sym this.0)
+              ∙ ap (λ x. unrun sizes w j s x) (sym this.1))),
+          ap (λ e. wires'.replies e s) same
+              ∙ ((mine s).1 ∙ (ap (λ n. unreceived w n s next) (sym this.0)
+              ∙ ap (λ x. unreceived w j s x) (sym this.1))),
         )
     | inr old ↦
         let apart : d ≢ c = λ e. old.0 (sym (one_at w c k j link one at (subst (λ x. IsAt w x j one) e old.1)).0) in
-        let kept = m.lanes d j one old.1 s in
+        let kept = m.channels d j one old.1 s in
         let same = others d s apart in (same.0 ∙ kept.0, same.1 ∙ kept.1)
   ];
   unused = λ d unused s.
@@ -149,13 +165,17 @@ mirrors_on sizes w wires wires' c k link next m at seat mine others hands states
 }
 
 -- rings that stay as they are, where what was sent, given and received stays
-pub mirrors_stay : (sizes : Sizes) (w : World) (wires : Wires) (c k : ℕ) (link next : Link) → Mirrors sizes w wires → IsAt w c k link → next.seat ≡ link.seat →
-    ((s : ℕ) → unrun sizes w k s link ≡ unrun sizes w k s next) → next.given ≡ link.given → next.received ≡ link.received →
+pub mirrors_stay : (sizes : Sizes) (w : World) (wires : Wires) (c k : ℕ) (link next : Link) → Mirrors sizes w wires
+    → IsAt w c k link → next.seat ≡ link.seat →
+    ((s : ℕ) → unrun sizes w k s link ≡ unrun sizes w k s next) → next.given ≡ link.given → next.received
+    ≡ link.received →
     Mirrors sizes (with_link w k next) wires
 mirrors_stay sizes w wires c k link next m at seat same given received =
-    let back : (s : ℕ) → unreceived w k s link ≡ unreceived w k s next = λ s. ap (λ g. unreceived w k s (record link { given = g })) (sym given) ∙ ap (λ r. unreceived w k s (record link { given = next.given; received = r })) (sym received) in
+    let back : (s : ℕ) → unreceived w k s link ≡ unreceived w k s next =
+    λ s. ap (λ g. unreceived w k s (record link { given = g })) (sym given)
+    ∙ ap (λ r. unreceived w k s (record link { given = next.given; received = r })) (sym received) in
     mirrors_on sizes w wires wires c k link next m at seat
-    (λ s. ((m.lanes c k link at s).0 ∙ same s, (m.lanes c k link at s).1 ∙ back s))
+    (λ s. ((m.channels c k link at s).0 ∙ same s, (m.channels c k link at s).1 ∙ back s))
     (λ d s apart. (refl, refl))
     (λ s below. hand_on w s k link next (wires.hand s) at.here seat (ap (λ (g : ℕ → ℕ). g s) given) (m.hands s below))
     (λ s. refl)

@@ -1,5 +1,6 @@
 -- Replies that were handed out lead a core on.
-use Rattle.std.proofs.Common.{◌≡◌, ℕ, zero, suc, ◌+◌, ◌<◌, ◌≤◌, inl, true, false, Some, Option, List, [], ◌∷◌, ◌++◌, length, map, take, drop, refl, sym, ap, ◌∙◌, subst, arith, slice_set}
+use Rattle.std.proofs.Common.{◌≡◌, ℕ, zero, suc, ◌+◌, ◌<◌, ◌≤◌, inl, true, false, Some, Option, List, [], ◌∷◌, ◌++◌}
+use Rattle.std.proofs.Common.{length, map, take, drop, refl, sym, ap, ◌∙◌, subst, arith, slice_set}
 use Rattle.std.specs.Prelude.{IsTrue}
 use Rattle.std.specs.List.{AllByRecursion, concat, slice_get}
 use Rattle.std.specs.Option.{option_map}
@@ -17,10 +18,11 @@ use Rattle.mc_conn.specs.declared.conn.Conn.{Conn}
 use Rattle.mc_conn.specs.Conn.{IsConn}
 use Rattle.mc_conn.specs.History.{Taken, planned, text_done}
 use Rattle.mc_conn.specs.Told.{Told, all_texts, waiting_text}
-use Rattle.mc_conn.specs.Due.{done_at, due, forms_of, history_from, lane, pieces, pieces_at, pieces_from, ticket_at}
+use Rattle.mc_conn.specs.Due.{done_at, due, pending_replies_of, history_from, channel, pieces, pieces_at, pieces_from}
+use Rattle.mc_conn.specs.Due.{ticket_at}
 use Rattle.mc_conn.specs.Fits.{Fits, HasCome, counts}
 use Rattle.mc_conn.proofs.Counting.{come_from_count, count_from_come, due_first}
-use Rattle.mc_conn.proofs.Places.{lane_there}
+use Rattle.mc_conn.proofs.Places.{channel_there}
 use Rattle.mc_conn.proofs.Staying.{is_sound}
 use Rattle.mc_conn.proofs.Telling.{tells}
 use Rattle.mc_model.specs.declared.event.StepReply.{StepReply}
@@ -54,7 +56,8 @@ take_less (suc n) (x ∷ xs) zero less = refl
 take_less (suc n) (x ∷ xs) (suc i) less = take_less n xs i (omega (arith, less))
 
 -- as many replies were received from each shard as the link counts
-received_count : (sizes : Sizes) (own : List Entry) (link : Link) → LinkLaw sizes own link → (s : ℕ) → length (received_by link own s) ≡ link.received s
+received_count : (sizes : Sizes) (own : List Entry) (link : Link) → LinkLaw sizes own link → (s : ℕ)
+    → length (received_by link own s) ≡ link.received s
 received_count sizes own link law s =
     let received = law.received s in
     let given = law.given s in
@@ -62,106 +65,155 @@ received_count sizes own link law s =
     length-take-le (link.received s) (replies_in (on_shard s own)) (omega (arith, received, given, long))
 
 -- By the law, where the counts of replies received are enough for the first commands, their lists are too.
-pub come_on : (sizes : Sizes) (own : List Entry) (link : Link) (count : ℕ) → LinkLaw sizes own link → HasCome sizes.shards link.taken link.received count → HasCome sizes.shards link.taken (counts (received_by link own)) count
-come_on sizes own link count law come s = let here = come s in let same = received_count sizes own link law s in omega (arith, here, same)
+pub come_on : (sizes : Sizes) (own : List Entry) (link : Link) (count : ℕ) → LinkLaw sizes own link
+    → HasCome sizes.shards link.taken link.received count
+    → HasCome sizes.shards link.taken (counts (received_by link own)) count
+come_on sizes own link count law come s = let here = come s in let same =
+    received_count sizes own link law s in omega (arith, here, same)
 
 -- By the law, where the lists of replies received are enough for the first commands, their counts are too.
-pub come_back : (sizes : Sizes) (own : List Entry) (link : Link) (count : ℕ) → LinkLaw sizes own link → HasCome sizes.shards link.taken (counts (received_by link own)) count → HasCome sizes.shards link.taken link.received count
-come_back sizes own link count law come s = let here = come s in let same = received_count sizes own link law s in omega (arith, here, same)
+pub come_back : (sizes : Sizes) (own : List Entry) (link : Link) (count : ℕ) → LinkLaw sizes own link
+    → HasCome sizes.shards link.taken (counts (received_by link own)) count
+    → HasCome sizes.shards link.taken link.received count
+come_back sizes own link count law come s = let here = come s in let same =
+    received_count sizes own link law s in omega (arith, here, same)
 
 -- The replies whose turn has come are those to as many commands as need no further answer.
-pub is_turn : (sizes : Sizes) (own : List Entry) (link : Link) (conn : Conn) → LinkLaw sizes own link → (s : IsServing sizes own link conn) → IsTurn sizes link (length (all_texts (told_of sizes link s.lent s.accepted)))
+pub is_turn : (sizes : Sizes) (own : List Entry) (link : Link) (conn : Conn) → LinkLaw sizes own link
+    → (s : IsServing sizes own link conn)
+    → IsTurn sizes link (length (all_texts (told_of sizes link s.lent s.accepted)))
 is_turn sizes own link conn law s =
     let sound = is_sound conn (told_of sizes link s.lent s.accepted) s.is in
     let count = length (all_texts (told_of sizes link s.lent s.accepted)) in
     record {
       within = sound.complete;
-      come = come_back sizes own link count law (come_from_count sizes.shards count link.taken s.accepted (received_by link own) s.fits (omega arith));
-      most = λ more within come. count_from_come sizes.shards more link.taken s.accepted (received_by link own) within s.fits (come_on sizes own link more law come);
+      come =
+          come_back sizes own link count law
+          (come_from_count sizes.shards count link.taken s.accepted (received_by link own) s.fits (omega arith));
+      most =
+          λ more within come. count_from_come sizes.shards more link.taken s.accepted (received_by link own) within
+          s.fits (come_on sizes own link more law come);
     }
 
 -- what was accepted for a piece
 abbrev told_for : List Shown → ℕ × Piece → Option Answer
 told_for accepted piece = answer_to accepted piece.1.ticket piece.1.part
 
-parts_told : (accepted : List Shown) (first : ℕ) (ticket : Ticket) (moment : ℕ) (asked : List ShardOp) → map (told_for accepted) (parts_from first ticket moment asked) ≡ slots_after accepted ticket first (no_answers asked)
+parts_told : (accepted : List Shown) (first : ℕ) (ticket : Ticket) (moment : ℕ) (asked : List ShardOp)
+    → map (told_for accepted) (parts_from first ticket moment asked)
+    ≡ slots_after accepted ticket first (no_answers asked)
 parts_told accepted first ticket moment [] = refl
-parts_told accepted first ticket moment (one ∷ asked) = ap (λ xs. answer_to accepted ticket first ∷ xs) (parts_told accepted (first + 1) ticket moment asked)
+parts_told accepted first ticket moment (one ∷ asked) =
+    ap (λ xs. answer_to accepted ticket first ∷ xs) (parts_told accepted (first + 1) ticket moment asked)
 
 abbrev AgreeOn : List Shown → List Shown → List (ℕ × Piece) → Type 0
 AgreeOn one other all = AllByRecursion (λ piece. told_for one piece ≡ told_for other piece) all
 
-map_agree : (one other : List Shown) (all : List (ℕ × Piece)) → AgreeOn one other all → map (told_for one) all ≡ map (told_for other) all
+map_agree : (one other : List Shown) (all : List (ℕ × Piece)) → AgreeOn one other all → map (told_for one) all
+    ≡ map (told_for other) all
 map_agree one other [] agree = refl
-map_agree one other (piece ∷ all) agree = ap (λ a. a ∷ map (told_for one) all) agree.0 ∙ ap (λ as'. told_for other piece ∷ as') (map_agree one other all agree.1)
+map_agree one other (piece ∷ all) agree =
+    ap (λ a. a ∷ map (told_for one) all) agree.0
+    ∙ ap (λ as'. told_for other piece ∷ as') (map_agree one other all agree.1)
 
-all_front : {X : Type 0} (P : X → Type 0) (xs ys : List X) → AllByRecursion P (xs ++ ys) → AllByRecursion P xs × AllByRecursion P ys
+all_front : {X : Type 0} (P : X → Type 0) (xs ys : List X) → AllByRecursion P (xs ++ ys) → AllByRecursion P xs
+    × AllByRecursion P ys
 all_front P [] ys all = (tt, all)
 all_front P (x ∷ xs) ys all = let rest = all_front P xs ys all.1 in ((all.0, rest.0), rest.1)
 
 -- equal answers make equal histories
-history_same : (shards : ℕ) (one other : List Shown) (number : ℕ) (taken : List Taken) → AgreeOn one other (pieces_from shards number taken) → history_from shards one number taken ≡ history_from shards other number taken
+history_same : (shards : ℕ) (one other : List Shown) (number : ℕ) (taken : List Taken)
+    → AgreeOn one other (pieces_from shards number taken) → history_from shards one number taken
+    ≡ history_from shards other number taken
 history_same shards one other number [] agree = refl
 history_same shards one other number (first ∷ taken) agree =
-    let both = all_front (λ piece. told_for one piece ≡ told_for other piece) (pieces_at shards number first) (pieces_from shards (number + 1) taken) agree in
+    let both = all_front (λ piece. told_for one piece ≡ told_for other piece) (pieces_at shards number first)
+    (pieces_from shards (number + 1) taken) agree in
     let asked = pieces_of shards (planned first) in
-    let slots : slots_after one (ticket_at number) 0 (no_answers asked) ≡ slots_after other (ticket_at number) 0 (no_answers asked) =
-    sym (parts_told one 0 (ticket_at number) first.moment asked) ∙ (map_agree one other (pieces_at shards number first) both.0 ∙ parts_told other 0 (ticket_at number) first.moment asked) in
-    ap (λ xs. record { entry = first.entry; moment = first.moment; server = first.server; given_up = first.given_up; answers = answers_of xs } ∷ history_from shards one (number + 1) taken) slots
+    let slots : slots_after one (ticket_at number) 0 (no_answers asked)
+    ≡ slots_after other (ticket_at number) 0 (no_answers asked) =
+    sym (parts_told one 0 (ticket_at number) first.moment asked)
+    ∙ (map_agree one other (pieces_at shards number first) both.0
+    ∙ parts_told other 0 (ticket_at number) first.moment asked) in
+    ap (λ xs. record {
+      entry = first.entry;
+      moment = first.moment;
+      server = first.server;
+      given_up = first.given_up;
+      answers = answers_of xs;
+    } ∷ history_from shards one (number + 1) taken) slots
     ∙ ap (λ rest. done_at shards other number first ∷ rest) (history_same shards one other (number + 1) taken both.1)
 
 -- What was accepted of the first commands is what the log has of them.
-same_texts : (sizes : Sizes) (own : List Entry) (link : Link) (accepted : List Shown) (count : ℕ) → LinkLaw sizes own link → Fits sizes.shards link.taken accepted (received_by link own) → count ≤ length link.taken → HasCome sizes.shards link.taken link.received count →
-    take count (replies (forms_of sizes.shards link.taken) accepted) ≡ take count (replies (forms_of sizes.shards link.taken) (replies_in own))
+same_texts : (sizes : Sizes) (own : List Entry) (link : Link) (accepted : List Shown) (count : ℕ)
+    → LinkLaw sizes own link → Fits sizes.shards link.taken accepted (received_by link own) → count ≤ length link.taken
+    → HasCome sizes.shards link.taken link.received count →
+    take count (replies (pending_replies_of sizes.shards link.taken) accepted)
+    ≡ take count (replies (pending_replies_of sizes.shards link.taken) (replies_in own))
 same_texts sizes own link accepted count law fits within come =
     let shards = sizes.shards in
     let first = take count link.taken in
     let full : ℕ → List Shown = λ s. replies_in (on_shard s own) in
-    let agree : AgreeOn accepted (replies_in own) (pieces shards first) = all_from (λ piece. told_for accepted piece ≡ told_for (replies_in own) piece) (pieces shards first) (λ i piece here.
+    let agree : AgreeOn accepted (replies_in own) (pieces shards first) =
+    all_from (λ piece. told_for accepted piece ≡ told_for (replies_in own) piece) (pieces shards first) (λ i piece here.
     let s = piece.0 in
     let p = piece.1 in
-    let place = length (lane s (take i (pieces shards first))) in
-    let on = lane_there s (pieces shards first) i p here in
+    let place = length (channel s (take i (pieces shards first))) in
+    let on = channel_there s (pieces shards first) i p here in
     let due_at = due_first shards s count link.taken place p on in
     let below = slice_get_within (due shards s first) place p on in
     let came = come s in
     let less : place < link.received s = omega (arith, below, came) in
-    let same : slice_get (received_by link own s) place ≡ slice_get (full s) place = take_less (link.received s) (full s) place less in
-    fits.answers s place p due_at ∙ (ap (λ o. option_map (λ (r : Shown). r.answer) o) same ∙ sym (law.fits.answers s place p due_at))) in
-    let told = tells shards count link.taken accepted (received_by link own) within law.may fits (come_on sizes own link count law come) in
+    let same : slice_get (received_by link own s) place ≡ slice_get (full s) place =
+    take_less (link.received s) (full s) place less in
+    fits.answers s place p due_at ∙
+    (ap (λ o. option_map (λ (r : Shown). r.answer) o) same ∙ sym (law.fits.answers s place p due_at))) in
+    let told = tells shards count link.taken accepted (received_by link own) within law.may fits
+    (come_on sizes own link count law come) in
     let logged = tells shards count link.taken (replies_in own) full within law.may law.fits (λ s.
     let came = come s in
     let received = law.received s in
     let given = law.given s in
     let long = length-map (on_shard s own) reply_to in
     omega (arith, came, received, given, long)) in
-    told.texts ∙ (ap (λ history. map text_done history) (history_same shards accepted (replies_in own) 0 first agree) ∙ sym logged.texts)
+    told.texts ∙ (ap (λ history. map text_done history) (history_same shards accepted (replies_in own) 0 first agree)
+    ∙ sym logged.texts)
 
 -- The bytes that the connection was handed before, with those that were waiting, are those that it is handed
 -- now.
-pub handed_now : (sizes : Sizes) (w : World) (k : ℕ) (link : Link) (conn : Conn) (law : LinkLaw sizes (of_asker k w.log) link) (s : IsServing sizes (of_asker k w.log) link conn) →
+pub handed_now : (sizes : Sizes) (w : World) (k : ℕ) (link : Link) (conn : Conn)
+    (law : LinkLaw sizes (of_asker k w.log) link) (s : IsServing sizes (of_asker k w.log) link conn) →
     let told = told_of sizes link s.lent s.accepted in
-    handed_bytes sizes w k link ++ waiting_text told ≡ handed_bytes sizes w k (record link { handed = length (all_texts told) })
+    handed_bytes sizes w k link ++ waiting_text told
+    ≡ handed_bytes sizes w k (record link { handed = length (all_texts told) })
 handed_now sizes w k link conn law s =
     let own = of_asker k w.log in
     let told = told_of sizes link s.lent s.accepted in
     let texts = all_texts told in
     let n = length texts in
     let turn = is_turn sizes own link conn law s in
-    let logged = replies (forms_of sizes.shards link.taken) (replies_in own) in
+    let logged = replies (pending_replies_of sizes.shards link.taken) (replies_in own) in
     let sound = is_sound conn told s.is in
-    let same : texts ≡ take n logged = sym (take_all n texts (omega arith)) ∙ same_texts sizes own link s.accepted n law s.fits turn.within turn.come in
-    let front : take link.handed texts ≡ take link.handed logged = ap (λ ts. take link.handed ts) same ∙ take-take link.handed n logged sound.handed in
+    let same : texts ≡ take n logged = sym (take_all n texts (omega arith))
+    ∙ same_texts sizes own link s.accepted n law s.fits turn.within turn.come in
+    let front : take link.handed texts ≡ take link.handed logged = ap (λ ts. take link.handed ts) same
+    ∙ take-take link.handed n logged sound.handed in
     ap (λ ts. concat ts ++ waiting_text told) (sym front)
-    ∙ (sym (concat-append (take link.handed texts) (drop link.handed texts)) ∙ (ap (λ ts. concat ts) (take-append-drop link.handed texts) ∙ ap (λ ts. concat ts) same))
+    ∙ (sym (concat-append (take link.handed texts) (drop link.handed texts))
+    ∙ (ap (λ ts. concat ts) (take-append-drop link.handed texts) ∙ ap (λ ts. concat ts) same))
 
 -- However it is answered, a Hand leads the core on.
-pub hands : (old new : Sim) (c number : ℕ) (reply : StepReply) (place after : Seat) (kept kept' : Connection) (passes : ℕ) → Finds old c number place → slice_get old.connections.items number ≡ Some kept → 0 < passes →
-    ((told : Told) → IsConn place.conn told → told.broken ≡ false → told.handed + passes ≡ length (all_texts told)) → ((told : Told) → IsConn place.conn told → IsTrue told.broken → passes ≡ 0) →
-    HandsInto place.conn kept.handed.items reply after.conn kept'.handed.items → after.current ≡ place.current → Differs old new c after → new.connections.items ≡ slice_set old.connections.items number kept' →
-    kept'.seat ≡ kept.seat → kept'.ended ≡ kept.ended → kept'.broken ≡ kept.broken → kept'.fed ≡ kept.fed → StepsByEvent old (Hand c) reply new
+pub hands : (old new : Sim) (c number : ℕ) (reply : StepReply) (place after : Seat) (kept kept' : Connection)
+    (passes : ℕ) → Finds old c number place → slice_get old.connections.items number ≡ Some kept → 0 < passes →
+    ((told : Told) → IsConn place.conn told → told.broken ≡ false → told.handed + passes ≡ length (all_texts told))
+    → ((told : Told) → IsConn place.conn told → IsTrue told.broken → passes ≡ 0) →
+    HandsInto place.conn kept.handed.items reply after.conn kept'.handed.items → after.current ≡ place.current
+    → Differs old new c after → new.connections.items ≡ slice_set old.connections.items number kept' →
+    kept'.seat ≡ kept.seat → kept'.ended ≡ kept.ended → kept'.broken ≡ kept.broken → kept'.fed ≡ kept.fed
+    → StepsByEvent old (Hand c) reply new
 unfolding Stands
-hands old new c number reply place after kept kept' passes finds at_kept some pass none into same differs connections seat ended broken fed sizes w world =
+hands old new c number reply place after kept kept' passes finds at_kept some pass none into same differs connections
+    seat ended broken fed sizes w world =
     let f = found sizes w old c number place world finds.here finds.current in
     let link = f.0 in
     let at = f.1 in
@@ -178,9 +230,12 @@ hands old new c number reply place after kept kept' passes finds at_kept some pa
     let turn = is_turn sizes own link place.conn law s in
     let within = turn.within in
     let next_come : HasCome sizes.shards link.taken link.received (link.handed + 1) =
-    come_back sizes own link (link.handed + 1) law (come_from_count sizes.shards (link.handed + 1) link.taken s.accepted (received_by link own) s.fits (omega (arith, count, some))) in
+    come_back sizes own link (link.handed + 1) law
+    (come_from_count sizes.shards (link.handed + 1) link.taken s.accepted (received_by link own) s.fits
+    (omega (arith, count, some))) in
     let allows : Allows sizes w (Hand c) number link = (at, omega (arith, count, some, within), next_come, whole) in
-    elim reply as (λ r. HandsInto place.conn kept.handed.items r after.conn kept'.handed.items → (w' : World) × Happens sizes w (Hand c) r w' × IsWorld sizes new w') [
+    elim reply as (λ r. HandsInto place.conn kept.handed.items r after.conn kept'.handed.items → (w' : World)
+    × Happens sizes w (Hand c) r w' × IsWorld sizes new w') [
       | replied.Done ↦ λ done.
           let d = done told s.is whole in
           let n = length (all_texts told) in
@@ -188,37 +243,58 @@ hands old new c number reply place after kept kept' passes finds at_kept some pa
           let w' = with_link w number next in
           let happens : Happens sizes w (Hand c) Done w' = (number, link, allows, (n, turn, refl)) in
           let law' = event_kept sizes w (Hand c) Done w' world.within.shards.0 happens world.law in
-          let serving : IsServing sizes own next after.conn = record { lent = s.lent; accepted = s.accepted; is = subst (λ m. IsConn after.conn (record told { handed = m })) d.all d.now; fits = s.fits } in
+          let serving : IsServing sizes own next after.conn =
+          record {
+            lent = s.lent;
+            accepted = s.accepted;
+            is = subst (λ m. IsConn after.conn (record told { handed = m })) d.all d.now;
+            fits = s.fits;
+          } in
           let keeps : KeepsLink sizes w' number next kept' = record {
             seat = seat ∙ h.seat;
             ended = ended ∙ h.ended;
             broken = broken ∙ h.broken;
             fed = ap (λ v. v.items) fed ∙ h.fed;
-            handed = d.bytes ∙ (ap (λ xs. xs ++ waiting_text told) h.handed ∙ handed_now sizes w number link place.conn law s);
+            handed =
+                d.bytes ∙ (ap (λ xs. xs ++ waiting_text told) h.handed
+                ∙ handed_now sizes w number link place.conn law s);
           } in (
             w',
             happens,
             seat_stays sizes w old new c number link next place after world finds at refl law' differs same serving
-                (kept_set sizes w' number next old.connections.items new.connections.items kept kept' at_kept connections keeps)
+                (kept_set sizes w' number next old.connections.items new.connections.items kept kept' at_kept
+                connections keeps)
                 (λ t. refl) refl refl,
           )
       | replied.Idle ↦ λ never. absurd (never told s.is whole)
       | replied.NoMemory ↦ λ stays.
           let d = stays told s.is whole in
-          let is : SeatIs sizes w c after.conn after.current = subst (λ o. SeatIs sizes w c after.conn o) (sym (same ∙ finds.current)) (link, at, record { lent = s.lent; accepted = s.accepted; is = d.1; fits = s.fits }) in
-          let keeps : KeepsLink sizes w number link kept' = record { seat = seat ∙ h.seat; ended = ended ∙ h.ended; broken = broken ∙ h.broken; fed = ap (λ v. v.items) fed ∙ h.fed; handed = d.0 ∙ h.handed } in (
+          let is : SeatIs sizes w c after.conn after.current =
+          subst (λ o. SeatIs sizes w c after.conn o) (sym (same ∙ finds.current))
+          (link, at, record { lent = s.lent; accepted = s.accepted; is = d.1; fits = s.fits }) in
+          let keeps : KeepsLink sizes w number link kept' =
+          record {
+            seat = seat ∙ h.seat;
+            ended = ended ∙ h.ended;
+            broken = broken ∙ h.broken;
+            fed = ap (λ v. v.items) fed ∙ h.fed;
+            handed = d.0 ∙ h.handed;
+          } in (
             w,
             ((tt, (number, link, allows)), refl),
             world_again sizes w c number link old new world at.here
                 (seats_set sizes w c old.seats.items new.seats.items place after finds.here differs.seats is)
-                (kept_set sizes w number link old.connections.items new.connections.items kept kept' at_kept connections keeps)
+                (kept_set sizes w number link old.connections.items new.connections.items kept kept' at_kept connections
+                keeps)
                 differs.log
                 (subst (λ rings. AreWired sizes rings world.wires) (sym differs.rings) world.wired),
           )
     ] into
 
 -- No reply's turn has come.
-pub hands_none : (old new : Sim) (c number passes : ℕ) (place : Seat) → Finds old c number place → ((told : Told) → IsConn place.conn told → told.broken ≡ false → told.handed + passes ≡ length (all_texts told)) → passes ≡ 0 → IsSame old new → StepsByEvent old (Hand c) replied.Idle new
+pub hands_none : (old new : Sim) (c number passes : ℕ) (place : Seat) → Finds old c number place
+    → ((told : Told) → IsConn place.conn told → told.broken ≡ false → told.handed + passes ≡ length (all_texts told))
+    → passes ≡ 0 → IsSame old new → StepsByEvent old (Hand c) replied.Idle new
 unfolding Stands
 hands_none old new c number passes place finds pass none same sizes w world =
     let f = found sizes w old c number place world finds.here finds.current in
@@ -232,11 +308,14 @@ hands_none old new c number passes place finds pass none same sizes w world =
       (
         inl (λ e.
             let one = one_at w c number e.0 link e.1 at e.2.0 in
-            let may : (link.handed < length link.taken) × HasCome sizes.shards link.taken link.received (link.handed + 1) × (link.broken ≡ false) =
-            subst (λ (x : Link). (x.handed < length x.taken) × HasCome sizes.shards x.taken x.received (x.handed + 1) × (x.broken ≡ false)) (sym one.1) (e.2.1, e.2.2, e.2.3) in
+            let may : (link.handed < length link.taken)
+            × HasCome sizes.shards link.taken link.received (link.handed + 1) × (link.broken ≡ false) =
+            subst (λ (x : Link). (x.handed < length x.taken) × HasCome sizes.shards x.taken x.received (x.handed + 1)
+            × (x.broken ≡ false)) (sym one.1) (e.2.1, e.2.2, e.2.3) in
             let less = may.0 in
             let count = pass told s.is may.2 in
-            let more = count_from_come sizes.shards (link.handed + 1) link.taken s.accepted (received_by link own) (omega (arith, less)) s.fits (come_on sizes own link (link.handed + 1) law may.1) in
+            let more = count_from_come sizes.shards (link.handed + 1) link.taken s.accepted (received_by link own)
+            (omega (arith, less)) s.fits (come_on sizes own link (link.handed + 1) law may.1) in
             absurd (omega (arith, count, more, none))),
         refl,
       ),

@@ -11,7 +11,9 @@ use Rattle.mc_model.proofs.Worlds.{at_begin}
 use Rattle.mc_ring.proofs.Lists.{all_at}
 
 -- A new simulator of valid sizes is in the initial world.
-pub begins : (sizes : Sizes) (sim : Sim) → AreWithin sizes → length sim.seats.items ≡ sizes.seats → AllByRecursion (IsNewSeat sizes) sim.seats.items → sim.connections.items ≡ [] → sim.log.items ≡ [] → AreWired sizes sim.rings (new_wires sizes) → Stands sizes sim empty_world
+pub begins : (sizes : Sizes) (sim : Sim) → AreWithin sizes → length sim.seats.items ≡ sizes.seats
+    → AllByRecursion (IsNewSeat sizes) sim.seats.items → sim.connections.items ≡ [] → sim.log.items ≡ []
+    → AreWired sizes sim.rings (new_wires sizes) → Stands sizes sim empty_world
 unfolding Stands
 begins sizes sim within counted seats connections log wired =
     let world : IsWorld sizes sim empty_world = record {
@@ -28,7 +30,7 @@ begins sizes sim within counted seats connections log wired =
       wires = new_wires sizes;
       wired = wired;
       mirrors = record {
-        lanes = λ c k link at s. let here : None ≡ Some link = at.here in absurd (cc);
+        channels = λ c k link at s. let here : None ≡ Some link = at.here in absurd (cc);
         unused = λ c unused s. (refl, refl);
         hands = λ s below k link here. absurd (cc);
         left = λ s below. refl;

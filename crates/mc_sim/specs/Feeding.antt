@@ -22,7 +22,8 @@ pub record Refreshed (told : Told) (new : Conn) : Type 0 where
 pub record TakesBytes (told : Told) (bytes : List ℕ) (count : ℕ) (new : Conn) : Type 0 where
   pub within : count ≤ length bytes
   pub now : IsConn new (record told { fed = told.fed ++ take count bytes })
-  pub whole : SpellsFront told.rules 0 told.fed (commands_of told.taken) [] → length bytes ≤ told.rules.line_limit → count ≡ length bytes
+  pub whole : SpellsFront told.rules 0 told.fed (commands_of told.taken) [] → length bytes ≤ told.rules.line_limit
+      → count ≡ length bytes
   pub some : IsAllTaken told → HasPlace told → 0 < length bytes → 0 < count
 
 -- The connection has neither ended nor failed, and there are bytes.
@@ -33,8 +34,10 @@ MayTake kept bytes = (kept.ended ≡ false) × (kept.broken ≡ false) × (0 < l
 -- input.
 abbrev pub FeedsInto : Conn → List ℕ → List ℕ → StepReply → Conn → List ℕ → Type 0
 FeedsInto old fed bytes replied.Done new fed' =
-    (count : ℕ) × (0 < count) × (fed' ≡ fed ++ take count bytes) × IfConn old (λ told. IsOpen told → TakesBytes told bytes count new)
-FeedsInto old fed bytes replied.Idle new fed' = (fed' ≡ fed) × IfConn old (λ told. IsOpen told → TakesBytes told bytes 0 new)
+    (count : ℕ) × (0 < count) × (fed' ≡ fed ++ take count bytes)
+    × IfConn old (λ told. IsOpen told → TakesBytes told bytes count new)
+FeedsInto old fed bytes replied.Idle new fed' =
+    (fed' ≡ fed) × IfConn old (λ told. IsOpen told → TakesBytes told bytes 0 new)
 FeedsInto old fed bytes replied.NoMemory new fed' = (fed' ≡ fed) × (new ≡ old)
 
 -- All replies that were due were written, behind the earlier output.
@@ -46,9 +49,11 @@ pub record HandsAll (told : Told) (new : Conn) (before after : List ℕ) : Type 
 
 -- A connection that hasn't failed writes all of them, or memory is refused and nothing changes.
 abbrev pub HandsInto : Conn → List ℕ → StepReply → Conn → List ℕ → Type 0
-HandsInto old handed replied.Done new handed' = IfConn old (λ told. told.broken ≡ false → HandsAll told new handed handed')
+HandsInto old handed replied.Done new handed' =
+    IfConn old (λ told. told.broken ≡ false → HandsAll told new handed handed')
 HandsInto old handed replied.Idle new handed' = IfConn old (λ told. told.broken ≡ false → ⊥)
-HandsInto old handed replied.NoMemory new handed' = IfConn old (λ told. told.broken ≡ false → (handed' ≡ handed) × IsConn new told)
+HandsInto old handed replied.NoMemory new handed' =
+    IfConn old (λ told. told.broken ≡ false → (handed' ≡ handed) × IsConn new told)
 
 -- To a page with sufficient capacity, all are written.
 abbrev pub HandsOnto : Told → List ℕ → StepReply → Conn → List ℕ → Type 0

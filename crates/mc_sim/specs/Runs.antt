@@ -20,7 +20,8 @@ done_in sizes w [] w' led = 0
 done_in sizes w (event ∷ events) w' led = is_done led.0 + done_in sizes led.1 events w' led.3
 
 -- No event of a run was refused memory.
-abbrev pub FoundMemory : (sizes : Sizes) (w : World) (events : List Event) (w' : World) → Leads sizes w events w' → Type 0
+abbrev pub FoundMemory : (sizes : Sizes) (w : World) (events : List Event) (w' : World) → Leads sizes w events w'
+    → Type 0
 FoundMemory sizes w [] w' led = Unit {0}
 FoundMemory sizes w (event ∷ events) w' led = (led.0 ≢ NoMemory) × FoundMemory sizes led.1 events w' led.3
 

@@ -8,15 +8,15 @@ use Rattle.mc_ring.specs.Reply.{Shown}
 use Rattle.mc_conn.specs.declared.conn.Conn.{Conn}
 use Rattle.mc_conn.specs.Conn.{IsConn}
 use Rattle.mc_conn.specs.Told.{Told, told_nothing}
-use Rattle.mc_conn.specs.Due.{lane, pieces}
+use Rattle.mc_conn.specs.Due.{channel, pieces}
 use Rattle.mc_conn.specs.Fits.{Fits}
 use Rattle.mc_model.specs.declared.event.StepReply.{StepReply}
 use Rattle.mc_sim.specs.declared.sim.Connection.{Connection}
 use Rattle.mc_sim.specs.declared.sim.LogEntry.{LogEntry}
 use Rattle.mc_sim.specs.declared.sim.Seat.{Seat}
 use Rattle.mc_sim.specs.declared.sim.Sim.{Sim}
-use Rattle.mc_sim.specs.declared.sim.SimRefusal.{SimRefusal}
-use Rattle.mc_sim.specs.declared.sim.SimRefusal.TheVariants.{Memory, Size}
+use Rattle.mc_sim.specs.declared.sim.SimError.{SimError}
+use Rattle.mc_sim.specs.declared.sim.SimError.TheVariants.{Memory, Size}
 use Rattle.mc_model.specs.Log.{Entry, Leaves, of_asker, on_shard, replies_in}
 use Rattle.mc_model.specs.World.{HoldsAnswerFor, IsAt, IsLink, Link, World, ran}
 use Rattle.mc_model.specs.Events.{Event, IsEmptyHand, IsUnusedSeat}
@@ -27,7 +27,20 @@ use Rattle.mc_sim.specs.Rings.{AreWired, Wires}
 
 -- the history of a connection that received these replies, in this order
 abbrev pub told_of : Sizes → Link → Bool → List Shown → Told
-told_of sizes link lent accepted = record { shards = sizes.shards; rules = rules_of sizes; window = sizes.window; fed = link.fed; ended = link.ended; broken = link.broken; taken = link.taken; out = link.sent; lent = lent; accepted = accepted; handed = link.handed }
+told_of sizes link lent accepted =
+    record {
+      shards = sizes.shards;
+      rules = rules_of sizes;
+      window = sizes.window;
+      fed = link.fed;
+      ended = link.ended;
+      broken = link.broken;
+      taken = link.taken;
+      out = link.sent;
+      lent = lent;
+      accepted = accepted;
+      handed = link.handed;
+    }
 
 -- the replies received from each shard, by the log of the connection
 abbrev pub received_by : Link → List Entry → ℕ → List Shown
@@ -42,12 +55,14 @@ pub record IsServing (sizes : Sizes) (own : List Entry) (link : Link) (conn : Co
 
 -- a seat that has had no connection, or has this one
 abbrev pub SeatIs : Sizes → World → ℕ → Conn → Option ℕ → Type 0
-SeatIs sizes w seat conn None = IsUnusedSeat w seat × IsConn conn (told_nothing sizes.shards (rules_of sizes) sizes.window)
+SeatIs sizes w seat conn None =
+    IsUnusedSeat w seat × IsConn conn (told_nothing sizes.shards (rules_of sizes) sizes.window)
 SeatIs sizes w seat conn (Some k) = (link : Link) × IsAt w seat k link × IsServing sizes (of_asker k w.log) link conn
 
 -- A seat that has had no connection.
 abbrev pub IsNewSeat : Sizes → Seat → Type 0
-IsNewSeat sizes seat = (seat.current ≡ None) × IsConn seat.conn (told_nothing sizes.shards (rules_of sizes) sizes.window)
+IsNewSeat sizes seat =
+    (seat.current ≡ None) × IsConn seat.conn (told_nothing sizes.shards (rules_of sizes) sizes.window)
 
 -- The history of a connection.
 pub record KeepsLink (sizes : Sizes) (w : World) (k : ℕ) (link : Link) (kept : Connection) : Type 0 where
@@ -59,11 +74,18 @@ pub record KeepsLink (sizes : Sizes) (w : World) (k : ℕ) (link : Link) (kept :
 
 -- the log entry of the code, for an entry of the model's log
 abbrev pub line_of : Entry → LogEntry
-line_of entry = record { shard = entry.shard; connection = entry.asker; ticket = entry.piece.ticket; part = entry.piece.part; moment = entry.piece.moment }
+line_of entry =
+    record {
+      shard = entry.shard;
+      connection = entry.asker;
+      ticket = entry.piece.ticket;
+      part = entry.piece.part;
+      moment = entry.piece.moment;
+    }
 
 -- the pieces of a connection that were sent to a shard and not run
 abbrev pub unrun : Sizes → World → ℕ → ℕ → Link → List Piece
-unrun sizes w k s link = drop (ran w k s) (lane s (take link.sent (pieces sizes.shards link.taken)))
+unrun sizes w k s link = drop (ran w k s) (channel s (take link.sent (pieces sizes.shards link.taken)))
 
 -- the replies that a shard sent and the connection has not received
 abbrev pub unreceived : World → ℕ → ℕ → Link → List Shown
@@ -84,7 +106,8 @@ HandIs w s (Some held) = IsHolding w s held.0 held.1
 -- The rings hold what was sent and not run, or sent back and not received; the shards are in the states after
 -- the log.
 pub record Mirrors (sizes : Sizes) (w : World) (wires : Wires) : Type 0 where
-  pub lanes : (c k : ℕ) (link : Link) → IsAt w c k link → (s : ℕ) → (wires.pieces c s ≡ unrun sizes w k s link) × (wires.replies c s ≡ unreceived w k s link)
+  pub channels : (c k : ℕ) (link : Link) → IsAt w c k link → (s : ℕ) → (wires.pieces c s ≡ unrun sizes w k s link)
+      × (wires.replies c s ≡ unreceived w k s link)
   pub unused : (c : ℕ) → IsUnusedSeat w c → (s : ℕ) → (wires.pieces c s ≡ []) × (wires.replies c s ≡ [])
   pub hands : (s : ℕ) → s < sizes.shards → HandIs w s (wires.hand s)
   pub left : (s : ℕ) → s < sizes.shards → Leaves sizes s w.log (wires.state s)
@@ -93,10 +116,12 @@ pub record IsWorld (sizes : Sizes) (sim : Sim) (w : World) : Type 0 where
   pub within : AreWithin sizes
   pub law : Law sizes w
   pub seat_count : length sim.seats.items ≡ sizes.seats
-  pub each_seat : (c : ℕ) (seat : Seat) → slice_get sim.seats.items c ≡ Some seat → SeatIs sizes w c seat.conn seat.current
+  pub each_seat : (c : ℕ) (seat : Seat) → slice_get sim.seats.items c
+      ≡ Some seat → SeatIs sizes w c seat.conn seat.current
   pub seated : (k : ℕ) (link : Link) → IsLink w k link → link.seat < sizes.seats
   pub count : length sim.connections.items ≡ length w.links
-  pub keeps : (k : ℕ) (link : Link) (kept : Connection) → IsLink w k link → slice_get sim.connections.items k ≡ Some kept → KeepsLink sizes w k link kept
+  pub keeps : (k : ℕ) (link : Link) (kept : Connection) → IsLink w k link → slice_get sim.connections.items k
+      ≡ Some kept → KeepsLink sizes w k link kept
   pub log : sim.log.items ≡ map line_of w.log
   pub wires : Wires
   pub wired : AreWired sizes sim.rings wires
@@ -108,10 +133,12 @@ unfoldable pub Stands : Sizes → Sim → World → Type 0
 Stands sizes sim w = IsWorld sizes sim w
 
 -- The sizes are refused for the first one that is out of range; for valid sizes, memory was refused.
-abbrev pub IsRefused : Sizes → SimRefusal → Type 0
+abbrev pub IsRefused : Sizes → SimError → Type 0
 IsRefused sizes (Size fault) = IsFirstOut sizes fault
 IsRefused sizes Memory = AreWithin sizes
 
 -- From any world of the simulator, the event leads to a world of it, with the result of the world's event.
 abbrev pub StepsByEvent : Sim → Event → StepReply → Sim → Type 0
-StepsByEvent old event reply new = (sizes : Sizes) (w : World) → Stands sizes old w → (w' : World) × Happens sizes w event reply w' × Stands sizes new w'
+StepsByEvent old event reply new =
+    (sizes : Sizes) (w : World) → Stands sizes old w → (w' : World) × Happens sizes w event reply w'
+    × Stands sizes new w'

@@ -4,4 +4,4 @@
 
 mod sim;
 
-pub use sim::{Connection, LogEntry, Sim, SimRefusal};
+pub use sim::{Connection, LogEntry, Sim, SimError};

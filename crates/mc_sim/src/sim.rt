@@ -19,7 +19,7 @@ use mc_conn::Conn;
 use mc_item::NoMemory;
 use mc_model::{Event, StepReply};
 use mc_reply::Ticket;
-use mc_sizes::{SizeFault, Sizes};
+use mc_sizes::{SizeError, Sizes};
 use rings::Rings;
 use std::alloc::{AllocError, Global};
 use std::random::RandomSource;
@@ -27,10 +27,10 @@ use thiserror::Error;
 
 /// Why a simulator can't be made.
 #[derive(Clone, Copy, Debug, Error)]
-pub enum SimRefusal {
+pub enum SimError {
     /// A size is out of range.
     #[error(transparent)]
-    Size(SizeFault),
+    Size(SizeError),
     /// Memory was refused.
     #[error("out of memory")]
     Memory,
@@ -92,16 +92,16 @@ impl Drop for Sim {
 
 impl Sim {
     /// A server of these sizes in its initial state.
-    pub fn new<R: RandomSource>(rt: &R, alloc: Global, sizes: Sizes) -> Result<Sim, SimRefusal>
+    pub fn new<R: RandomSource>(rt: &R, alloc: Global, sizes: Sizes) -> Result<Sim, SimError>
         ensures ok { IfOk result (λ sim. Stands sizes sim empty_world) }
         ensures within { OnOk result (AreWithin sizes) }
         ensures refused { IfErr result (IsRefused sizes) }
     {
         if let Err(fault) = sizes.check() {
-            return Err(SimRefusal::Size(fault));
+            return Err(SimError::Size(fault));
         }
         let Ok(sim) = Sim::make(rt, alloc, sizes) else {
-            return Err(SimRefusal::Memory);
+            return Err(SimError::Memory);
         };
         Ok(sim)
     }

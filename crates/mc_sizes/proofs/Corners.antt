@@ -1,14 +1,36 @@
 -- The sizes at both ends of their ranges, computed.
-use Rattle.std.proofs.Common.{◌≤◌, arith, lit≤}
+use Rattle.std.proofs.Common.{◌≤◌, false, arith, lit≤}
 use Rattle.mc_command.specs.declared.rules.Profile.TheVariants.{Own}
 use Rattle.mc_sizes.specs.Sizes.{AreWithin}
 use Rattle.mc_sizes.specs.declared.sizes.Sizes.{Sizes}
 
 abbrev least : Sizes
-least = record { profile = Own; seats = 1; shards = 1; bytes = 1024; ring = 1; value = 1024; line = 2048; window = 1 }
+least =
+    record {
+      profile = Own;
+      seats = 1;
+      shards = 1;
+      bytes = 1024;
+      ring = 1;
+      value = 1024;
+      line = 2048;
+      window = 1;
+      shutdown = false;
+    }
 
 abbrev most : Sizes
-most = record { profile = Own; seats = 65536; shards = 64; bytes = 68719476736; ring = 1024; value = 8388608; line = 8388608; window = 4096 }
+most =
+    record {
+      profile = Own;
+      seats = 65536;
+      shards = 64;
+      bytes = 68719476736;
+      ring = 1024;
+      value = 8388608;
+      line = 8388608;
+      window = 4096;
+      shutdown = false;
+    }
 
 least_is_within : AreWithin least
 least_is_within = record {

@@ -12,12 +12,17 @@ pub suits_lines : (sizes : Sizes) → AreWithin sizes → SuitLines sizes
 suits_lines sizes within =
     let shard = within.shards.0 in
     let command = within.window.0 in
-    record { shards = omega (arith, shard); value = within.value.1; line = within.line.1; window = omega (arith, command) }
+    record {
+      shards = omega (arith, shard);
+      value = within.value.1;
+      line = within.line.1;
+      window = omega (arith, command);
+    }
 
 -- A server of sizes that it may have.
 pub may_serve : (sizes : Sizes) → AreWithin sizes → MayServe sizes
 may_serve sizes within = record {
-  lanes = record { seats = within.seats; shards = within.shards; ring = within.ring };
+  channels = record { seats = within.seats; shards = within.shards; ring = within.ring };
   shards = suits_shards sizes within;
   lines = suits_lines sizes within;
 }

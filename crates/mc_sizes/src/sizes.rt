@@ -3,15 +3,12 @@ ghost use Rattle.std.specs.Prelude.{◌≡◌, ◌↔◌, IfErr, IsOk};
 ghost use Rattle.mc_sizes.specs.Limits.{LimitsAre};
 ghost use Rattle.mc_sizes.specs.Sizes.{AreWithin, IsFirstOut, rules_of};
 
-use crate::{
-    GREATEST_BUDGET, GREATEST_RING, GREATEST_SEATS, GREATEST_SHARDS, GREATEST_WINDOW, LEAST,
-    LEAST_BUDGET,
-};
+use crate::{MAX_BUDGET, MAX_RING, MAX_SEATS, MAX_SHARDS, MAX_WINDOW, MIN, MIN_BUDGET};
 use mc_command::{Profile, Rules};
-use mc_wire::{GREATEST_LINE_LIMIT, GREATEST_VALUE_LIMIT, LEAST_LINE_LIMIT, LEAST_VALUE_LIMIT};
+use mc_wire::{MAX_LINE_LIMIT, MAX_VALUE_LIMIT, MIN_LINE_LIMIT, MIN_VALUE_LIMIT};
 use thiserror::Error;
 
-/// The sizes of a server, and the protocol profile that it follows.
+/// The sizes of a server, and the protocol profile that it follows. See docs/DECISIONS.md, C9.
 #[derive(Clone, Copy, PartialEq, Eq)]
 pub struct Sizes {
     /// The protocol rules: native, or memcached's (`--drop-in`).
@@ -30,10 +27,13 @@ pub struct Sizes {
     pub line: usize,
     /// Maximum number of open commands of a connection: parsed, and not answered yet.
     pub window: usize,
+    /// Whether clients may end the server by `shutdown`, which only memcached's rules have.
+    pub shutdown: bool,
 }
 
 impl Sizes {
-    /// The parser's rules: profile, value limit and line limit.
+    /// The parser's rules: profile, value limit, line limit, and whether clients may end the
+    /// server.
     pub fn rules(self) -> Rules
         ensures { result ≡ rules_of self }
     {
@@ -41,34 +41,35 @@ impl Sizes {
             profile: self.profile,
             value_limit: self.value,
             line_limit: self.line,
+            shutdown: self.shutdown,
         }
     }
 
     /// Checks each size against its range. Reports the first one that is out of range.
-    pub fn check(self) -> Result<(), SizeFault>
+    pub fn check(self) -> Result<(), SizeError>
         ensures within { IsOk result ↔ AreWithin self }
         ensures first { IfErr result (IsFirstOut self) }
     {
-        if !(LEAST..=GREATEST_SEATS).contains(&self.seats) {
-            return Err(SizeFault::Seats);
+        if !(MIN..=MAX_SEATS).contains(&self.seats) {
+            return Err(SizeError::Seats);
         }
-        if !(LEAST..=GREATEST_SHARDS).contains(&self.shards) {
-            return Err(SizeFault::Shards);
+        if !(MIN..=MAX_SHARDS).contains(&self.shards) {
+            return Err(SizeError::Shards);
         }
-        if !(LEAST_BUDGET..=GREATEST_BUDGET).contains(&self.bytes) {
-            return Err(SizeFault::Bytes);
+        if !(MIN_BUDGET..=MAX_BUDGET).contains(&self.bytes) {
+            return Err(SizeError::Bytes);
         }
-        if !(LEAST..=GREATEST_RING).contains(&self.ring) {
-            return Err(SizeFault::Ring);
+        if !(MIN..=MAX_RING).contains(&self.ring) {
+            return Err(SizeError::Ring);
         }
-        if !(LEAST_VALUE_LIMIT..=GREATEST_VALUE_LIMIT).contains(&self.value) {
-            return Err(SizeFault::Value);
+        if !(MIN_VALUE_LIMIT..=MAX_VALUE_LIMIT).contains(&self.value) {
+            return Err(SizeError::Value);
         }
-        if !(LEAST_LINE_LIMIT..=GREATEST_LINE_LIMIT).contains(&self.line) {
-            return Err(SizeFault::Line);
+        if !(MIN_LINE_LIMIT..=MAX_LINE_LIMIT).contains(&self.line) {
+            return Err(SizeError::Line);
         }
-        if !(LEAST..=GREATEST_WINDOW).contains(&self.window) {
-            return Err(SizeFault::Window);
+        if !(MIN..=MAX_WINDOW).contains(&self.window) {
+            return Err(SizeError::Window);
         }
         Ok(())
     }
@@ -76,20 +77,20 @@ impl Sizes {
 
 /// The size that is out of range; the first one if there are several.
 #[derive(Clone, Copy, Debug, Error, PartialEq, Eq)]
-pub enum SizeFault {
-    #[error("a server has {least} to {most} seats", least = LEAST, most = GREATEST_SEATS)]
+pub enum SizeError {
+    #[error("a server has {least} to {most} seats", least = MIN, most = MAX_SEATS)]
     Seats,
-    #[error("a server has {least} to {most} shards", least = LEAST, most = GREATEST_SHARDS)]
+    #[error("a server has {least} to {most} shards", least = MIN, most = MAX_SHARDS)]
     Shards,
-    #[error("a shard has a budget of {least} to {most} bytes", least = LEAST_BUDGET, most = GREATEST_BUDGET)]
+    #[error("a shard has a budget of {least} to {most} bytes", least = MIN_BUDGET, most = MAX_BUDGET)]
     Bytes,
-    #[error("a ring has {least} to {most} places", least = LEAST, most = GREATEST_RING)]
+    #[error("a ring has {least} to {most} places", least = MIN, most = MAX_RING)]
     Ring,
-    #[error("values have a limit of {least} to {most} bytes", least = LEAST_VALUE_LIMIT, most = GREATEST_VALUE_LIMIT)]
+    #[error("values have a limit of {least} to {most} bytes", least = MIN_VALUE_LIMIT, most = MAX_VALUE_LIMIT)]
     Value,
-    #[error("lines have a limit of {least} to {most} bytes", least = LEAST_LINE_LIMIT, most = GREATEST_LINE_LIMIT)]
+    #[error("lines have a limit of {least} to {most} bytes", least = MIN_LINE_LIMIT, most = MAX_LINE_LIMIT)]
     Line,
-    #[error("a connection has a window of {least} to {most} commands", least = LEAST, most = GREATEST_WINDOW)]
+    #[error("a connection has a window of {least} to {most} commands", least = MIN, most = MAX_WINDOW)]
     Window,
 }
 

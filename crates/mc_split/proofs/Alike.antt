@@ -14,7 +14,8 @@ asks_as_loud shards (command.Store storage) = refl
 asks_as_loud shards other = refl
 
 -- Whatever flags it is to return, and in what order, a command asks the same of the same shards.
-pub asks_alike : (shards : ℕ) (command : Command) (returned : List ReturnFlag) → pieces_of shards command ≡ pieces_of shards (with_returned command returned)
+pub asks_alike : (shards : ℕ) (command : Command) (returned : List ReturnFlag) → pieces_of shards command
+    ≡ pieces_of shards (with_returned command returned)
 unfolding pieces_of
 asks_alike shards (command.MetaGet get) returned = refl
 asks_alike shards (command.MetaSet set) returned = refl

@@ -6,7 +6,7 @@ use Rattle.mc_command.specs.declared.command.Command.{Command}
 use Rattle.mc_item.specs.Kind.{key_of, kind_of, is_lawful}
 use Rattle.mc_reply.specs.declared.ticket.Ticket.{Ticket}
 use Rattle.mc_split.specs.Pieces.{ShardOp, pieces_of}
-use Rattle.mc_split.specs.Plan.{form_of, parts_from}
+use Rattle.mc_split.specs.Plan.{pending_reply_of, parts_from}
 use Rattle.mc_command.specs.declared.meta.ReturnFlag.{ReturnFlag}
 use Rattle.mc_command.specs.FlagOrder.{with_returned}
 use Rattle.mc_item.specs.declared.answer.Answer.{Answer}
@@ -22,17 +22,19 @@ NumbersParts = (ticket : Ticket) (moment : ℕ) (asked : List ShardOp) →
 -- A piece is for the shard of the key that it asks for.
 abbrev pub AsksShardOfKey : Type 0
 AsksShardOfKey = (shards : ℕ) (command : Command) →
-    AllByRecursion (λ asked. IfSome (key_of asked.op) (λ key. asked.shard ≡ place_of key shards)) (pieces_of shards command)
+    AllByRecursion (λ asked. IfSome (key_of asked.op) (λ key. asked.shard ≡ place_of key shards))
+    (pieces_of shards command)
 
 -- Every shard that is asked is there.
 abbrev pub AsksShardsWithin : Type 0
 AsksShardsWithin = (shards : ℕ) → 0 < shards → (command : Command) →
     AllByRecursion (λ asked. asked.shard < shards) (pieces_of shards command)
 
--- All pieces of a command are of one kind, that of its form.
+-- All pieces of a command are of one kind, that of its pending reply.
 abbrev pub AsksOneKind : Type 0
 AsksOneKind = (shards : ℕ) (ticket : Ticket) (command : Command) →
-    AllByRecursion (λ asked. kind_of asked.op ≡ (form_of shards ticket command).kind) (pieces_of shards command)
+    AllByRecursion (λ asked. kind_of asked.op ≡ (pending_reply_of shards ticket command).kind)
+    (pieces_of shards command)
 
 -- Each piece has one answer, which is lawful for its kind.
 abbrev pub AnswersTo : List ShardOp → List Answer → Type 0
@@ -44,7 +46,8 @@ AnswersTo (asked ∷ pieces) (answer ∷ answers) = (is_lawful (kind_of asked.op
 -- The reply to a command is empty just where it is silent.
 abbrev pub IsEmptyWhereSilent : Type 0
 IsEmptyWhereSilent = (server : ServerStats) (shards : ℕ) → 0 < shards → (command : Command) (answers : List Answer) →
-    AnswersTo (pieces_of shards command) answers → (text_of server command answers ≡ []) ↔ IsTrue (is_silent command answers)
+    AnswersTo (pieces_of shards command) answers → (text_of server command answers ≡ [])
+    ↔ IsTrue (is_silent command answers)
 
 -- A quiet command asks the same of the same shards as the loud one.
 abbrev pub AsksAsLoud : Type 0
@@ -52,4 +55,6 @@ AsksAsLoud = (shards : ℕ) (command : Command) → pieces_of shards command ≡
 
 -- With other flags to return, or in another order, a command asks the same of the same shards.
 abbrev pub AsksAlike : Type 0
-AsksAlike = (shards : ℕ) (command : Command) (returned : List ReturnFlag) → pieces_of shards command ≡ pieces_of shards (with_returned command returned)
+AsksAlike =
+    (shards : ℕ) (command : Command) (returned : List ReturnFlag) → pieces_of shards command
+    ≡ pieces_of shards (with_returned command returned)

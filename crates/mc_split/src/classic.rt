@@ -1,20 +1,20 @@
 //! The pieces of the classic commands.
-ghost use Rattle.std.specs.Prelude.{◌≡◌, IfOk, false};
-ghost use Rattle.mc_reply.specs.Shape.{shape_of};
-ghost use Rattle.mc_split.specs.Pieces.{pieces_of};
+ghost use Rattle.std.specs.Prelude.{◌≡◌, ◌<◌, IfOk, false, length};
 ghost use Rattle.mc_split.specs.Plan.{SplitsInto};
-ghost use Rattle.mc_split.specs.internal.Splits.{SplitsBehind};
 
-use crate::plan::Piece;
-use crate::splitter::Splitter;
+use crate::planner::Planner;
+use crate::queue::PieceQueue;
+use crate::run::{Fetches, Run};
 use crate::stats::ToAll;
-use mc_command::{Block, Command, Direction, Refusal, Retrieval, Storage, StoreRequest};
+use mc_command::{Block, Command, CommandError, Direction, Keys, Retrieval, Storage, StoreRequest};
 use mc_item::{Kind, NoMemory, Op, Value};
-use mc_reply::{Fixed, Form, Shape};
+use mc_reply::{Fixed, PendingReply, ReplyKind};
 use mc_wire::Key;
+use std::alloc::{AllocError, Global};
 use std::collections::VecDeque;
 
-/// The value of a data block, without a copy. It takes memory for the count of its owners.
+/// The value of a data block. A short one is copied, and a long one takes memory for the count of
+/// its owners.
 pub fn value_of(block: Block) -> Result<Value, NoMemory>
     ensures { IfOk result (λ value. value ≡ block) }
 {
@@ -36,96 +36,110 @@ pub(crate) fn asked_of_shard(asked: StoreRequest<Block>) -> Result<StoreRequest<
     })
 }
 
+/// Copies of the keys of a get.
+fn keys_of(alloc: Global, keys: &Keys) -> Result<VecDeque<Key>, AllocError>
+    ensures copies { IfOk result (λ copies. copies.items ≡ keys.now) }
+    ensures some { 0 < length keys.now }
+{
+    let (first, others) = keys.parts();
+    let mut copies = Vec::new(alloc);
+    let key = first.clone()?;
+    copies.push(key)?;
+    for word in others {
+        let key = Key::from_key_word(alloc, word)?;
+        copies.push(key)?;
+    }
+    Ok(VecDeque::from_vec(copies))
+}
+
+/// What the request asks of its shard, with this value in place of its block, which is dropped.
+pub(crate) fn asked_with(asked: StoreRequest<Block>, value: Value) -> StoreRequest<Value>
+    ensures { result ≡ record asked { value = value } }
+{
+    let StoreRequest {
+        key,
+        mode,
+        compare,
+        unique,
+        flags,
+        exptime,
+        value: _block,
+    } = asked;
+    StoreRequest {
+        key,
+        mode,
+        compare,
+        unique,
+        flags,
+        exptime,
+        value,
+    }
+}
+
 /// The line of the answer, or nothing; where it says that a value is too large, that is an error.
 #[inline(always)]
-pub(crate) fn plain_line(noreply: bool) -> Shape
-    ensures { result ≡ Shape.Line noreply false }
+pub(crate) fn plain_line(noreply: bool) -> ReplyKind
+    ensures { result ≡ ReplyKind.Line noreply false }
 {
-    Shape::Line {
+    ReplyKind::Line {
         noreply,
         lenient: false,
     }
 }
 
-impl Splitter {
+impl Planner {
     /// `set`, `add`, `replace`, `append`, `prepend`, `cas`.
-    #[tactic(auto, unfolding(crate::specs::Pieces::pieces_of, mc_reply::specs::Shape::shape_of))]
+    #[tactic(auto, unfolding(crate::specs::Pieces::pieces_of, mc_reply::specs::ReplyKind::reply_kind_of))]
     pub(crate) fn store(
         self,
-        queue: &mut VecDeque<(usize, Piece)>,
+        queue: &mut PieceQueue,
         storage: Storage,
-    ) -> Result<Form, NoMemory>
+    ) -> Result<PendingReply, NoMemory>
         ensures { SplitsInto self (Command.Store storage) result queue.old.items queue.new.items }
     {
-        let shape = Shape::Line {
+        let reply_kind = ReplyKind::Line {
             noreply: storage.noreply,
             lenient: storage.lenient,
         };
         let shard = storage.asked.key.place(self.shards);
         self.one(
             queue,
-            shape,
+            reply_kind,
             shard,
             Op::Store(asked_of_shard(storage.asked)?),
         )
     }
 
-    /// `get`, `gets`, `gat`, `gats`: one piece a key, in the order of the request. Where memory runs out, the queue holds
-    /// what it held.
-    #[tactic(auto, unfolding(crate::specs::Pieces::pieces_of, mc_reply::specs::Shape::shape_of))]
+    /// `get`, `gets`, `gat`, `gats`: one piece a key, in the order of the request. Where memory
+    /// runs out, the queue holds what it held.
+    #[tactic(auto, using(crate::proofs::Parts::get_asks), unfolding(crate::specs::Pieces::pieces_of, mc_reply::specs::ReplyKind::reply_kind_of))]
     pub(crate) fn get(
         self,
-        queue: &mut VecDeque<(usize, Piece)>,
+        queue: &mut PieceQueue,
         retrieval: Retrieval,
-    ) -> Result<Form, NoMemory>
+    ) -> Result<PendingReply, NoMemory>
         ensures { SplitsInto self (Command.Get retrieval) result queue.old.items queue.new.items }
     {
-        let before = queue.len();
-        let form = self.fetch_each(queue, retrieval);
-        if form.is_err() {
-            queue.truncate(before);
-        }
-        form
-    }
-
-    /// A piece for each key. Where memory runs out, some of them may stand in the queue.
-    #[tactic(auto, unfolding(crate::specs::Pieces::pieces_of, mc_reply::specs::Shape::shape_of))]
-    fn fetch_each(
-        self,
-        queue: &mut VecDeque<(usize, Piece)>,
-        retrieval: Retrieval,
-    ) -> Result<Form, NoMemory>
-        ensures { SplitsBehind result self.ticket self.moment (shape_of (Command.Get retrieval))
-            (pieces_of self.shards (Command.Get retrieval)) queue.old.items queue.new.items }
-    {
-        let before = queue.len();
+        let keys = keys_of(self.alloc, &retrieval.keys)?;
+        let count = keys.len();
         let touch = retrieval.touch;
-        let (first, others) = retrieval.keys.parts();
-        let key = first.clone()?;
-        let shard = key.place(self.shards);
-        self.push(queue, shard, 0, Op::Fetch { key, touch })?;
-        for word in others {
-            let key = Key::from_key_word(self.alloc, word)?;
-            let shard = key.place(self.shards);
-            let part = queue.len() - before;
-            self.push(queue, shard, part, Op::Fetch { key, touch })?;
-        }
-        let count = queue.len() - before;
-        let shape = Shape::Values {
+        let reply_kind = ReplyKind::Values {
             keys: retrieval.keys,
             with_unique: retrieval.with_unique,
         };
-        self.form(shape, Kind::Fetch, count)
+        let pending_reply = self.pending_reply(reply_kind, Kind::Fetch, count)?;
+        queue.push_run(Run::Fetches(Fetches::new(self, keys, touch)))?;
+        Ok(pending_reply)
     }
 
     /// `delete`.
-    #[tactic(auto, unfolding(crate::specs::Pieces::pieces_of, mc_reply::specs::Shape::shape_of))]
+    #[tactic(auto, unfolding(crate::specs::Pieces::pieces_of, mc_reply::specs::ReplyKind::reply_kind_of))]
     pub(crate) fn delete(
         self,
-        queue: &mut VecDeque<(usize, Piece)>,
+        queue: &mut PieceQueue,
         key: Key,
         noreply: bool,
-    ) -> Result<Form, NoMemory>
+    ) -> Result<PendingReply, NoMemory>
         ensures { SplitsInto self (Command.Delete key noreply) result
             queue.old.items queue.new.items }
     {
@@ -133,32 +147,33 @@ impl Splitter {
         self.one(queue, plain_line(noreply), shard, Op::Delete { key })
     }
 
-    /// A set whose value is too large, by memcached's rules: the item goes, whatever the shard answers, and the line is refused.
-    #[tactic(auto, unfolding(crate::specs::Pieces::pieces_of, mc_reply::specs::Shape::shape_of))]
+    /// A set whose value is too large, by memcached's rules: the item goes, whatever the shard
+    /// answers, and the line is refused.
+    #[tactic(auto, unfolding(crate::specs::Pieces::pieces_of, mc_reply::specs::ReplyKind::reply_kind_of))]
     pub(crate) fn discard(
         self,
-        queue: &mut VecDeque<(usize, Piece)>,
+        queue: &mut PieceQueue,
         key: Key,
-        refusal: Refusal,
-    ) -> Result<Form, NoMemory>
+        refusal: CommandError,
+    ) -> Result<PendingReply, NoMemory>
         ensures { SplitsInto self (Command.Discard key refusal) result
             queue.old.items queue.new.items }
     {
         let shard = key.place(self.shards);
-        let shape = Shape::Fixed(Fixed::Refused(refusal));
-        self.one(queue, shape, shard, Op::Discard { key })
+        let reply_kind = ReplyKind::Fixed(Fixed::Refused(refusal));
+        self.one(queue, reply_kind, shard, Op::Discard { key })
     }
 
     /// `incr`, `decr`.
-    #[tactic(auto, unfolding(crate::specs::Pieces::pieces_of, mc_reply::specs::Shape::shape_of))]
+    #[tactic(auto, unfolding(crate::specs::Pieces::pieces_of, mc_reply::specs::ReplyKind::reply_kind_of))]
     pub(crate) fn count(
         self,
-        queue: &mut VecDeque<(usize, Piece)>,
+        queue: &mut PieceQueue,
         key: Key,
         direction: Direction,
         amount: u64,
         noreply: bool,
-    ) -> Result<Form, NoMemory>
+    ) -> Result<PendingReply, NoMemory>
         ensures { SplitsInto self (Command.Count key direction amount noreply) result
             queue.old.items queue.new.items }
     {
@@ -172,14 +187,14 @@ impl Splitter {
     }
 
     /// `touch`.
-    #[tactic(auto, unfolding(crate::specs::Pieces::pieces_of, mc_reply::specs::Shape::shape_of))]
+    #[tactic(auto, unfolding(crate::specs::Pieces::pieces_of, mc_reply::specs::ReplyKind::reply_kind_of))]
     pub(crate) fn touch(
         self,
-        queue: &mut VecDeque<(usize, Piece)>,
+        queue: &mut PieceQueue,
         key: Key,
         exptime: i64,
         noreply: bool,
-    ) -> Result<Form, NoMemory>
+    ) -> Result<PendingReply, NoMemory>
         ensures { SplitsInto self (Command.Touch key exptime noreply) result
             queue.old.items queue.new.items }
     {
@@ -193,13 +208,13 @@ impl Splitter {
     }
 
     /// `flush_all`: one piece a shard, rising.
-    #[tactic(auto, unfolding(crate::specs::Pieces::pieces_of, mc_reply::specs::Shape::shape_of))]
+    #[tactic(auto, unfolding(crate::specs::Pieces::pieces_of, mc_reply::specs::ReplyKind::reply_kind_of))]
     pub(crate) fn flush_all(
         self,
-        queue: &mut VecDeque<(usize, Piece)>,
+        queue: &mut PieceQueue,
         delay: i64,
         noreply: bool,
-    ) -> Result<Form, NoMemory>
+    ) -> Result<PendingReply, NoMemory>
         ensures { SplitsInto self (Command.FlushAll delay noreply) result
             queue.old.items queue.new.items }
     {

@@ -16,12 +16,13 @@ pub fn shards_are_there()
     ensures { AsksShardsWithin }
 {}
 
-/// All pieces of a command are of one kind, that of its form.
+/// All pieces of a command are of one kind, that of its pending reply.
 pub fn pieces_are_of_one_kind()
     ensures { AsksOneKind }
 {}
 
-/// A reply is empty of `quit`, where `noreply` stands and where `q` hides what was answered, and nowhere else.
+/// A reply is empty of `quit`, where `noreply` stands and where `q` hides what was answered, and
+/// nowhere else.
 pub fn only_silent_replies_are_empty()
     ensures { IsEmptyWhereSilent }
 {}

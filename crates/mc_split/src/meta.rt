@@ -1,21 +1,20 @@
 //! The pieces of the meta commands.
 ghost use Rattle.std.specs.Prelude.{◌≡◌, IfOk};
 ghost use Rattle.std.specs.List.{list_any};
-ghost use Rattle.mc_reply.specs.Shape.{is_key_flag, is_lenient_in, shown_key};
+ghost use Rattle.mc_reply.specs.ReplyKind.{is_key_flag, is_lenient_in, shown_key};
 ghost use Rattle.mc_split.specs.Plan.{SplitsInto};
 
 use crate::classic::asked_of_shard;
-use crate::plan::Piece;
-use crate::splitter::Splitter;
+use crate::planner::Planner;
+use crate::queue::PieceQueue;
 use mc_command::{
     Command, MetaArithmetic, MetaDelete, MetaFlags, MetaGet, MetaKind, MetaSet, Profile,
-    ReturnFlag, StoreMode,
+    ReturnFlag, StoreMode, StoreRequest,
 };
-use mc_item::{NoMemory, Op};
-use mc_reply::{Form, Shape};
+use mc_item::{NoMemory, Op, Value};
+use mc_reply::{PendingReply, ReplyKind};
 use mc_wire::Key;
 use std::alloc::AllocError;
-use std::collections::VecDeque;
 
 /// Whether it is the flag `k`.
 fn is_key(flag: ReturnFlag) -> bool
@@ -49,17 +48,17 @@ fn is_lenient_in(profile: Profile, mode: StoreMode) -> bool
     matches!(profile, Profile::DropIn) && matches!(mode, StoreMode::Append | StoreMode::Prepend)
 }
 
-impl Splitter {
+impl Planner {
     /// Splits `mg` with any flags, as `split_into` does.
-    #[tactic(auto, unfolding(crate::specs::Pieces::pieces_of, mc_reply::specs::Shape::shape_of))]
+    #[tactic(auto, unfolding(crate::specs::Pieces::pieces_of, mc_reply::specs::ReplyKind::reply_kind_of))]
     pub fn split_meta_get(
         self,
-        queue: &mut VecDeque<(usize, Piece)>,
+        queue: &mut PieceQueue,
         get: MetaGet,
-    ) -> Result<Form, NoMemory>
+    ) -> Result<PendingReply, NoMemory>
         ensures { SplitsInto self (Command.MetaGet get) result queue.old.items queue.new.items }
     {
-        let shape = Shape::Meta {
+        let reply_kind = ReplyKind::Meta {
             kind: MetaKind::Get,
             value: get.value,
             key: copy_shown(&get.flags, &get.asked.key)?,
@@ -67,41 +66,55 @@ impl Splitter {
             lenient: false,
         };
         let shard = get.asked.key.place(self.shards);
-        self.one(queue, shape, shard, Op::MetaGet(get.asked))
+        self.one(queue, reply_kind, shard, Op::MetaGet(get.asked))
     }
 
     /// `ms`.
-    #[tactic(auto, unfolding(crate::specs::Pieces::pieces_of, mc_reply::specs::Shape::shape_of))]
+    #[tactic(auto, unfolding(crate::specs::Pieces::pieces_of, mc_reply::specs::ReplyKind::reply_kind_of))]
     pub(crate) fn meta_set(
         self,
-        queue: &mut VecDeque<(usize, Piece)>,
+        queue: &mut PieceQueue,
         set: MetaSet,
-    ) -> Result<Form, NoMemory>
+    ) -> Result<PendingReply, NoMemory>
         ensures { SplitsInto self (Command.MetaSet set) result queue.old.items queue.new.items }
     {
-        let shape = Shape::Meta {
+        let asked = asked_of_shard(set.asked)?;
+        self.meta_store(queue, set.flags, asked)
+    }
+
+    /// `ms` with these flags, by what its shard is asked.
+    #[tactic(auto, unfolding(crate::specs::Pieces::pieces_of, mc_reply::specs::ReplyKind::reply_kind_of))]
+    pub(crate) fn meta_store(
+        self,
+        queue: &mut PieceQueue,
+        flags: MetaFlags,
+        asked: StoreRequest<Value>,
+    ) -> Result<PendingReply, NoMemory>
+        ensures { SplitsInto self (Command.MetaSet (record { asked = asked; flags = flags })) result
+            queue.old.items queue.new.items }
+    {
+        let reply_kind = ReplyKind::Meta {
             kind: MetaKind::Set,
             value: false,
-            key: copy_shown(&set.flags, &set.asked.key)?,
-            lenient: is_lenient_in(set.flags.profile, set.asked.mode),
-            flags: set.flags,
+            key: copy_shown(&flags, &asked.key)?,
+            lenient: is_lenient_in(flags.profile, asked.mode),
+            flags,
         };
-        let shard = set.asked.key.place(self.shards);
-        let op = Op::MetaStore(asked_of_shard(set.asked)?);
-        self.one(queue, shape, shard, op)
+        let shard = asked.key.place(self.shards);
+        self.one(queue, reply_kind, shard, Op::MetaStore(asked))
     }
 
     /// `md`.
-    #[tactic(auto, unfolding(crate::specs::Pieces::pieces_of, mc_reply::specs::Shape::shape_of))]
+    #[tactic(auto, unfolding(crate::specs::Pieces::pieces_of, mc_reply::specs::ReplyKind::reply_kind_of))]
     pub(crate) fn meta_delete(
         self,
-        queue: &mut VecDeque<(usize, Piece)>,
+        queue: &mut PieceQueue,
         delete: MetaDelete,
-    ) -> Result<Form, NoMemory>
+    ) -> Result<PendingReply, NoMemory>
         ensures { SplitsInto self (Command.MetaDelete delete) result
             queue.old.items queue.new.items }
     {
-        let shape = Shape::Meta {
+        let reply_kind = ReplyKind::Meta {
             kind: MetaKind::Delete,
             value: false,
             key: copy_shown(&delete.flags, &delete.asked.key)?,
@@ -109,20 +122,20 @@ impl Splitter {
             lenient: false,
         };
         let shard = delete.asked.key.place(self.shards);
-        self.one(queue, shape, shard, Op::MetaDelete(delete.asked))
+        self.one(queue, reply_kind, shard, Op::MetaDelete(delete.asked))
     }
 
     /// `ma`.
-    #[tactic(auto, unfolding(crate::specs::Pieces::pieces_of, mc_reply::specs::Shape::shape_of))]
+    #[tactic(auto, unfolding(crate::specs::Pieces::pieces_of, mc_reply::specs::ReplyKind::reply_kind_of))]
     pub(crate) fn meta_arithmetic(
         self,
-        queue: &mut VecDeque<(usize, Piece)>,
+        queue: &mut PieceQueue,
         arithmetic: MetaArithmetic,
-    ) -> Result<Form, NoMemory>
+    ) -> Result<PendingReply, NoMemory>
         ensures { SplitsInto self (Command.MetaArithmetic arithmetic) result
             queue.old.items queue.new.items }
     {
-        let shape = Shape::Meta {
+        let reply_kind = ReplyKind::Meta {
             kind: MetaKind::Arithmetic,
             value: arithmetic.value,
             key: copy_shown(&arithmetic.flags, &arithmetic.asked.key)?,
@@ -130,6 +143,6 @@ impl Splitter {
             lenient: false,
         };
         let shard = arithmetic.asked.key.place(self.shards);
-        self.one(queue, shape, shard, Op::MetaCount(arithmetic.asked))
+        self.one(queue, reply_kind, shard, Op::MetaCount(arithmetic.asked))
     }
 }

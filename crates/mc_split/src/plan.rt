@@ -2,14 +2,14 @@
 ghost use Rattle.std.specs.Prelude.{◌≡◌, ◌<◌, IfOk, IsTrue, OnErr, length};
 ghost use Rattle.mc_command.specs.Command.{can_give_up};
 ghost use Rattle.mc_split.specs.Pieces.{pieces_of};
-ghost use Rattle.mc_split.specs.Plan.{SplitsInto, form_of, parts_from};
+ghost use Rattle.mc_split.specs.Plan.{SplitsInto, pending_reply_of, parts_from};
 
-use crate::splitter::Splitter;
+use crate::planner::Planner;
+use crate::queue::PieceQueue;
 use mc_command::Command;
 use mc_item::{NoMemory, Op};
-use mc_reply::{Fixed, Form, Ticket};
+use mc_reply::{Fixed, PendingReply, Ticket};
 use std::alloc::Global;
-use std::collections::VecDeque;
 
 /// One part of a command, for one shard.
 pub struct Piece {
@@ -50,11 +50,12 @@ impl Piece {
     }
 }
 
-/// What becomes of a command: the form of its reply, and its pieces with their shards, in order.
+/// What becomes of a command: the pending reply of its reply, and its pieces with their shards, in
+/// order.
 #[derive(Drop)]
 pub struct Plan {
-    pub form: Form,
-    pub pieces: VecDeque<(usize, Piece)>,
+    pub pending_reply: PendingReply,
+    pub pieces: PieceQueue,
 }
 
 /// Splits a command into a queue of its own.
@@ -66,32 +67,37 @@ pub fn split(
     shards: usize,
 ) -> Result<Plan, NoMemory>
     requires { 0 < shards }
-    ensures form { IfOk result (λ plan. plan.form ≡ form_of shards ticket command) }
+    ensures pending_reply { IfOk result
+        (λ plan. plan.pending_reply ≡ pending_reply_of shards ticket command) }
     ensures pieces { IfOk result
         (λ plan. plan.pieces.items ≡ parts_from 0 ticket moment (pieces_of shards command)) }
     ensures asks { OnErr result (0 < length (pieces_of shards command)) }
     ensures gives_up { OnErr result (IsTrue (can_give_up command)) }
 {
-    let mut pieces = VecDeque::new(alloc);
-    let splitter = Splitter {
+    let mut pieces = PieceQueue::new(alloc);
+    let planner = Planner {
         alloc,
         ticket,
         moment,
         shards,
     };
-    let form = splitter.split_into(&mut pieces, command)?;
-    Ok(Plan { form, pieces })
+    let pending_reply = planner.split_into(&mut pieces, command)?;
+    Ok(Plan {
+        pending_reply,
+        pieces,
+    })
 }
 
-impl Splitter {
-    /// Splits a command: puts its pieces behind those of the queue, and gives the form of its reply. All growth happens
-    /// here, before the first piece goes out. Where memory runs out, the queue holds what it held.
-    #[tactic(auto, unfolding(crate::specs::Pieces::pieces_of, mc_reply::specs::Shape::shape_of))]
+impl Planner {
+    /// Splits a command: puts its pieces behind those of the queue, and gives the pending reply of
+    /// its reply. All growth happens here, before the first piece goes out. Where memory runs out,
+    /// the queue holds what it held.
+    #[tactic(auto, unfolding(crate::specs::Pieces::pieces_of, mc_reply::specs::ReplyKind::reply_kind_of))]
     pub fn split_into(
         self,
-        queue: &mut VecDeque<(usize, Piece)>,
+        queue: &mut PieceQueue,
         command: Command,
-    ) -> Result<Form, NoMemory>
+    ) -> Result<PendingReply, NoMemory>
         ensures { SplitsInto self command result queue.old.items queue.new.items }
     {
         match command {
@@ -112,7 +118,9 @@ impl Splitter {
             Command::FlushAll { delay, noreply } => self.flush_all(queue, delay, noreply),
             Command::Version(profile) => Ok(self.fixed(Fixed::Version(profile))),
             Command::Verbosity { noreply: false } => Ok(self.fixed(Fixed::Ok)),
-            Command::Verbosity { noreply: true } | Command::Quit => Ok(self.fixed(Fixed::Nothing)),
+            Command::Verbosity { noreply: true } | Command::Quit | Command::Shutdown => {
+                Ok(self.fixed(Fixed::Nothing))
+            }
             Command::Stats(asked) => self.stats(queue, asked),
             Command::MetaNoop => Ok(self.fixed(Fixed::MetaNoop)),
             Command::MetaGet(get) => self.split_meta_get(queue, get),

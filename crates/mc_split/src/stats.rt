@@ -2,16 +2,16 @@
 ghost use Rattle.std.specs.Prelude.{◌≡◌};
 ghost use Rattle.mc_split.specs.Pieces.{asked_of_all};
 ghost use Rattle.mc_split.specs.Plan.{SplitsInto};
-ghost use Rattle.mc_split.specs.internal.Splits.{Splits, SplitsBehind};
+ghost use Rattle.mc_split.specs.internal.Splits.{Splits};
 ghost use Rattle.mc_split.specs.internal.ToAll.{op_of};
 
 use crate::classic::plain_line;
-use crate::plan::Piece;
-use crate::splitter::Splitter;
+use crate::planner::Planner;
+use crate::queue::PieceQueue;
+use crate::run::{Asks, Run};
 use mc_command::{Command, StatsRequest};
 use mc_item::{NoMemory, Op};
-use mc_reply::{Fixed, Form, ServerStats, Shape};
-use std::collections::VecDeque;
+use mc_reply::{Fixed, PendingReply, ReplyKind, ServerStats};
 
 /// What every shard is asked.
 #[derive(Clone, Copy)]
@@ -26,7 +26,7 @@ pub(crate) enum ToAll {
 
 impl ToAll {
     /// The piece for a shard.
-    fn op(self) -> Op
+    pub(crate) fn op(self) -> Op
         ensures { result ≡ op_of self }
     {
         match self {
@@ -37,20 +37,21 @@ impl ToAll {
     }
 }
 
-impl Splitter {
-    /// `stats`, whose form knows nothing of the server yet, and `stats reset`. Other counts are none, and ask no shard.
-    #[tactic(auto, unfolding(crate::specs::Pieces::pieces_of, mc_reply::specs::Shape::shape_of))]
+impl Planner {
+    /// `stats`, whose form knows nothing of the server yet, and `stats reset`. Other counts are
+    /// none, and ask no shard.
+    #[tactic(auto, unfolding(crate::specs::Pieces::pieces_of, mc_reply::specs::ReplyKind::reply_kind_of))]
     pub(crate) fn stats(
         self,
-        queue: &mut VecDeque<(usize, Piece)>,
+        queue: &mut PieceQueue,
         asked: StatsRequest,
-    ) -> Result<Form, NoMemory>
+    ) -> Result<PendingReply, NoMemory>
         ensures { SplitsInto self (Command.Stats asked) result queue.old.items queue.new.items }
     {
         match asked {
             StatsRequest::General => self.all(
                 queue,
-                Shape::Stats(ServerStats::none()),
+                ReplyKind::Stats(ServerStats::none()),
                 ToAll::Stats,
             ),
             StatsRequest::Reset => self.all(queue, plain_line(false), ToAll::ResetStats),
@@ -58,37 +59,25 @@ impl Splitter {
         }
     }
 
-    /// Asks every shard: one piece a shard, rising. Where memory runs out, the queue holds what it held.
+    /// Asks every shard: one piece a shard, rising. Where memory runs out, the queue holds what it
+    /// held.
+    #[tactic(auto, using(crate::proofs::Parts::asks_some))]
     pub(crate) fn all(
         self,
-        queue: &mut VecDeque<(usize, Piece)>,
-        shape: Shape,
+        queue: &mut PieceQueue,
+        reply_kind: ReplyKind,
         asked: ToAll,
-    ) -> Result<Form, NoMemory>
-        ensures { Splits result self.ticket self.moment shape
+    ) -> Result<PendingReply, NoMemory>
+        ensures { Splits result self.ticket self.moment reply_kind
             (asked_of_all self.shards (op_of asked)) queue.old.items queue.new.items }
     {
-        let before = queue.len();
-        let form = self.ask_each(queue, shape, asked);
-        if form.is_err() {
-            queue.truncate(before);
-        }
-        form
-    }
-
-    /// Asks each shard. Where memory runs out, some of the pieces may stand in the queue.
-    fn ask_each(
-        self,
-        queue: &mut VecDeque<(usize, Piece)>,
-        shape: Shape,
-        asked: ToAll,
-    ) -> Result<Form, NoMemory>
-        ensures { SplitsBehind result self.ticket self.moment shape
-            (asked_of_all self.shards (op_of asked)) queue.old.items queue.new.items }
-    {
-        for shard in 0..self.shards {
-            self.push(queue, shard, shard, asked.op())?;
-        }
-        self.form(shape, asked.op().kind(), self.shards)
+        let pending_reply = self.pending_reply(reply_kind, asked.op().kind(), self.shards)?;
+        let asks = Asks {
+            planner: self,
+            asked,
+            next: 0,
+        };
+        queue.push_run(Run::Asks(asks))?;
+        Ok(pending_reply)
     }
 }

@@ -1,12 +1,18 @@
--- Hashes of texts under known words, each computed by the definition. The values are another program's, which computes with
--- numbers of any length.
+-- Hashes of texts under known words, each computed by the definition. The values are another program's, which computes
+-- with numbers of any length.
 use Rattle.std.proofs.Common.{◌≡◌, ℕ}
 use Rattle.std.specs.Prelude.{List, codes, replicate}
 use Rattle.mc_store.specs.internal.Polynomial.{after, finish, last, read_u32, read_u64, write}
 
 -- the hash of a text under the words fedcba9876543210, 0123456789abcdef and deadbeefcafef00d
 abbrev hash_of : List ℕ → ℕ
-hash_of text = finish (write (record { value = 1; point = 18364758544493064720; scale = 81985529216486895; shift = 16045690984503111693 }) text)
+hash_of text =
+    finish (write (record {
+      value = 1;
+      point = 18364758544493064720;
+      scale = 81985529216486895;
+      shift = 16045690984503111693;
+    }) text)
 
 record KnownHashes : Type 0 where
   no_byte : hash_of (codes "") ≡ 1255342097542065812

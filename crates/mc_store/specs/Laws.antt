@@ -1,5 +1,6 @@
 -- What follows from the step, whatever the operations and their moments.
-use Rattle.std.specs.Prelude.{ℕ, ◌≡◌, ◌+◌, ◌-◌, ◌<◌, ◌≤◌, ◌⊎◌, Bool, true, false, max, min, List, ◌∷◌, ◌++◌, length, Option, Some, None}
+use Rattle.std.specs.Prelude.{ℕ, ◌≡◌, ◌+◌, ◌-◌, ◌<◌, ◌≤◌, ◌⊎◌, Bool, true, false, max, min, List, ◌∷◌, ◌++◌, length}
+use Rattle.std.specs.Prelude.{Option, Some, None}
 use Rattle.std.specs.Option.{option_map_or}
 use Rattle.std.specs.FinMap.{get, insert}
 use Rattle.mc_wire.specs.Limits.{latest_moment}
@@ -12,16 +13,21 @@ use Rattle.mc_item.specs.declared.answer.Answer.{Answer}
 use Rattle.mc_item.specs.declared.answer.Answer.TheVariants.{NoCas, NoMemory, Stored, Number, MetaDone, MetaHit}
 use Rattle.mc_item.specs.declared.answer.MetaHit as hit
 use Rattle.mc_item.specs.Kind.{kind_of, key_of, is_lawful}
-use Rattle.mc_store.specs.State.{Used, Items, Turn, State, is_due, is_dead_at, settle, costs, used_since, entered, next_unique}
+use Rattle.mc_store.specs.State.{Used, Items, Turn, State, is_due, is_dead_at, settle, costs, used_since, entered}
+use Rattle.mc_store.specs.State.{next_unique}
 use Rattle.mc_store.specs.Step.{IsStep}
 
 -- An answer is lawful for the kind of its operation.
 abbrev pub AnswersAreLawful : Type 0
-AnswersAreLawful = (old new : State) (op : Op) (moment : ℕ) (answer : Answer) → IsStep old op moment answer new → is_lawful (kind_of op) answer ≡ true
+AnswersAreLawful =
+    (old new : State) (op : Op) (moment : ℕ) (answer : Answer) → IsStep old op moment answer new
+    → is_lawful (kind_of op) answer ≡ true
 
 -- Where no memory is wanting, all is determined.
 abbrev pub StepsAgree : Type 0
-StepsAgree = (old one other : State) (op : Op) (moment : ℕ) (answer second : Answer) → IsStep old op moment answer one → IsStep old op moment second other →
+StepsAgree =
+    (old one other : State) (op : Op) (moment : ℕ) (answer second : Answer) → IsStep old op moment answer one
+    → IsStep old op moment second other →
     ¬ (answer ≡ NoMemory) → ¬ (second ≡ NoMemory) → (answer ≡ second) × (one ≡ other)
 
 -- Other items
@@ -40,13 +46,14 @@ tells_stored _ before = false
 
 -- An item was stored under the operation's key, and stands there. With it, what was used no earlier than the item under
 -- the other key costs more than the budget.
-pub record IsEvicted (settled : State) (key : Option (List ℕ)) (answer : Answer) (new : Items) (other : List ℕ) : Type 0 where
-  pub asked : List ℕ
-  pub key_is : key ≡ Some asked
-  pub told : tells_stored answer (get settled.items asked) ≡ true
-  pub stored : Used
-  pub stands : get new asked ≡ Some stored
-  pub too_much : settled.budget < costs (used_since (insert settled.items asked stored) other)
+pub record IsEvicted (settled : State) (key : Option (List ℕ)) (answer : Answer) (new : Items) (other : List ℕ) : Type 0
+  where
+    pub asked : List ℕ
+    pub key_is : key ≡ Some asked
+    pub told : tells_stored answer (get settled.items asked) ≡ true
+    pub stored : Used
+    pub stands : get new asked ≡ Some stored
+    pub too_much : settled.budget < costs (used_since (insert settled.items asked stored) other)
 
 -- An item was stored under the operation's key, and the item under the other key was dead then.
 pub record IsReclaimed (settled : State) (key : Option (List ℕ)) (answer : Answer) (other : List ℕ) : Type 0 where
@@ -57,12 +64,15 @@ pub record IsReclaimed (settled : State) (key : Option (List ℕ)) (answer : Ans
 
 -- A pending flush was due, or the operation is a flush.
 abbrev pub IsFlushed : State → Op → ℕ → Type 0
-IsFlushed old op moment = (is_due old.flush (max old.time (min moment latest_moment)) ≡ true) ⊎ (kind_of op ≡ kind.Flush)
+IsFlushed old op moment =
+    (is_due old.flush (max old.time (min moment latest_moment)) ≡ true) ⊎ (kind_of op ≡ kind.Flush)
 
 -- No operation changes an item under another key, but by a flush, by eviction for the item that it stored, or, where it
 -- stored one, because the other was dead.
 abbrev pub OthersStay : Type 0
-OthersStay = (old new : State) (op : Op) (moment : ℕ) (answer : Answer) → IsStep old op moment answer new → (other : List ℕ) → ¬ (key_of op ≡ Some other) →
+OthersStay =
+    (old new : State) (op : Op) (moment : ℕ) (answer : Answer) → IsStep old op moment answer new → (other : List ℕ)
+    → ¬ (key_of op ≡ Some other) →
     StaysUnless
     (IsFlushed old op moment
     ⊎ (IsEvicted (settle old (key_of op) moment) (key_of op) answer new.items other
@@ -81,15 +91,20 @@ pub record Waits (state : State) (turn : Turn) (ahead : ℕ) : Type 0 where
 -- once half as many items entered as turns wait ahead of it, and one more. The item that enters has another key and
 -- another unique.
 abbrev pub DeadGo : Type 0
-DeadGo = (state : State) (token : Option ℕ) (key : List ℕ) (item : Item) (turn : Turn) (ahead : ℕ) (used : Used) → get state.items turn.0 ≡ Some used → used.item.unique ≡ turn.1 →
+DeadGo =
+    (state : State) (token : Option ℕ) (key : List ℕ) (item : Item) (turn : Turn) (ahead : ℕ) (used : Used)
+    → get state.items turn.0 ≡ Some used → used.item.unique ≡ turn.1 →
     is_dead_at state.time (Some used) ≡ true → ¬ (turn.0 ≡ key) → ¬ (turn.1 ≡ item.unique) → Waits state turn ahead →
-    (get (entered state token key item).items turn.0 ≡ None) ⊎ ((2 ≤ ahead) × Waits (entered state token key item) turn (ahead - 2))
+    (get (entered state token key item).items turn.0 ≡ None)
+    ⊎ ((2 ≤ ahead) × Waits (entered state token key item) turn (ahead - 2))
 
 -- Uniques
 
 -- A step gives one unique or none, and those that a shard gives rise.
 abbrev pub UniquesRise : Type 0
-UniquesRise = (old new : State) (op : Op) (moment : ℕ) (answer : Answer) → IsStep old op moment answer new → (new.given ≡ old.given) ⊎ (new.given ≡ old.given + 1)
+UniquesRise =
+    (old new : State) (op : Op) (moment : ℕ) (answer : Answer) → IsStep old op moment answer new
+    → (new.given ≡ old.given) ⊎ (new.given ≡ old.given + 1)
 
 -- No two shards of one number of shards ever give the same unique, nor does one give it twice.
 abbrev pub UniquesDiffer : Type 0
@@ -116,24 +131,31 @@ token_of _ = None
 
 -- The shard gave a unique, and the item has it; or the client gave one, and the item has that.
 abbrev pub HasNewUnique : State → State → Option ℕ → Item → Type 0
-HasNewUnique old new token item = ((item.unique ≡ next_unique old) × (new.given ≡ old.given + 1)) ⊎ (token ≡ Some item.unique)
+HasNewUnique old new token item =
+    ((item.unique ≡ next_unique old) × (new.given ≡ old.given + 1)) ⊎ (token ≡ Some item.unique)
 
 -- Whatever a step changes in what an item stores, it gives the item a new unique: the shard's next one, or the
 -- client's.
 abbrev pub UniquesTell : Type 0
-UniquesTell = (old new : State) (op : Op) (moment : ℕ) (answer : Answer) → IsStep old op moment answer new → (key : List ℕ) (used : Used) → get new.items key ≡ Some used →
+UniquesTell =
+    (old new : State) (op : Op) (moment : ℕ) (answer : Answer) → IsStep old op moment answer new
+    → (key : List ℕ) (used : Used) → get new.items key ≡ Some used →
     IsKept old.items key used.item ⊎ HasNewUnique old new (token_of op) used.item
 
 -- Where the client gives a unique, the shard gives none, and none is wanting.
 abbrev pub TokensAreTaken : Type 0
-TokensAreTaken = (old new : State) (op : Op) (moment : ℕ) (answer : Answer) (token : ℕ) → IsStep old op moment answer new → token_of op ≡ Some token →
+TokensAreTaken =
+    (old new : State) (op : Op) (moment : ℕ) (answer : Answer) (token : ℕ) → IsStep old op moment answer new
+    → token_of op ≡ Some token →
     (new.given ≡ old.given) × ¬ (answer ≡ NoCas)
 
 -- Time
 
 -- The time never goes back, and stays at or below the latest one.
 abbrev pub TimeRises : Type 0
-TimeRises = (old new : State) (op : Op) (moment : ℕ) (answer : Answer) → IsStep old op moment answer new → new.time ≡ max old.time (min moment latest_moment)
+TimeRises =
+    (old new : State) (op : Op) (moment : ℕ) (answer : Answer) → IsStep old op moment answer new → new.time
+    ≡ max old.time (min moment latest_moment)
 
 -- Who is told to recompute
 
@@ -143,7 +165,9 @@ is_sent items key = option_map_or (λ used. used.item.sent) (get items key) fals
 
 -- A hit with W is of an item that nobody was told to recompute, or that was made then; now a client is told.
 abbrev pub WinnersAreFirst : Type 0
-WinnersAreFirst = (old new : State) (op : Op) (moment : ℕ) (shown : hit.MetaHit) → IsStep old op moment (MetaHit shown) new → shown.marks.won ≡ true → (key : List ℕ) → key_of op ≡ Some key →
+WinnersAreFirst =
+    (old new : State) (op : Op) (moment : ℕ) (shown : hit.MetaHit) → IsStep old op moment (MetaHit shown) new
+    → shown.marks.won ≡ true → (key : List ℕ) → key_of op ≡ Some key →
     (is_sent (settle old (key_of op) moment).items key ≡ false) × (is_sent new.items key ≡ true)
 
 -- the kinds that take that mark away from the item that they store or mark stale
@@ -155,5 +179,8 @@ may_clear_sent _ = false
 
 -- No other kind takes it away, but with the item.
 abbrev pub SentStays : Type 0
-SentStays = (old new : State) (op : Op) (moment : ℕ) (answer : Answer) → IsStep old op moment answer new → may_clear_sent (kind_of op) ≡ false → (key : List ℕ) →
-    is_sent (settle old (key_of op) moment).items key ≡ true → (get new.items key ≡ None) ⊎ (is_sent new.items key ≡ true)
+SentStays =
+    (old new : State) (op : Op) (moment : ℕ) (answer : Answer) → IsStep old op moment answer new
+    → may_clear_sent (kind_of op) ≡ false → (key : List ℕ) →
+    is_sent (settle old (key_of op) moment).items key ≡ true → (get new.items key ≡ None)
+    ⊎ (is_sent new.items key ≡ true)

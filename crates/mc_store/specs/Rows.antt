@@ -1,6 +1,7 @@
 -- What each operation makes of the item that it meets: a row a definition. An item that is made the most recently
 -- used one is accessed at that time, whatever the row says of its last access.
-use Rattle.std.specs.Prelude.{ℕ, ◌-◌, Bool, true, false, ◌||◌, ◌&&◌, not, ℤ, pos, List, [], length, Option, Some, None, nat_lt}
+use Rattle.std.specs.Prelude.{ℕ, ◌-◌, Bool, true, false, ◌||◌, ◌&&◌, not, ℤ, pos, List, [], length, Option, Some, None}
+use Rattle.std.specs.Prelude.{nat_lt}
 use Rattle.mc_item.specs.declared.item.Item.{Item}
 use Rattle.mc_item.specs.declared.item.Expiry.{Expiry}
 use Rattle.mc_item.specs.declared.answer.Marks.{Marks}
@@ -24,15 +25,27 @@ touched_item item exptime time = record item { expiry = expiry_of exptime time }
 
 -- set, add, replace, cas; ms in the modes E, R and S
 abbrev pub stored_item : List ℕ → ℕ → ℤ → ℕ → ℕ → Item
-stored_item value flags exptime time unique = record { value = value; flags = flags; expiry = expiry_of exptime time; unique = unique; last_access = time; fetched = false; stale = false; sent = false }
+stored_item value flags exptime time unique =
+    record {
+      value = value;
+      flags = flags;
+      expiry = expiry_of exptime time;
+      unique = unique;
+      last_access = time;
+      fetched = false;
+      stale = false;
+      sent = false;
+    }
 
 -- append, prepend; ms in the modes A and P
 abbrev pub joined_item : Item → List ℕ → ℕ → Item
-joined_item item value unique = record item { value = value; unique = unique; fetched = false; stale = false; sent = false }
+joined_item item value unique =
+    record item { value = value; unique = unique; fetched = false; stale = false; sent = false }
 
 -- incr, decr; ma, with the exptime of its flag T
 abbrev pub counted_item : Item → ℕ → Option ℤ → ℕ → ℕ → Item
-counted_item item number exptime time unique = record item { value = number_text number; unique = unique; expiry = expiry_from exptime item.expiry time }
+counted_item item number exptime time unique =
+    record item { value = number_text number; unique = unique; expiry = expiry_from exptime item.expiry time }
 
 -- an item that ma makes of a miss
 abbrev pub counter_item : ℕ → ℤ → ℕ → ℕ → Item
@@ -44,7 +57,8 @@ vivified_item exptime time unique = record (stored_item [] 0 exptime time unique
 
 -- md with I; it keeps its place in the order
 abbrev pub stale_item : Item → Option ℤ → ℕ → ℕ → Item
-stale_item item exptime time unique = record item { unique = unique; expiry = expiry_from exptime item.expiry time; stale = true; sent = false }
+stale_item item exptime time unique =
+    record item { unique = unique; expiry = expiry_from exptime item.expiry time; stale = true; sent = false }
 
 -- The marks of a hit
 
@@ -67,7 +81,12 @@ made_marks = record { won = true; stale = false; sent = false }
 
 -- mg
 abbrev pub shown_item : Item → Option ℤ → Option ℤ → ℕ → Item
-shown_item item exptime recache time = record item { fetched = true; expiry = expiry_from exptime item.expiry time; sent = item.sent || is_won item recache time }
+shown_item item exptime recache time =
+    record item {
+      fetched = true;
+      expiry = expiry_from exptime item.expiry time;
+      sent = item.sent || is_won item recache time;
+    }
 
 -- What is shown of an item
 
@@ -85,8 +104,18 @@ hit_of item exptime recache time = record {
 
 -- mg, of an item that it made
 abbrev pub made_hit : Item → ℕ → MetaHit
-made_hit item time = record { value = item.value; flags = item.flags; unique = item.unique; fetched = false; idle = 0; left = seconds_left item.expiry time; marks = made_marks }
+made_hit item time =
+    record {
+      value = item.value;
+      flags = item.flags;
+      unique = item.unique;
+      fetched = false;
+      idle = 0;
+      left = seconds_left item.expiry time;
+      marks = made_marks;
+    }
 
 -- ms and ma, of the item that they stored or changed
 abbrev pub done_of : Item → ℕ → ℕ → MetaDone
-done_of item number time = record { unique = item.unique; size = length item.value; left = seconds_left item.expiry time; number = number }
+done_of item number time =
+    record { unique = item.unique; size = length item.value; left = seconds_left item.expiry time; number = number }

@@ -21,7 +21,8 @@ StepsInOrder old [] [] (new ∷ states) = ⊥
 StepsInOrder old [] (answer ∷ answers) states = ⊥
 StepsInOrder old (asked ∷ rest) [] states = ⊥
 StepsInOrder old (asked ∷ rest) (answer ∷ answers) [] = ⊥
-StepsInOrder old (asked ∷ rest) (answer ∷ answers) (new ∷ states) = IsStep old asked.0 asked.1 answer new × StepsInOrder new rest answers states
+StepsInOrder old (asked ∷ rest) (answer ∷ answers) (new ∷ states) =
+    IsStep old asked.0 asked.1 answer new × StepsInOrder new rest answers states
 
 -- the state after the last operation
 abbrev pub last_of : State → List State → State
@@ -31,7 +32,8 @@ last_of old (new ∷ states) = last_of new states
 -- the uniques that were given, in order: each by a step that gave one
 abbrev pub uniques_of : State → List State → List ℕ
 uniques_of old [] = []
-uniques_of old (new ∷ states) = if new.given == old.given then uniques_of new states else next_unique old ∷ uniques_of new states
+uniques_of old (new ∷ states) =
+    if new.given == old.given then uniques_of new states else next_unique old ∷ uniques_of new states
 
 abbrev pub times_of : List State → List ℕ
 times_of states = map (λ state. state.time) states
@@ -52,4 +54,5 @@ KeepsBudget old states = All (λ (state : State). costs state.items ≤ old.budg
 -- shows then.
 abbrev pub RunsThrough : Shard → List TimedOp → List Answer → Shard → Type 0
 RunsThrough old asked answers new =
-    (state : State) → IsShard old state → (states : List State) × StepsInOrder state asked answers states × IsOrderly state asked answers states × KeepsBudget state states × IsShard new (last_of state states)
+    (state : State) → IsShard old state → (states : List State) × StepsInOrder state asked answers states
+    × IsOrderly state asked answers states × KeepsBudget state states × IsShard new (last_of state states)

@@ -4,7 +4,7 @@ use Rattle.std.specs.FinMap.{empty, get, remove}
 use Rattle.mc_item.specs.declared.item.Item.{Item}
 use Rattle.mc_item.specs.declared.op.Op.{Op}
 use Rattle.mc_item.specs.declared.answer.Answer.{Answer}
-use Rattle.mc_item.specs.declared.tally.Tally.{Tally}
+use Rattle.mc_item.specs.declared.op_stats.OpStats.{OpStats}
 use Rattle.mc_store.specs.declared.shard.Shard.{Shard}
 use Rattle.mc_store.specs.State.{Used, Items, Turn, State, costs}
 use Rattle.mc_store.specs.Step.{IsStep}
@@ -17,7 +17,8 @@ AllBelow items number = (key : List ℕ) (used : Used) → get items key ≡ Som
 abbrev pub Shows : List (List ℕ × Item) → Items → Type 0
 Shows [] items = items ≡ empty
 Shows (e ∷ es) items =
-    (number : ℕ) × (get items e.0 ≡ Some (record { item = e.1; number = number })) × AllBelow (remove items e.0) number × Shows es (remove items e.0)
+    (number : ℕ) × (get items e.0 ≡ Some (record { item = e.1; number = number })) × AllBelow (remove items e.0) number
+    × Shows es (remove items e.0)
 
 -- what a shard holds: the list, the turns, what the items may cost, its numbers, and its counts
 pub record ShardContents : Type 0 where
@@ -30,7 +31,7 @@ pub record ShardContents : Type 0 where
   pub given : ℕ
   pub index : ℕ
   pub shards : ℕ
-  pub tally : Tally
+  pub op_stats : OpStats
   pub evicted : ℕ
 
 abbrev pub held_of : Shard → ShardContents
@@ -44,7 +45,7 @@ held_of shard = record {
   given = shard.given;
   index = shard.index;
   shards = shard.shards;
-  tally = shard.tally;
+  op_stats = shard.op_stats;
   evicted = shard.items.evicted;
 }
 
@@ -61,7 +62,7 @@ pub record Keeps (held : ShardContents) (state : State) : Type 0 where
   pub given : state.given ≡ held.given
   pub index : state.index ≡ held.index
   pub shards : state.shards ≡ held.shards
-  pub tally : state.tally ≡ held.tally
+  pub op_stats : state.op_stats ≡ held.op_stats
   pub evicted : state.evicted ≡ held.evicted
   pub place : state.index < state.shards
 
@@ -70,4 +71,5 @@ IsShard shard state = Keeps (held_of shard) state
 
 -- From whatever state the shard showed, the step is one that the protocol allows.
 abbrev pub Steps : Shard → Op → ℕ → Answer → Shard → Type 0
-Steps old op moment answer new = (state : State) → IsShard old state → (after : State) × IsStep state op moment answer after × IsShard new after
+Steps old op moment answer new =
+    (state : State) → IsShard old state → (after : State) × IsStep state op moment answer after × IsShard new after

@@ -1,9 +1,11 @@
-//! The hash by which a shard finds its items: a polynomial at a secret point, modulo the prime 2^61 - 1.
+//! The hash by which a shard finds its items: a polynomial at a secret point, modulo the prime 2^61
+//! - 1.
 //!
-//! Strangers choose the keys, and must not choose which keys meet in one place of the map. So each seven bytes of a key
-//! are a coefficient of a polynomial, whose value at a secret point stands for the key: two keys of at most 250 bytes have
-//! one value at no more than 36 of the 2^60 points. The value is then scaled and shifted by two more secret words, so that
-//! values that differ meet in one place no oftener than twice what chance gives. Who doesn't know the words can't do better,
+//! Strangers choose the keys, and must not choose which keys meet in one place of the map. So each
+//! seven bytes of a key are a coefficient of a polynomial, whose value at a secret point stands for
+//! the key: two keys of at most 250 bytes have one value at no more than 36 of the 2^60 points. The
+//! value is then scaled and shifted by two more secret words, so that values that differ meet in
+//! one place no oftener than twice what chance gives. Who doesn't know the words can't do better,
 //! whichever keys he takes.
 ghost use Rattle.std.specs.Prelude.{◌≡◌, ◌+◌, ◌*◌, ◌%◌, ◌^◌, ◌<◌, ◌≤◌, length};
 ghost use Rattle.mc_store.specs.internal.Polynomial as polynomial;
@@ -37,8 +39,9 @@ pub struct PolynomialHasher {
 }
 
 impl PolynomialState {
-    /// Draws the three words from the random state: SipHash under its secret keys, of three numbers. The polynomial begins
-    /// with the coefficient 1, so that keys of different lengths have different polynomials.
+    /// Draws the three words from the random state: SipHash under its secret keys, of three
+    /// numbers. The polynomial begins with the coefficient 1, so that keys of different lengths
+    /// have different polynomials.
     pub fn new(random: RandomState) -> PolynomialState
         ensures value { result.initial.value ≡ 1 }
         ensures point { result.initial.point ≡ drawn random 0 }
@@ -67,7 +70,8 @@ impl BuildHasher for PolynomialState {
     }
 }
 
-/// A product that is made smaller, with the same rest modulo the prime: what passes 61 bits counts once for each 2^61.
+/// A product that is made smaller, with the same rest modulo the prime: what passes 61 bits counts
+/// once for each 2^61.
 #[inline(always)]
 fn folded(value: u64, word: u64) -> u64
     requires { word < 2 ^ 60 }
@@ -100,7 +104,8 @@ fn read_u64(bytes: &[u8], at: usize) -> u64
     }
 }
 
-/// The last coefficient: what is left of the bytes, and how many they are. Reads overlap, so that there is no loop.
+/// The last coefficient: what is left of the bytes, and how many they are. Reads overlap, so that
+/// there is no loop.
 #[inline(always)]
 fn last_coefficient(rest: &[u8]) -> u64
     requires { length rest.now ≤ 7 }

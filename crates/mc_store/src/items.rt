@@ -15,7 +15,7 @@ use crate::access::{Access, Use};
 use crate::hashing::PolynomialState;
 use lru::LruCache;
 use mc_item::{Item, NoMemory, PackedExpiry, Reserve};
-use mc_sizes::{GREATEST_BUDGET, LEAST_BUDGET};
+use mc_sizes::{MAX_BUDGET, MIN_BUDGET};
 use mc_wire::{KEY_LIMIT, Key, LATEST_MOMENT};
 use std::alloc::{AllocError, Global};
 use std::hash::RandomState;
@@ -26,7 +26,7 @@ use std::num::NonZeroUsize;
 type Cache = LruCache<Key, Item, PolynomialState>;
 
 /// No item costs less: its key has a byte.
-const LEAST_COST: usize = ITEM_OVERHEAD + 1;
+const MIN_COST: usize = ITEM_OVERHEAD + 1;
 
 /// The items of a shard, the most recently used first, which cost no more than its budget together.
 #[derive(Drop)]
@@ -38,8 +38,8 @@ pub struct Items {
     budget: usize,
     /// How many went to make room for others. The count starts anew after 2^64 - 1.
     evicted: u64,
-    /// For a copy of a value that is read, where it can't be shared. None is left once it was used, and where no memory was
-    /// found for it.
+    /// For a copy of a value that is read, where it can't be shared. None is left once it was used,
+    /// and where no memory was found for it.
     reserve: Option<Reserve>,
 }
 
@@ -74,7 +74,8 @@ pub fn is_other(compare: Option<u64>, unique: u64) -> bool
     }
 }
 
-/// What an item costs with a key of `key_length` bytes and a value of `value_length` bytes, in bytes.
+/// What an item costs with a key of `key_length` bytes and a value of `value_length` bytes, in
+/// bytes.
 pub fn cost_of(key_length: usize, value_length: usize) -> usize
     requires { key_length + value_length ≤ 2 ^ 32 }
     ensures { result ≡ key_length + value_length + item_overhead }
@@ -93,7 +94,8 @@ fn freed_by(old: &Option<Item>, key_length: usize) -> usize
     }
 }
 
-/// Takes out the least recently used items, as long as the rest cost more than the budget; gives what the rest cost.
+/// Takes out the least recently used items, as long as the rest cost more than the budget; gives
+/// what the rest cost.
 fn evict(cache: &mut Cache, cost: usize, budget: usize) -> usize
     requires { cost ≡ listed_cost cache.old.entries }
     ensures left { cache.new ≡ lru_cache (within budget cache.old.entries) cache.old.cap }
@@ -144,7 +146,8 @@ fn use_item(cache: &mut Cache, key: &Key, new: Use)
     }
 }
 
-/// Gives the item under the key as it is, and makes it the most recently used one and what it becomes by the access.
+/// Gives the item under the key as it is, and makes it the most recently used one and what it
+/// becomes by the access.
 #[inline(always)]
 fn read_item(
     cache: &mut Cache,
@@ -190,7 +193,8 @@ fn mark_stale(cache: &mut Cache, key: &Key, new: Staling)
     }
 }
 
-/// Gives the item under the key another expiry, and notes in it whether a client was told to recompute it. It stays where it is.
+/// Gives the item under the key another expiry, and notes in it whether a client was told to
+/// recompute it. It stays where it is.
 fn mark_seen(cache: &mut Cache, key: &Key, new: Use)
     ensures marked { (item : TheItem) → lookup (same_key key.now) cache.old.entries ≡ Some item →
         cache.new ≡
@@ -206,15 +210,15 @@ fn mark_seen(cache: &mut Cache, key: &Key, new: Use)
 }
 
 impl Items {
-    /// No items, which may cost `budget` bytes together. It takes no room for them before they come. They are hashed under
-    /// words that are drawn from the random state.
+    /// No items, which may cost `budget` bytes together. It takes no room for them before they
+    /// come. They are hashed under words that are drawn from the random state.
     pub fn new(alloc: Global, hasher: RandomState, budget: usize) -> Result<Items, AllocError>
-        requires least { LEAST_BUDGET ≤ budget }
-        requires most { budget ≤ GREATEST_BUDGET }
+        requires least { MIN_BUDGET ≤ budget }
+        requires most { budget ≤ MAX_BUDGET }
         ensures { IfOk result
             (λ items. items ≡ record { entries = []; budget = budget; evicted = 0 }) }
     {
-        let capacity = NonZeroUsize::new(budget / LEAST_COST + 1).unwrap();
+        let capacity = NonZeroUsize::new(budget / MIN_COST + 1).unwrap();
         let mut cache = LruCache::unbounded_with_hasher(alloc, PolynomialState::new(hasher))?;
         cache.resize(capacity);
         Ok(Items {
@@ -244,8 +248,8 @@ impl Items {
     /// What the items may cost together, in bytes.
     pub fn budget(&self) -> usize
         ensures budget { result ≡ self.now.budget }
-        ensures least { LEAST_BUDGET ≤ result }
-        ensures most { result ≤ GREATEST_BUDGET }
+        ensures least { MIN_BUDGET ≤ result }
+        ensures most { result ≤ MAX_BUDGET }
     {
         self.budget
     }
@@ -271,8 +275,9 @@ impl Items {
         self.cache.peek(key)
     }
 
-    /// Gives the item under the key as it is, unless it is dead, and makes it the most recently used one and what it becomes
-    /// by the access. A dead item is taken out. Where memory is refused nothing changes.
+    /// Gives the item under the key as it is, unless it is dead, and makes it the most recently
+    /// used one and what it becomes by the access. A dead item is taken out. Where memory is
+    /// refused nothing changes.
     #[inline(always)]
     pub fn read(&mut self, key: &Key, access: Access) -> Result<Option<Item>, NoMemory>
         requires { access.time ≤ LATEST_MOMENT }
@@ -304,8 +309,8 @@ impl Items {
         self.remove(key);
     }
 
-    /// The same as `read`, without a reserve. The item is looked up twice, since its copy may be refused, and then nothing
-    /// may have changed.
+    /// The same as `read`, without a reserve. The item is looked up twice, since its copy may be
+    /// refused, and then nothing may have changed.
     #[cold]
     #[inline(never)]
     fn read_after_copy(&mut self, key: &Key, access: Access) -> Result<Option<Item>, NoMemory>
@@ -323,14 +328,14 @@ impl Items {
             return Ok(None);
         }
         let item = old.clone()?;
-        self.make_first(key, access.use_of(&item));
+        self.promote(key, access.use_of(&item));
         Ok(Some(item))
     }
 
-    /// Gives the item under the key as it is, unless it is dead, and makes it what it becomes by the access, but for what tells of
-    /// its use: its place in the order, its last access, and whether it was fetched. A dead item is taken out. Where memory is
-    /// refused nothing changes.
-    pub fn see(&mut self, key: &Key, access: Access) -> Result<Option<Item>, NoMemory>
+    /// Gives the item under the key as it is, unless it is dead, and makes it what it becomes by
+    /// the access, but for what shows its use: its place in the order, its last access, and
+    /// whether it was fetched. A dead item is taken out. Where memory is refused nothing changes.
+    pub fn get_without_touch(&mut self, key: &Key, access: Access) -> Result<Option<Item>, NoMemory>
         requires { access.time ≤ LATEST_MOMENT }
         ensures item { IfOk result (λ item. item ≡ met access key.now self.old.entries) }
         ensures seen { OnOk result (self.new ≡ seen_shelf access key.now self.old) }
@@ -368,9 +373,9 @@ impl Items {
         self.cost = 0;
     }
 
-    /// Puts the item under the key as the most recently used one. Then the least recently used ones go, as long as the
-    /// items cost more than the budget. Where memory is refused nothing changes; over an item that is there it never
-    /// is. Each that went is counted.
+    /// Puts the item under the key as the most recently used one. Then the least recently used ones
+    /// go, as long as the items cost more than the budget. Where memory is refused nothing changes;
+    /// over an item that is there it never is. Each that went is counted.
     pub fn put(&mut self, key: Key, item: Item) -> Result<(), NoMemory>
         requires fits { FitsBudget self.old.budget key item.value }
         ensures put { OnOk result (self.new ≡ put_in key item self.old) }
@@ -392,7 +397,7 @@ impl Items {
     }
 
     /// Makes the item under the key the most recently used one, and what it becomes by that.
-    pub fn make_first(&mut self, key: &Key, new: Use)
+    pub fn promote(&mut self, key: &Key, new: Use)
         ensures { (item : TheItem) → lookup (same_key key.now) self.old.entries ≡ Some item →
             self.new ≡
             record self.old {
@@ -426,8 +431,8 @@ impl Items {
         mark_stale(&mut self.cache, key, new);
     }
 
-    /// Gives the item under the key another expiry, and notes in it whether a client was told to recompute it. It stays where it
-    /// is.
+    /// Gives the item under the key another expiry, and notes in it whether a client was told to
+    /// recompute it. It stays where it is.
     fn mark_seen(&mut self, key: &Key, new: Use)
         ensures { (item : TheItem) → lookup (same_key key.now) self.old.entries ≡ Some item →
             self.new ≡

@@ -6,7 +6,8 @@ ghost use Rattle.mc_store.specs.RunLaws.{RunsAreOrderly, RunsShareNoUnique, Runs
 
 use crate::ITEM_OVERHEAD;
 
-/// Does nothing: its contract states what follows from the step, whatever the operations and their moments.
+/// Does nothing: its contract states what follows from the step, whatever the operations and their
+/// moments.
 pub fn every_step()
     ensures lawful { AnswersAreLawful }
     ensures determined { StepsAgree }

@@ -5,7 +5,7 @@ ghost use Rattle.std.specs.Prelude.{◌≡◌, ◌+◌, ◌*◌, ◌^◌, ◌<�
 ghost use Rattle.std.specs.Option.{option_copied, IsSome};
 ghost use Rattle.std.specs.Map.{lookup};
 ghost use Rattle.mc_wire.specs.SameKey.{same_key};
-ghost use Rattle.mc_wire.specs.declared.TheConstants.{GREATEST_VALUE_LIMIT, LATEST_MOMENT};
+ghost use Rattle.mc_wire.specs.declared.TheConstants.{MAX_VALUE_LIMIT, LATEST_MOMENT};
 ghost use Rattle.mc_item.specs.declared.answer.Answer.{Answer as TheAnswer};
 ghost use Rattle.mc_item.specs.declared.answer.MetaDone.{MetaDone as TheDone};
 ghost use Rattle.mc_item.specs.Kind.{kind_of, key_of, is_lawful};
@@ -24,9 +24,9 @@ mod storing;
 use crate::access;
 use crate::items::{Items, cost_of};
 use crate::shard::reclaiming::make_turn;
-use mc_item::{Answer, Counting, Item, MetaDone, Op, PackedExpiry, Status, Tally, Value};
-use mc_sizes::{GREATEST_BUDGET, LEAST_BUDGET};
-use mc_wire::{GREATEST_VALUE_LIMIT, Key, LATEST_MOMENT};
+use mc_item::{Answer, Counting, Item, MetaDone, Op, OpStats, PackedExpiry, Status, Value};
+use mc_sizes::{MAX_BUDGET, MIN_BUDGET};
+use mc_wire::{Key, LATEST_MOMENT, MAX_VALUE_LIMIT};
 use std::alloc::{AllocError, Global};
 use std::collections::VecDeque;
 use std::hash::RandomState;
@@ -35,25 +35,26 @@ use thiserror::Error;
 
 /// Why there is no shard.
 #[derive(Clone, Copy, Debug, Error)]
-pub enum StoreFault {
+pub enum StoreError {
     #[error("no memory is left for the shard")]
     Memory,
 }
 
-impl From<AllocError> for StoreFault {
-    ghost use Rattle.mc_store.specs.declared.shard.StoreFault.TheVariants.{Memory};
+impl From<AllocError> for StoreError {
+    ghost use Rattle.mc_store.specs.declared.shard.StoreError.TheVariants.{Memory};
 
     ghost from_gives = { λ _ fault. fault ≡ Memory };
 
-    fn from(_error: AllocError) -> StoreFault {
-        StoreFault::Memory
+    fn from(_error: AllocError) -> StoreError {
+        StoreError::Memory
     }
 }
 
 /// One shard: items by key, in the order of their last use.
 pub struct Shard {
     items: Items,
-    /// The turns of items with an expiry, the next one first: the key of each, and the unique that its item had then.
+    /// The turns of items with an expiry, the next one first: the key of each, and the unique that
+    /// its item had then.
     turns: VecDeque<(Key, u64)>,
     /// A value has at most this many bytes.
     limit: usize,
@@ -66,8 +67,8 @@ pub struct Shard {
     index: u64,
     shards: u64,
     /// What it was asked since its counts began.
-    tally: Tally,
-    ghost limited: { limit ≤ GREATEST_VALUE_LIMIT },
+    op_stats: OpStats,
+    ghost limited: { limit ≤ MAX_VALUE_LIMIT },
     ghost timely: { time ≤ LATEST_MOMENT },
     ghost place: { index < shards },
 }
@@ -84,7 +85,7 @@ impl Drop for Shard {
             given: _given,
             index: _index,
             shards: _shards,
-            tally: _tally,
+            op_stats: _op_stats,
         } = self;
     }
 }
@@ -95,9 +96,9 @@ impl Shard {
     ghost use Rattle.mc_store.specs.Shard.{IsShard, Steps, held_of};
     ghost use Rattle.mc_store.specs.internal.Parts.{Acts, Does, answered};
 
-    /// An empty shard: the one at `index` of `shards` shards. Its items may cost `budget` bytes together, its
-    /// values have at most `limit` bytes each, and `given` uniques were given before. It takes no room for its items
-    /// before they come.
+    /// An empty shard: the one at `index` of `shards` shards. Its items may cost `budget` bytes
+    /// together, its values have at most `limit` bytes each, and `given` uniques were given before.
+    /// It takes no room for its items before they come.
     pub fn new(
         alloc: Global,
         hasher: RandomState,
@@ -106,11 +107,11 @@ impl Shard {
         budget: usize,
         given: u64,
         limit: usize,
-    ) -> Result<Shard, StoreFault>
+    ) -> Result<Shard, StoreError>
         requires place { index < shards }
-        requires least_budget { LEAST_BUDGET ≤ budget }
-        requires most_budget { budget ≤ GREATEST_BUDGET }
-        requires most_limit { limit ≤ GREATEST_VALUE_LIMIT }
+        requires least_budget { MIN_BUDGET ≤ budget }
+        requires most_budget { budget ≤ MAX_BUDGET }
+        requires most_limit { limit ≤ MAX_VALUE_LIMIT }
         ensures { IfOk result
             (λ shard. IsShard shard (empty_state index shards budget given limit)) }
     {
@@ -124,12 +125,12 @@ impl Shard {
             given,
             index: index as u64,
             shards: shards as u64,
-            tally: Tally::new(),
+            op_stats: OpStats::new(),
         })
     }
 
-    /// The same, where no unique was given before; the hash of its keys has a secret of its own. It fails too where the system
-    /// gives no random bytes.
+    /// The same, where no unique was given before; the hash of its keys has a secret of its own. It
+    /// fails too where the system gives no random bytes.
     pub fn empty<R: RandomSource>(
         rt: &R,
         alloc: Global,
@@ -137,15 +138,15 @@ impl Shard {
         shards: usize,
         budget: usize,
         limit: usize,
-    ) -> Result<Shard, StoreFault>
+    ) -> Result<Shard, StoreError>
         requires place { index < shards }
-        requires least_budget { LEAST_BUDGET ≤ budget }
-        requires most_budget { budget ≤ GREATEST_BUDGET }
-        requires most_limit { limit ≤ GREATEST_VALUE_LIMIT }
+        requires least_budget { MIN_BUDGET ≤ budget }
+        requires most_budget { budget ≤ MAX_BUDGET }
+        requires most_limit { limit ≤ MAX_VALUE_LIMIT }
         ensures { IfOk result (λ shard. IsShard shard (empty_state index shards budget 0 limit)) }
     {
         let Ok(hasher) = RandomState::new(rt) else {
-            return Err(StoreFault::Memory);
+            return Err(StoreError::Memory);
         };
         Shard::new(alloc, hasher, index, shards, budget, 0, limit)
     }
@@ -158,7 +159,7 @@ impl Shard {
         self.arrive(moment);
         let counting = Counting::of(&op, self.index == 0, self.makes(&op));
         let answer = self.answer(alloc, op);
-        self.tally.count_in(counting, Status::of(&answer));
+        self.op_stats.count_in(counting, Status::of(&answer));
         answer
     }
 
@@ -242,10 +243,10 @@ impl Shard {
     }
 
     /// What it was asked since its counts began, and how often each came to what.
-    pub fn tally(&self) -> Tally
-        ensures { (state : State) → IsShard self.now state → result ≡ state.tally }
+    pub fn op_stats(&self) -> OpStats
+        ensures { (state : State) → IsShard self.now state → result ≡ state.op_stats }
     {
-        self.tally
+        self.op_stats
     }
 
     /// How many items went to make room for others since its counts began.
@@ -311,7 +312,8 @@ impl Shard {
         }
     }
 
-    /// The unique that an item is given: the client's, or else the shard's next one, where that fits 64 bits.
+    /// The unique that an item is given: the client's, or else the shard's next one, where that
+    /// fits 64 bits.
     fn unique_for(&self, token: Option<u64>) -> Option<u64>
         ensures unique { result ≡
             unique_for token (self.now.index + 1 + self.now.shards * self.now.given) }
@@ -336,10 +338,10 @@ impl Shard {
         }
     }
 
-    /// Whether a value of `size` bytes is too large: it passes the limit, or its item would cost more than the
-    /// budget alone.
+    /// Whether a value of `size` bytes is too large: it passes the limit, or its item would cost
+    /// more than the budget alone.
     fn is_too_large(&self, key: &Key, size: usize) -> bool
-        requires { size ≤ 2 * GREATEST_VALUE_LIMIT }
+        requires { size ≤ 2 * MAX_VALUE_LIMIT }
         ensures { result ≡
             (nat_lt self.now.limit size ||
             nat_lt self.now.items.budget (length key.now + size + item_overhead)) }
@@ -354,8 +356,9 @@ impl Shard {
         access::expiry_from(exptime, old, self.time)
     }
 
-    /// Puts the item under the key as the most recently used one, with a new unique, which it answers. Then two turns are
-    /// looked at, and the item gets its own. Where memory is refused, for the item or for its turn, nothing changes.
+    /// Puts the item under the key as the most recently used one, with a new unique, which it
+    /// answers. Then two turns are looked at, and the item gets its own. Where memory is refused,
+    /// for the item or for its turn, nothing changes.
     fn write(&mut self, key: Key, mut item: Item, token: Option<u64>) -> Result<u64, Answer>
         requires fits { FitsBudget self.old.items.budget key item.value }
         ensures does { (reply : ℕ → TheAnswer) →
@@ -384,7 +387,8 @@ impl Shard {
         Ok(unique)
     }
 
-    /// The same, and what `ms` and `ma` show of it; the number is what they tell of the value.
+    /// Writes as `write` does, and returns what `ms` and `ma` show of the item. The number is what
+    /// they show of its value.
     fn write_done(
         &mut self,
         key: Key,
@@ -416,7 +420,8 @@ impl Shard {
     }
 }
 
-/// An item with this value that nobody fetched, and of which nothing is marked. It has no unique yet.
+/// An item with this value that nobody fetched, and of which nothing is marked. It has no unique
+/// yet.
 fn fresh_item(value: Value, flags: u32, expiry: PackedExpiry) -> Item
     ensures { result ≡
         record {

@@ -3,6 +3,7 @@ pub mod Orders
 pub mod Calling
 pub mod Credit
 pub mod Carrying
+pub mod Recording
 pub mod Ending
 pub mod Serving
 pub mod Sessions

@@ -2,7 +2,9 @@ pub mod Workers
 pub mod Working
 pub mod Serving
 pub mod Credit
+pub mod Routes
 pub mod Ending
+pub mod Records
 pub mod Service
 pub mod Session
 pub mod internal

@@ -1,51 +1,62 @@
 -- A seat that serves lines step by step, one after another.
 use Rattle.std.specs.Prelude.{ℕ, ◌≡◌, Bool, Option, Some, None, IsSomeAnd, length}
-use Rattle.mc_wire.specs.Outlet.{Sight}
+use Rattle.mc_wire.specs.Sink.{Sight}
 use Rattle.mc_sizes.specs.Sizes.{rules_of}
-use Rattle.mc_ring.specs.Lane.{Near}
+use Rattle.mc_ring.specs.Channel.{Near}
 use Rattle.mc_ring.specs.Ends.{Ends}
-use Rattle.mc_seat.specs.declared.service.Service.{Service}
-use Rattle.mc_seat.specs.declared.service.LineStep.{LineStep}
-use Rattle.mc_seat.specs.declared.service.LineStep.TheVariants as stepped
-use Rattle.mc_seat.specs.Service.{IsNew}
+use Rattle.mc_seat.specs.declared.clerk.Clerk.{Ghosts}
+use Rattle.mc_seat.specs.declared.buffered_conn.BufferedConn.{BufferedConn}
+use Rattle.mc_seat.specs.declared.buffered_conn.LineStep.{LineStep}
+use Rattle.mc_seat.specs.declared.buffered_conn.LineStep.TheVariants as stepped
+use Rattle.mc_seat.specs.BufferedConn.{IsNew}
 use Rattle.mc_threads.specs.declared.session.Session.{Session}
+use Rattle.mc_threads.specs.Records.{RecordsPastOf}
 use Rattle.mc_threads.specs.Serving.{IsIdle}
 use Rattle.mc_threads.specs.Service.{IsServedBy, ServesSomeLine, WasServedBy}
 use Rattle.mc_command.specs.declared.rules.Rules.{Rules}
 
--- The seat's ends of its lanes.
-abbrev pub seat_ends : Session → Ends Near
-seat_ends session = session.courier.ends
+module _ {T C : Type 0} {g : Ghosts C T} where
+  -- The seat's ends of its channels.
+  abbrev pub seat_ends : Session T C g → Ends Near
+  seat_ends session = session.shard_link.ends
 
--- how many places each of its rings has
-abbrev pub seat_ring : Session → ℕ
-seat_ring session = session.courier.places
+  -- how many places each of its rings has
+  abbrev pub seat_ring : Session T C g → ℕ
+  seat_ring session = session.shard_link.places
 
--- The room for a line is as new, or is made for this number of shards, for these rules and with this window.
-abbrev pub IsReady : ℕ → Rules → ℕ → Session → Option Service → Type 0
-IsReady shards rules window session None = (session.sizes.shards ≡ shards) × (rules_of session.sizes ≡ rules) × (session.sizes.window ≡ window)
-IsReady shards rules window session (Some service) = IsNew shards rules window service
+  -- The room for a line is as new, or is made for this number of shards, for these rules and with this window.
+  abbrev pub IsReady : ℕ → Rules → ℕ → Session T C g → Option BufferedConn → Type 0
+  IsReady shards rules window session None =
+      (session.sizes.shards ≡ shards) × (rules_of session.sizes ≡ rules) × (session.sizes.window ≡ window)
+  IsReady shards rules window session (Some buffered_conn) = IsNew shards rules window buffered_conn
 
--- It serves no line, and may begin to serve one, for these rules and with this window.
-pub record IsVacant (rules : Rules) (window : ℕ) (session : Session) : Type 0 where
-  pub ready : IsReady (length (seat_ends session).lanes) rules window session session.service
-  pub idle : IsIdle session.courier.under_way.items
+  -- It serves no line, and may begin to serve one, for these rules and with this window.
+  pub record IsVacant (rules : Rules) (window : ℕ) (session : Session T C g) : Type 0 where
+    pub ready : IsReady (length (seat_ends session).channels) rules window session session.buffered_conn
+    pub idle : IsIdle session.shard_link.under_way.items
+    pub recorded : RecordsPastOf session.shard_link (seat_ends session)
 
--- It serves a line, which began so and is so now, since its ends were as before.
-abbrev pub IsServingLine : ℕ → Rules → (ℕ → Type 0) → Sight → Sight → Ends Near → Session → Type 0
-IsServingLine shards rules may_answer begin now before session = IsSomeAnd session.service (IsServedBy shards rules may_answer begin now before session.courier)
+  -- It serves a line, which began so and is so now, since its ends were as before.
+  abbrev pub IsServingLine : ℕ → Rules → (ℕ → Type 0) → Sight → Sight → Ends Near → Session T C g → Type 0
+  IsServingLine shards rules may_answer begin now before session =
+      IsSomeAnd session.buffered_conn (IsServedBy shards rules may_answer begin now before session.shard_link)
 
--- It has served the line, and nothing is under way.
-abbrev pub HasServed : ℕ → Rules → (ℕ → Type 0) → Sight → Sight → Ends Near → Session → ℕ → Bool → Type 0
-HasServed shards rules may_answer begin now before session commands broke =
-    IsSomeAnd session.service (λ service. WasServedBy shards rules may_answer begin now before session.courier service commands broke)
+  -- It has served the line, and nothing is under way.
+  abbrev pub HasServed : ℕ → Rules → (ℕ → Type 0) → Sight → Sight → Ends Near → Session T C g → ℕ → Bool → Type 0
+  HasServed shards rules may_answer begin now before session commands broke =
+      IsSomeAnd session.buffered_conn
+      (λ buffered_conn. WasServedBy shards rules may_answer begin now before session.shard_link buffered_conn commands
+      broke)
 
--- What a step says of the line.
-abbrev pub StepSays : LineStep → ℕ → Rules → (ℕ → Type 0) → Sight → Sight → Ends Near → Session → Type 0
-StepSays stepped.Did shards rules may_answer begin now before session = IsServingLine shards rules may_answer begin now before session
-StepSays stepped.Waits shards rules may_answer begin now before session = IsServingLine shards rules may_answer begin now before session
-StepSays (stepped.Ended served) shards rules may_answer begin now before session = HasServed shards rules may_answer begin now before session served.commands served.broke
+  -- What a step says of the line.
+  abbrev pub StepSays : LineStep → ℕ → Rules → (ℕ → Type 0) → Sight → Sight → Ends Near → Session T C g → Type 0
+  StepSays stepped.Did shards rules may_answer begin now before session =
+      IsServingLine shards rules may_answer begin now before session
+  StepSays stepped.Waits shards rules may_answer begin now before session =
+      IsServingLine shards rules may_answer begin now before session
+  StepSays (stepped.Ended served) shards rules may_answer begin now before session =
+      HasServed shards rules may_answer begin now before session served.commands served.broke
 
--- It serves some line.
-abbrev pub MayStep : Session → Type 0
-MayStep session = IsSomeAnd session.service (ServesSomeLine session.courier)
+  -- It serves some line.
+  abbrev pub MayStep : Session T C g → Type 0
+  MayStep session = IsSomeAnd session.buffered_conn (ServesSomeLine session.shard_link)

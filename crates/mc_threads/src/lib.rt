@@ -1,12 +1,13 @@
-//! Seats and shards in threads of their own: what a seat's thread does on its lanes, and what a worker's does.
+//! Seats and shards in threads of their own: what a seat's thread does on its channels, and what a
+//! worker's does.
 #![tactic(auto)]
 
-mod courier;
 mod session;
+mod shard_link;
 mod workers;
 mod working;
 
-pub use courier::Courier;
 pub use session::Session;
-pub use workers::make_workers;
+pub use shard_link::ShardLink;
+pub use workers::{make_recorded_workers, make_workers};
 pub use working::Working;

@@ -3,53 +3,46 @@ ghost use Rattle.mc_command.specs.declared.rules.Rules.{Rules};
 ghost use Rattle.std.specs.Prelude.{◌≡◌, ◌<◌, ◌↔◌, ◌⊎◌, ℕ, Some, IfOk, IsSomeAnd, IsTrue, OnErr, OnOk, length};
 ghost use Rattle.std.specs.Bool.{OnFalse, OnTrue};
 ghost use Rattle.mc_sizes.specs.Sizes.{SuitLines, rules_of};
+ghost use Rattle.mc_threads.specs.Routes.{AreOnRoutes, IsUpToDate};
 
-use crate::courier::Courier;
-use mc_ring::SeatEnds;
-use mc_seat::{Clock, Line, LineStep, Rooms, Service};
+use crate::shard_link::ShardLink;
+use mc_ring::{SeatEnds, Token};
+use mc_seat::{BufferPool, BufferedConn, Clerk, Clock, LineStep, Transport};
 use mc_sizes::Sizes;
 use mc_wake::Wakers;
 use std::alloc::{AllocError, Global};
 
-/// What a seat needs to serve lines, one after another. Until the first line comes it has its ends of the lanes alone; the room
-/// that a line is served in is made then, and kept for the lines that follow.
-pub struct Session {
+/// What a seat needs to serve lines, one after another. Until the first line comes it has its ends
+/// of the channels alone; the room that a line is served in is made then, and kept for the lines
+/// that follow. A clerk records what the lines' connections take.
+pub struct Session<T: Token = (), C: Clerk<T> = ()> {
     alloc: Global,
-    pub(crate) courier: Courier,
+    pub(crate) shard_link: ShardLink<T, C>,
     /// What the room is made for.
     sizes: Sizes,
     /// What lines are served by, once the first has come.
-    service: Option<Service>,
+    buffered_conn: Option<BufferedConn>,
     ghost suited: { SuitLines sizes },
-    ghost ring: { courier.places ≡ sizes.ring },
+    ghost ring: { shard_link.places ≡ sizes.ring },
 }
 
-impl Drop for Session {
+impl<T: Token + Drop, C: Clerk<T> + Drop> Drop for Session<T, C> {
     /// By hand, so that to let one go is one call for whoever holds it (docs/DECISIONS.md).
     fn drop(self) {
         let Session {
             alloc: _alloc,
-            courier: _courier,
+            shard_link: _shard_link,
             sizes: _sizes,
-            service: _service,
+            buffered_conn: _buffered_conn,
         } = self;
     }
 }
 
-impl Session {
-    ghost use Rattle.mc_wire.specs.Outlet.{Sight};
-    ghost use Rattle.mc_ring.specs.Lane.{Near};
-    ghost use Rattle.mc_ring.specs.Ends.{Ends};
-    ghost use Rattle.mc_conn.specs.Conn.{IsConn};
-    ghost use Rattle.mc_conn.specs.Told.{Told, IsAtRest, IsOver};
-    ghost use Rattle.mc_seat.specs.declared.service.Service.{Service};
-    ghost use Rattle.mc_seat.specs.Service.{IsNew, WaitsForLine};
-    ghost use Rattle.mc_threads.specs.Service.{AwaitsShards};
-    ghost use Rattle.mc_threads.specs.Ending.{EndsOne, StandsStill};
-    ghost use Rattle.mc_threads.specs.Serving.{AreCalled, IsIdle};
-    ghost use Rattle.mc_threads.specs.Session.{IsServingLine, IsVacant, MayStep, StepSays, seat_ends, seat_ring};
+impl Session<(), ()> {
+    ghost use Rattle.mc_threads.specs.Session.{IsVacant, seat_ends, seat_ring};
 
-    /// A seat that serves no line yet, over new ends of its lanes. The wakers are those of the shards.
+    /// A seat that serves no line yet, over new ends of its channels. The wakers are those of the
+    /// shards. Nothing is recorded.
     pub fn new(
         alloc: Global,
         ends: SeatEnds,
@@ -57,58 +50,99 @@ impl Session {
         sizes: Sizes,
     ) -> Result<Session, AllocError>
         requires sizes { SuitLines sizes }
-        requires width { length ends.lanes ≡ sizes.shards }
+        requires width { length ends.channels ≡ sizes.shards }
         ensures vacant { IfOk result
             (λ session. IsVacant (rules_of sizes) sizes.window session) }
         ensures ends { IfOk result (λ session. seat_ends session ≡ ends) }
         ensures ring { IfOk result (λ session. seat_ring session ≡ sizes.ring) }
     {
-        let courier = Courier::new(alloc, ends, shards, sizes.ring)?;
+        Session::recorded(alloc, ends, (), shards, sizes)
+    }
+}
+
+impl<T: Token + Drop, C: Clerk<T> + Drop> Session<T, C> {
+    ghost use Rattle.mc_wire.specs.Sink.{Sight};
+    ghost use Rattle.mc_ring.specs.Channel.{Near};
+    ghost use Rattle.mc_ring.specs.Ends.{Ends};
+    ghost use Rattle.mc_conn.specs.Conn.{IsConn};
+    ghost use Rattle.mc_conn.specs.Told.{Told, IsAtRest, IsOver};
+    ghost use Rattle.mc_seat.specs.declared.buffered_conn.BufferedConn.{BufferedConn};
+    ghost use Rattle.mc_seat.specs.BufferedConn.{IsNew, WaitsForLine};
+    ghost use Rattle.mc_threads.specs.Service.{AwaitsShards};
+    ghost use Rattle.mc_threads.specs.Ending.{EndsOne, StandsStill};
+    ghost use Rattle.mc_threads.specs.Serving.{AreCalled, IsIdle};
+    ghost use Rattle.mc_threads.specs.Records.{RecordsPastOf};
+    ghost use Rattle.mc_threads.specs.Session.{IsServingLine, IsVacant, MayStep, StepSays, seat_ends, seat_ring};
+
+    /// A seat that serves no line yet, with a clerk whose record is of these ends of its channels.
+    /// The wakers are those of the shards.
+    pub fn recorded(
+        alloc: Global,
+        ends: SeatEnds<T>,
+        clerk: C,
+        shards: Wakers,
+        sizes: Sizes,
+    ) -> Result<Session<T, C>, AllocError>
+        requires sizes { SuitLines sizes }
+        requires width { length ends.channels ≡ sizes.shards }
+        requires routes { C.keeps → AreOnRoutes (C.route clerk) ends }
+        requires past { C.keeps → IsUpToDate (C.work clerk) (C.answers clerk) ends }
+        ensures vacant { IfOk result
+            (λ session. IsVacant (rules_of sizes) sizes.window session) }
+        ensures ends { IfOk result (λ session. seat_ends session ≡ ends) }
+        ensures ring { IfOk result (λ session. seat_ring session ≡ sizes.ring) }
+    {
+        let shard_link = ShardLink::new(alloc, ends, clerk, shards, sizes.ring)?;
         Ok(Session {
             alloc,
-            courier,
+            shard_link,
             sizes,
-            service: None,
+            buffered_conn: None,
         })
     }
 
-    /// Begins to serve a line. Where memory for its room is refused nothing has changed, and it may be tried again.
+    /// Begins to serve a line. Where memory for its room is refused nothing has changed, and it may
+    /// be tried again.
     pub fn begin<K: Clock>(&mut self, clock: &K) -> Result<(), AllocError>
         ensures serving { OnOk result
             ((rules : Rules) (window : ℕ) (line : Sight) → IsVacant rules window self.old →
-            IsServingLine (length (seat_ends self.old).lanes) rules
+            IsServingLine (length (seat_ends self.old).channels) rules
             (K.may_answer clock.now) line line (seat_ends self.old) self.new) }
         ensures refused { OnErr result (self.new ≡ self.old) }
         ensures ends { seat_ends self.new ≡ seat_ends self.old }
         ensures ring { seat_ring self.new ≡ seat_ring self.old }
     {
-        let mut service = self.take_service()?;
-        service.take_all(clock);
-        self.service = Some(service);
+        let mut buffered_conn = self.take_buffered_conn()?;
+        self.shard_link.begin_line();
+        buffered_conn.take_all(clock);
+        self.buffered_conn = Some(buffered_conn);
         Ok(())
     }
 
     /// Takes out what lines are served by; where no line has come yet, it is made.
-    fn take_service(&mut self) -> Result<Service, AllocError>
-        ensures new { IfOk result (λ service.
+    fn take_buffered_conn(&mut self) -> Result<BufferedConn, AllocError>
+        ensures new { IfOk result (λ buffered_conn.
             (rules : Rules) (window : ℕ) → IsVacant rules window self.old →
-            IsNew (length (seat_ends self.old).lanes) rules window service) }
+            IsNew (length (seat_ends self.old).channels) rules window buffered_conn) }
         ensures refused { OnErr result (self.new ≡ self.old) }
-        ensures courier { self.new.courier ≡ self.old.courier }
+        ensures shard_link { self.new.shard_link ≡ self.old.shard_link }
     {
-        match self.service.take() {
-            Some(service) => Ok(service),
-            None => Service::new(self.alloc, self.sizes),
-        }
+        let Some(_) = &self.buffered_conn else {
+            return BufferedConn::new(self.alloc, self.sizes);
+        };
+        let Some(buffered_conn) = self.buffered_conn.take() else {
+            unreachable!()
+        };
+        Ok(buffered_conn)
     }
 
-    /// Serves the line a step further, as [`Courier::step`] does. At each moment at most `sizes.ring` of its pieces are under way
-    /// to each shard.
-    pub fn step<L: Line, K: Clock>(
+    /// Serves the line a step further, as [`ShardLink::step`] does. At each moment at most
+    /// `sizes.ring` of its pieces are under way to each shard.
+    pub fn step<L: Transport, K: Clock>(
         &mut self,
         line: &mut L,
         clock: &K,
-        rooms: &mut Rooms,
+        pool: &mut BufferPool,
     ) -> LineStep
         requires { MayStep self.old }
         ensures says { (shards : ℕ) (rules : Rules) (begin : Sight) (before : Ends Near) →
@@ -116,66 +150,71 @@ impl Session {
             self.old →
             StepSays result shards rules (K.may_answer clock.now) begin (L.sight line.new) before
             self.new }
-        // Where it waits, each shard of which replies are awaited was called after the last piece was sent.
+        // Where it waits, each shard of which replies are awaited was called after the last piece
+        // was sent.
         ensures called { result ≡ LineStep.Waits →
-            AreCalled self.new.courier.shards self.new.courier.under_way.items }
+            AreCalled self.new.shard_link.shards self.new.shard_link.under_way.items }
         // It waits for nothing but replies of shards, and once all have come for its line.
         ensures waits { result ≡ LineStep.Waits →
-            IsSomeAnd self.new.service (λ service.
-            AwaitsShards self.new.courier ⊎ WaitsForLine service) }
+            IsSomeAnd self.new.buffered_conn (λ buffered_conn.
+            AwaitsShards self.new.shard_link ⊎ WaitsForLine buffered_conn) }
         ensures ring { seat_ring self.new ≡ seat_ring self.old }
     {
-        let Some(service) = &mut self.service else {
+        let Some(buffered_conn) = &mut self.buffered_conn else {
             unreachable!()
         };
-        self.courier.step(service, line, clock, rooms)
+        self.shard_link.step(buffered_conn, line, clock, pool)
     }
 
-    /// Makes it ready for the next line, in the same room, where the last one has ended and nothing is under way; tells whether
-    /// it did.
+    /// Resets it for the next line if the last one has ended and nothing is under way, and returns
+    /// whether it did. The memory is kept.
     pub fn renew(&mut self) -> bool
-        ensures when { (service : Service) (told : Told) → self.old.service ≡ Some service →
-            IsConn service.conn told → IsTrue result ↔ (IsAtRest told × IsOver told) }
-        ensures vacant { IsTrue result → (service : Service) (told : Told) →
-            self.old.service ≡ Some service → IsConn service.conn told →
-            told.shards ≡ length (seat_ends self.old).lanes →
-            IsIdle self.old.courier.under_way.items → IsVacant told.rules told.window self.new }
+        ensures when { (buffered_conn : BufferedConn) (told : Told) → self.old.buffered_conn ≡
+            Some buffered_conn →
+            IsConn buffered_conn.conn told → IsTrue result ↔ (IsAtRest told × IsOver told) }
+        ensures vacant { IsTrue result → (buffered_conn : BufferedConn) (told : Told) →
+            self.old.buffered_conn ≡ Some buffered_conn → IsConn buffered_conn.conn told →
+            told.shards ≡ length (seat_ends self.old).channels →
+            IsIdle self.old.shard_link.under_way.items →
+            RecordsPastOf self.old.shard_link (seat_ends self.old) →
+            IsVacant told.rules told.window self.new }
         ensures ends { seat_ends self.new ≡ seat_ends self.old }
         ensures ring { seat_ring self.new ≡ seat_ring self.old }
     {
-        let Some(service) = &mut self.service else {
+        let Some(buffered_conn) = &mut self.buffered_conn else {
             return true;
         };
-        service.renew()
+        buffered_conn.renew()
     }
 
     /// How many shards there are.
     pub fn shards(&self) -> usize
-        ensures { result ≡ length (seat_ends self.now).lanes }
+        ensures { result ≡ length (seat_ends self.now).channels }
     {
-        self.courier.ends.shards()
+        self.shard_link.ends.shards()
     }
 
-    /// Sends the shard the End of its lane where there is room, and tells whether it did: nothing more comes there.
-    pub fn end_lane(&mut self, shard: usize) -> bool
-        requires { shard < length (seat_ends self.old).lanes }
+    /// Sends the shard the End of its channel if there is room, and returns whether it did. Nothing
+    /// more comes there.
+    pub fn end_channel(&mut self, shard: usize) -> bool
+        requires { shard < length (seat_ends self.old).channels }
         ensures ended { OnTrue result (EndsOne shard (seat_ends self.old) (seat_ends self.new)) }
         ensures full { OnFalse result (StandsStill (seat_ends self.old) (seat_ends self.new)) }
         ensures ring { seat_ring self.new ≡ seat_ring self.old }
     {
-        self.courier.end_lane(shard)
+        self.shard_link.end_channel(shard)
     }
 
-    /// The seat's ends of its lanes, once it serves no more.
-    pub fn into_ends(self) -> SeatEnds
+    /// The seat's ends of its channels, once it serves no more.
+    pub fn into_ends(self) -> SeatEnds<T>
         ensures { result ≡ seat_ends self }
     {
         let Session {
-            courier,
+            shard_link,
             alloc: _alloc,
             sizes: _sizes,
-            service: _service,
+            buffered_conn: _buffered_conn,
         } = self;
-        courier.into_ends()
+        shard_link.into_ends()
     }
 }

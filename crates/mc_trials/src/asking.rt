@@ -2,8 +2,8 @@
 //! each began and ended.
 use crate::chooser::Chooser;
 use crate::gates::Come;
-use mc_seat::{Line, LineFault};
-use mc_wire::{OutFault, Outlet};
+use mc_seat::{Transport, TransportError};
+use mc_wire::{Sink, SinkError};
 use std::alloc::{AllocError, Global};
 use std::sync::Arc;
 use std::sync::atomic::Ordering;
@@ -114,9 +114,9 @@ impl Asking {
     }
 }
 
-impl Outlet for Asking {
+impl Sink for Asking {
     ghost use Rattle.std.specs.Prelude.{None};
-    ghost use Rattle.mc_wire.specs.Outlet.{Untold};
+    ghost use Rattle.mc_wire.specs.Sink.{Untold};
 
     ghost sight = { λ line.
         record {
@@ -127,19 +127,19 @@ impl Outlet for Asking {
           failed = line.failed;
         } };
 
-    fn write(&mut self, bytes: &[u8]) -> Result<usize, OutFault> {
+    fn write(&mut self, bytes: &[u8]) -> Result<usize, SinkError> {
         if self.failed || self.talk.hear(bytes).is_err() {
             self.failed = true;
-            return Err(OutFault);
+            return Err(SinkError);
         }
         Ok(bytes.len())
     }
 }
 
-impl Line for Asking {
-    fn read(&mut self, room: &mut [u8]) -> Result<usize, LineFault> {
+impl Transport for Asking {
+    fn read(&mut self, room: &mut [u8]) -> Result<usize, TransportError> {
         if self.failed {
-            return Err(LineFault);
+            return Err(TransportError);
         }
         match self.talk.next() {
             Some(bytes) if bytes.len() <= room.len() => {
@@ -151,7 +151,7 @@ impl Line for Asking {
             }
             _ => {
                 self.failed = true;
-                Err(LineFault)
+                Err(TransportError)
             }
         }
     }

@@ -1,7 +1,7 @@
 //! Lines that return nothing before the other lines, or pieces at the gate, have arrived.
 use crate::gates::{Come, LOOKS};
-use mc_seat::{Line, LineFault};
-use mc_wire::{OutFault, Outlet};
+use mc_seat::{Transport, TransportError};
+use mc_wire::{Sink, SinkError};
 use std::alloc::{AllocError, Global};
 use std::sync::Arc;
 use std::sync::atomic::{AtomicU64, Ordering};
@@ -31,16 +31,16 @@ impl<L: Drop> Gathered<L> {
     }
 }
 
-impl<L: Outlet> Outlet for Gathered<L> {
+impl<L: Sink> Sink for Gathered<L> {
     ghost sight = { λ gathered. L.sight gathered.line };
 
-    fn write(&mut self, bytes: &[u8]) -> Result<usize, OutFault> {
+    fn write(&mut self, bytes: &[u8]) -> Result<usize, SinkError> {
         self.line.write(bytes)
     }
 }
 
-impl<L: Line> Line for Gathered<L> {
-    fn read(&mut self, room: &mut [u8]) -> Result<usize, LineFault> {
+impl<L: Transport> Transport for Gathered<L> {
+    fn read(&mut self, room: &mut [u8]) -> Result<usize, TransportError> {
         if !self.has_waited {
             self.has_waited = true;
             self.come.fetch_add(1, Ordering::SeqCst);

@@ -5,7 +5,7 @@ use crate::chooser::Chooser;
 use crate::gates::Come;
 use crate::measured::{SIZES, number};
 use crate::server::{MOMENT, Server};
-use mc_server::StillClock;
+use mc_server::FixedClock;
 use mc_sizes::Sizes;
 use mc_worker::OpenGate;
 use std::alloc::{AllocError, Global};
@@ -52,7 +52,7 @@ impl<
             ..SIZES
         };
         let lines = self.asking(asked)?;
-        let Some(served) = self.serve_by(lines, sizes, OpenGate, StillClock(MOMENT)) else {
+        let Some(served) = self.serve_by(lines, sizes, OpenGate, FixedClock(MOMENT)) else {
             return println!(rt; "refused");
         };
         for (number, one) in served.into_iter().enumerate() {

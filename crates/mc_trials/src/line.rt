@@ -1,8 +1,8 @@
 //! A line in memory that returns its input in pieces, takes its output in portions, and may fail.
 ghost use Rattle.std.specs.Prelude.{◌≤◌, None, length, take};
 
-use mc_seat::{Line, LineFault};
-use mc_wire::{OutFault, Outlet};
+use mc_seat::{Transport, TransportError};
+use mc_wire::{Sink, SinkError};
 use std::alloc::{AllocError, Global};
 
 /// Where a line fails, if it does: the index of the read or write, from 0.
@@ -114,9 +114,9 @@ impl MemoryLine {
     }
 }
 
-impl Outlet for MemoryLine {
+impl Sink for MemoryLine {
     ghost use Rattle.std.specs.Prelude.{take};
-    ghost use Rattle.mc_wire.specs.Outlet.{Listed};
+    ghost use Rattle.mc_wire.specs.Sink.{Listed};
 
     ghost sight = { λ line.
         record {
@@ -127,10 +127,10 @@ impl Outlet for MemoryLine {
           failed = line.failed;
         } };
 
-    fn write(&mut self, bytes: &[u8]) -> Result<usize, OutFault> {
+    fn write(&mut self, bytes: &[u8]) -> Result<usize, SinkError> {
         if self.failed || self.cutting.fault == Fault::Writing(self.writes) {
             self.failed = true;
-            return Err(OutFault);
+            return Err(SinkError);
         }
         self.writes = self.writes.wrapping_add(1);
         let count = bytes.len().min(self.cutting.portion.max(1));
@@ -139,17 +139,17 @@ impl Outlet for MemoryLine {
             Ok(()) => Ok(count),
             Err(_) => {
                 self.failed = true;
-                Err(OutFault)
+                Err(SinkError)
             }
         }
     }
 }
 
-impl Line for MemoryLine {
-    fn read(&mut self, room: &mut [u8]) -> Result<usize, LineFault> {
+impl Transport for MemoryLine {
+    fn read(&mut self, room: &mut [u8]) -> Result<usize, TransportError> {
         if self.failed || self.cutting.fault == Fault::Reading(self.reads) {
             self.failed = true;
-            return Err(LineFault);
+            return Err(TransportError);
         }
         let most = self.most();
         self.reads = self.reads.wrapping_add(1);

@@ -8,8 +8,8 @@
 //!                                                     commands each, on few keys; prints their histories
 //!
 //! For a load it prints the number of commands, the number of lines with wrong replies, the elapsed
-//! time, and the processor time before and after (proc_pid_stat(5)). `tools/bench/lines.py` evaluates
-//! this.
+//! time, and the processor time before and after (proc_pid_stat(5)). `tools/bench/lines.py`
+//! evaluates this.
 #![tactic(auto)]
 
 mod asking;

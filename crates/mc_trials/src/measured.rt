@@ -28,6 +28,7 @@ pub const SIZES: Sizes = Sizes {
     value: 1_048_576,
     line: 65_536,
     window: 256,
+    shutdown: false,
 };
 
 /// The parameters: number of lines, shards, commands of each line, and commands per read.

@@ -1,9 +1,9 @@
 //! Serving lines in memory, by threads or by a single thread.
 use crate::line::MemoryLine;
 use mc_doors::ServedLine;
-use mc_seat::{Clock, Line, Served};
+use mc_seat::{Clock, Served, Transport};
 use mc_serve::serve_over;
-use mc_server::{StillClock, serve_one};
+use mc_server::{FixedClock, serve_one};
 use mc_sizes::Sizes;
 use mc_worker::{Gate, OpenGate};
 use std::alloc::Global;
@@ -29,13 +29,13 @@ impl<R: Threads + Wait + RandomSource + Copy + Send + Drop + 'static> Server<R> 
         lines: Vec<MemoryLine>,
         sizes: Sizes,
     ) -> Option<Vec<ServedLine<MemoryLine>>> {
-        self.serve_by(lines, sizes, OpenGate, StillClock(MOMENT))
+        self.serve_by(lines, sizes, OpenGate, FixedClock(MOMENT))
     }
 
     /// Serves lines of any type, with this gate and clock, and returns them; `None` if the server
     /// refuses or can't be made.
     pub fn serve_by<
-        L: Line + Send + Drop + 'static,
+        L: Transport + Send + Drop + 'static,
         G: Gate + Send + Sync + Drop + 'static,
         K: Clock + Copy + Send + Drop + 'static,
     >(&self, lines: Vec<L>, sizes: Sizes, gate: G, clock: K) -> Option<Vec<ServedLine<L>>> {
@@ -53,6 +53,6 @@ impl<R: Threads + Wait + RandomSource + Copy + Send + Drop + 'static> Server<R> 
     /// Serves one line by a single thread; `None` if the server refuses or can't be made.
     pub fn serve_alone(&self, line: &mut MemoryLine, sizes: Sizes) -> Option<Served> {
         sizes.check().ok()?;
-        serve_one(&self.rt, self.alloc, line, sizes, &StillClock(MOMENT)).ok()
+        serve_one(&self.rt, self.alloc, line, sizes, &FixedClock(MOMENT)).ok()
     }
 }

@@ -8,7 +8,7 @@ use crate::server::{MOMENT, Server};
 use crate::text::split_line;
 use mc_command::Profile;
 use mc_doors::ServedLine;
-use mc_server::StillClock;
+use mc_server::FixedClock;
 use mc_sizes::Sizes;
 use mc_wire::number_u64;
 use mc_worker::OpenGate;
@@ -106,7 +106,7 @@ const NONE_STORED: &[u8] = b"END\r\n";
 const ADDED: [&[u8]; 2] = [b"STORED", b"NOT_STORED"];
 
 /// Upper bound of the reads, and of the writes, of a line that fails.
-const MOST_CALLS: usize = 200;
+const MAX_CALLS: usize = 200;
 
 /// Number of increments by each of two lines.
 const COUNTS: u64 = 1_000;
@@ -119,7 +119,7 @@ const MEETINGS: u64 = 100;
 const BOTH_LINES_AND_A_PIECE: u64 = 3;
 
 /// Number of keys of one letter on the longest line.
-const MOST_KEYS: usize = 32_766;
+const MAX_KEYS: usize = 32_766;
 
 /// The sizes of a server with this many shards, and with rings and windows of these sizes.
 fn sizes(shards: usize, ring: usize, window: usize) -> Sizes {
@@ -132,6 +132,7 @@ fn sizes(shards: usize, ring: usize, window: usize) -> Sizes {
         value: 1_048_576,
         line: 65_536,
         window,
+        shutdown: false,
     }
 }
 
@@ -235,7 +236,7 @@ impl<R: Threads + Wait + RandomSource + Copy + Send + Drop + 'static> Server<R> 
             let line = MemoryLine::of(self.alloc, input, Cutting::NONE)?;
             lines.push(Gathered::new(line, &come, all)?)?;
         }
-        let clock = StillClock(MOMENT);
+        let clock = FixedClock(MOMENT);
         let Some(served) = self.serve_by(lines, sizes(2, 64, 256), OpenGate, clock) else {
             return Ok(false);
         };
@@ -305,7 +306,7 @@ impl<R: Threads + Wait + RandomSource + Copy + Send + Drop + 'static> Server<R> 
         lines.push(Gathered::new(behind, &arrived, BOTH_LINES_AND_A_PIECE)?)?;
         let mut wanted = Vec::new(self.alloc);
         add_times(&mut wanted, NONE_STORED, before.saturating_add(1))?;
-        let Some(served) = self.serve_by(lines, sizes, gate, StillClock(MOMENT)) else {
+        let Some(served) = self.serve_by(lines, sizes, gate, FixedClock(MOMENT)) else {
             return Ok(None);
         };
         let [first, second] = served.as_slice() else {
@@ -330,7 +331,7 @@ impl<R: Threads + Wait + RandomSource + Copy + Send + Drop + 'static> Server<R> 
         let gate = Meeting::new(&met, &arrived)?;
         let mut wanted = Vec::new(self.alloc);
         add_times(&mut wanted, NONE_STORED, replies)?;
-        let Some(served) = self.serve_by(lines, sizes, gate, StillClock(MOMENT)) else {
+        let Some(served) = self.serve_by(lines, sizes, gate, FixedClock(MOMENT)) else {
             return Ok(None);
         };
         let is_right = served
@@ -363,7 +364,7 @@ impl<R: Threads + Wait + RandomSource + Copy + Send + Drop + 'static> Server<R> 
     ) -> Result<bool, AllocError>
         requires { F.IsAlwaysCallable fault }
     {
-        for number in 0..MOST_CALLS {
+        for number in 0..MAX_CALLS {
             match self.fails_at(sizes, fault(number))? {
                 Some(true) => {}
                 Some(false) => return Ok(number > 10),
@@ -421,7 +422,7 @@ impl<R: Threads + Wait + RandomSource + Copy + Send + Drop + 'static> Server<R> 
     /// Whether a get with as many keys as a line can hold is answered over rings of capacity 1.
     fn longest_line(&self) -> Result<bool, AllocError> {
         let mut input = Vec::from_slice(self.alloc, b"get")?;
-        for _ in 0..MOST_KEYS {
+        for _ in 0..MAX_KEYS {
             input.extend_from_slice(b" k")?;
         }
         input.push(b'\n')?;

@@ -1,3 +1,3 @@
-pub mod Marked
-pub mod Sleeper
+pub mod SetBits
+pub mod Poller
 pub mod Zips

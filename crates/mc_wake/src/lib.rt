@@ -8,22 +8,22 @@
 //! not state that a thread wakes (liveness); tests cover it.
 #![tactic(auto)]
 
-mod board;
-mod caller;
-mod crew;
-mod marked;
-mod patience;
-mod sleeper;
+mod bit_set;
+mod doorbell;
+mod poller;
+mod set_bits;
 mod sockets;
+mod spin_policy;
 mod task;
+mod thread_group;
 mod waker;
 mod wakers;
 
-pub use caller::Caller;
-pub use crew::{Crew, CrewRefusal};
-pub use marked::Marked;
-pub use patience::Patience;
-pub use sleeper::Sleeper;
+pub use doorbell::Doorbell;
+pub use poller::Poller;
+pub use set_bits::SetBits;
 pub use sockets::Readiness;
+pub use spin_policy::SpinPolicy;
 pub use task::Task;
+pub use thread_group::{ThreadGroup, ThreadGroupError};
 pub use wakers::Wakers;

@@ -1,7 +1,7 @@
 //! The sockets of one thread's slots, and the poll in which the thread blocks.
 
-use crate::board::Board;
-use crate::waker::Alarm;
+use crate::bit_set::AtomicBitSet;
+use crate::waker::Notifier;
 use mio::event::Event;
 use mio::{Events, Poll, Token, Waker};
 use std::alloc::Global;
@@ -10,11 +10,11 @@ use std::net::Net;
 use std::time::Duration;
 
 /// Token of the thread's own waker. No slot has it.
-const ALARM: Token = Token(usize::MAX);
+const NOTIFIER: Token = Token(usize::MAX);
 
 /// Maximum number of socket events per poll, beside one for the waker; further events come with the
 /// next poll.
-const MOST_EVENTS: usize = 1_024;
+const MAX_EVENTS: usize = 1_024;
 
 /// What the poll reported of a socket.
 #[derive(Clone, Copy, Debug, PartialEq, Eq)]
@@ -48,7 +48,7 @@ impl Drop for Sockets {
 impl Sockets {
     /// A poll without sockets, for `places` slots.
     pub(crate) fn new<R: Net>(rt: &R, alloc: Global, places: usize) -> io::Result<Sockets> {
-        let room = places.min(MOST_EVENTS).saturating_add(1);
+        let room = places.min(MAX_EVENTS).saturating_add(1);
         Ok(Sockets {
             poll: Poll::new(rt)?,
             events: Events::with_capacity(alloc, room)?,
@@ -57,15 +57,15 @@ impl Sockets {
     }
 
     /// A handle that wakes the thread from this poll, and with which sockets are registered.
-    pub(crate) fn alarm(&self) -> io::Result<Alarm> {
-        let waker = Waker::new(self.poll.registry(), ALARM)?;
+    pub(crate) fn notifier(&self) -> io::Result<Notifier> {
+        let waker = Waker::new(self.poll.registry(), NOTIFIER)?;
         let registry = self.poll.registry().try_clone()?;
-        Ok(Alarm::Sockets { waker, registry })
+        Ok(Notifier::Sockets { waker, registry })
     }
 
     /// Polls until a socket has an event, the thread is woken, or the timeout ends, if there is
     /// one. Marks the slots with events in `roused`. Returns whether there was any event.
-    pub(crate) fn look(&mut self, timeout: Option<Duration>, roused: &Board) -> bool {
+    pub(crate) fn look(&mut self, timeout: Option<Duration>, roused: &AtomicBitSet) -> bool {
         if self.poll.poll(&mut self.events, timeout).is_err() {
             return false;
         }

@@ -22,7 +22,7 @@ pub trait Task: Drop {
 
 /// The start signal of a thread.
 #[derive(Clone, Copy)]
-pub(crate) enum Word {
+pub(crate) enum StartSignal {
     /// All threads run: start the task.
     Begin,
     /// Not all threads could be created: end at once.
@@ -38,12 +38,12 @@ impl<T: Task> Promise<Option<T>> for Done<T> {
 }
 
 /// Waits for the start signal, and runs the task if the signal is `Begin`.
-pub(crate) fn begin<T: Task, R: Wait>(rt: &R, word: Receiver<Word>, task: T) -> Option<T>
+pub(crate) fn begin<T: Task, R: Wait>(rt: &R, word: Receiver<StartSignal>, task: T) -> Option<T>
     requires { T.is_ready task }
     ensures { IfSome result (λ done. T.does task done) }
 {
     match word.recv(rt) {
-        Ok(Word::Begin) => Some(task.work(rt)),
+        Ok(StartSignal::Begin) => Some(task.work(rt)),
         _ => None,
     }
 }

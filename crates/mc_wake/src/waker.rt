@@ -3,7 +3,7 @@ ghost use Rattle.std.specs.Prelude.{◌≡◌, IfOk};
 ghost use Rattle.std.specs.Arc.{arc_value};
 ghost use Rattle.std.specs.Int.{div_ceil};
 
-use crate::board::Board;
+use crate::bit_set::AtomicBitSet;
 use crossbeam_utils::sync::Unparker;
 use mio::event::Source;
 use mio::{Interest, Registry, Token};
@@ -13,7 +13,7 @@ use std::sync::Arc;
 use std::sync::atomic::{AtomicBool, Ordering};
 
 /// How a blocked thread is woken.
-pub(crate) enum Alarm {
+pub(crate) enum Notifier {
     /// The thread blocks in a parker.
     Memory(Unparker),
     /// The thread blocks in a poll, with which sockets are registered.
@@ -23,12 +23,12 @@ pub(crate) enum Alarm {
     },
 }
 
-impl Drop for Alarm {
+impl Drop for Notifier {
     /// Written by hand, so that its owners drop it by a single call (docs/DECISIONS.md, F20).
     fn drop(self) {
         match self {
-            Alarm::Memory(_unparker) => {}
-            Alarm::Sockets {
+            Notifier::Memory(_unparker) => {}
+            Notifier::Sockets {
                 waker: _waker,
                 registry: _registry,
             } => {}
@@ -39,16 +39,16 @@ impl Drop for Alarm {
 /// Wakes one thread, and records why.
 #[derive(Drop)]
 pub(crate) struct Waker {
-    pub(crate) alarm: Alarm,
+    pub(crate) notifier: Notifier,
     /// The thread blocks, or is at its last look before it does.
     pub(crate) asleep: AtomicBool,
     /// The server's slots that have notified this thread's shards since the thread last took the
     /// bits.
-    pub(crate) callers: Board,
+    pub(crate) callers: AtomicBitSet,
     /// The thread's slots that became ready since the thread last took the bits.
-    pub(crate) roused: Board,
+    pub(crate) roused: AtomicBitSet,
     /// The thread's slots that have asked for a reminder.
-    pub(crate) reminders: Board,
+    pub(crate) reminders: AtomicBitSet,
 }
 
 impl Waker {
@@ -56,7 +56,7 @@ impl Waker {
     /// which are marked ready.
     pub(crate) fn new(
         alloc: Global,
-        alarm: Alarm,
+        notifier: Notifier,
         callers: usize,
         places: usize,
     ) -> Result<Arc<Waker, Global>, AllocError>
@@ -65,11 +65,11 @@ impl Waker {
         ensures places { IfOk result (λ waker. (arc_value waker).roused ≡ div_ceil places 64) }
     {
         let waker = Waker {
-            alarm,
+            notifier,
             asleep: AtomicBool::new(false),
-            callers: Board::new(alloc, callers)?,
-            roused: Board::new(alloc, places)?,
-            reminders: Board::new(alloc, places)?,
+            callers: AtomicBitSet::new(alloc, callers)?,
+            roused: AtomicBitSet::new(alloc, places)?,
+            reminders: AtomicBitSet::new(alloc, places)?,
         };
         for place in 0..places {
             waker.roused.mark(place);
@@ -98,7 +98,7 @@ impl Waker {
 
     /// Registers a socket with the thread's poll, for the slot at `place`.
     pub(crate) fn register<S: Source>(&self, source: &mut S, place: usize) -> io::Result<()> {
-        let Alarm::Sockets { registry, .. } = &self.alarm else {
+        let Notifier::Sockets { registry, .. } = &self.notifier else {
             return Err(io::Error::from(io::ErrorKind::Unsupported));
         };
         let interests = Interest::READABLE | Interest::WRITABLE | Interest::PRIORITY;
@@ -113,9 +113,9 @@ impl Waker {
     }
 
     fn ring(&self) {
-        match &self.alarm {
-            Alarm::Memory(unparker) => unparker.unpark(),
-            Alarm::Sockets { waker, .. } => {
+        match &self.notifier {
+            Notifier::Memory(unparker) => unparker.unpark(),
+            Notifier::Sockets { waker, .. } => {
                 // A waker that was made successfully doesn't fail.
                 let _ = waker.wake();
             }

@@ -1,5 +1,5 @@
 //! The wakers of a server's threads, by shard and by slot.
-use crate::sleeper::Sleeper;
+use crate::poller::Poller;
 use crate::waker::Waker;
 use mio::event::Source;
 use std::alloc::{AllocError, Global};
@@ -40,14 +40,14 @@ impl Drop for Wakers {
 impl Wakers {
     /// The wakers of these threads. Shards and slots are numbered from 0, in the order of the
     /// threads that serve them.
-    pub fn of(alloc: Global, sleepers: &[Sleeper]) -> Result<Wakers, AllocError> {
+    pub fn of(alloc: Global, pollers: &[Poller]) -> Result<Wakers, AllocError> {
         let mut all = Directory {
-            threads: Vec::with_capacity(alloc, sleepers.len())?,
+            threads: Vec::with_capacity(alloc, pollers.len())?,
             shards: Vec::new(alloc),
             seats: Vec::new(alloc),
         };
-        for sleeper in sleepers {
-            all.add(sleeper)?;
+        for poller in pollers {
+            all.add(poller)?;
         }
         Ok(Wakers {
             all: Arc::new(alloc, all)?,
@@ -96,13 +96,13 @@ impl Wakers {
 
 impl Directory {
     /// Adds the slots and shards of one more thread.
-    fn add(&mut self, sleeper: &Sleeper) -> Result<(), AllocError> {
+    fn add(&mut self, poller: &Poller) -> Result<(), AllocError> {
         let thread = self.threads.len();
-        self.threads.push(sleeper.waker()?)?;
-        for _ in 0..sleeper.workers() {
+        self.threads.push(poller.waker()?)?;
+        for _ in 0..poller.workers() {
             self.shards.push(thread)?;
         }
-        for place in 0..sleeper.places() {
+        for place in 0..poller.places() {
             self.seats.push(Place { thread, place })?;
         }
         Ok(())

@@ -1,5 +1,6 @@
 -- The counters of a server's threads, and their totals.
-use Rattle.std.specs.Prelude.{ℕ, ◌≡◌, ◌-◌, Bool, List, [], ◌∷◌, map, length, Option, Some, None, option_map, slice_get, ⊤}
+use Rattle.std.specs.Prelude.{ℕ, ◌≡◌, ◌-◌, Bool, List, [], ◌∷◌, map, length, Option, Some, None, option_map, slice_get}
+use Rattle.std.specs.Prelude.{⊤}
 use Rattle.std.specs.Arc.{arc_value}
 use Rattle.std.specs.Int.{from_bool}
 use Rattle.std.specs.List.{FoldsTo}
@@ -9,11 +10,13 @@ use Rattle.crossbeam_utils.specs.declared.cache_padded.CachePadded.{CachePadded}
 use Rattle.mc_watch.specs.declared.counts.Counts.{Counts}
 use Rattle.mc_watch.specs.declared.counts.EndCounts.{EndCounts}
 use Rattle.mc_watch.specs.declared.counts.EndTotals.{EndTotals}
-use Rattle.mc_watch.specs.declared.counts.EntranceCounts.{EntranceCounts}
+use Rattle.mc_watch.specs.declared.counts.AcceptorCounts.{AcceptorCounts}
 use Rattle.mc_watch.specs.declared.counts.SeatCounts.{SeatCounts}
 use Rattle.mc_watch.specs.declared.counts.Totals.{Totals}
 use Rattle.mc_watch.specs.declared.event.Manner.{Manner}
-use Rattle.mc_watch.specs.declared.event.Manner.TheVariants.{ByClient, Quit, LineTooLong, Binary, Http, Tls, Idle, ReadFailed, WriteFailed, NoMemory, Shutdown}
+use Rattle.mc_watch.specs.declared.event.Manner.TheVariants.{ByClient, Quit, LineTooLong, Binary, Http, Tls, Idle}
+use Rattle.mc_watch.specs.declared.event.Manner.TheVariants.{ReadFailed, WriteFailed, NoMemory, ShutdownRequested}
+use Rattle.mc_watch.specs.declared.event.Manner.TheVariants.{Shutdown}
 use Rattle.mc_watch.specs.declared.shard_counts.ShardCounts.{ShardCounts}
 use Rattle.mc_watch.specs.declared.shard_counts.ShardTotals.{ShardTotals}
 use Rattle.mc_watch.specs.Told.{EachShown}
@@ -45,13 +48,13 @@ thread_of None number = None
 thread_of (Some counts) number = option_map shared_value (slice_get counts.threads.items number)
 
 -- the counters of the accepting thread, if there are any
-abbrev pub entrance_of : {C : Type 0} → Option (Counts C) → Option (EntranceCounts C)
-entrance_of None = None
-entrance_of (Some counts) = Some (shared_value counts.entrance)
+abbrev pub acceptor_of : {C : Type 0} → Option (Counts C) → Option (AcceptorCounts C)
+acceptor_of None = None
+acceptor_of (Some counts) = Some (shared_value counts.acceptor)
 
 -- both have the same counters
 pub record SameCounts {C : Type 0} (one other : Counts C) : Type 0 where
-  pub entrance : shared_value one.entrance ≡ shared_value other.entrance
+  pub acceptor : shared_value one.acceptor ≡ shared_value other.acceptor
   pub threads : threads_of one ≡ threads_of other
   pub shards : shards_of one ≡ shards_of other
 
@@ -68,6 +71,7 @@ module _ {C : Type 0} (added : C → ℕ → Type 0) where
   CountsManner counts ReadFailed = added counts.failed 1
   CountsManner counts WriteFailed = added counts.failed 1
   CountsManner counts NoMemory = added counts.refused_memory 1
+  CountsManner counts ShutdownRequested = ⊤
   CountsManner counts Shutdown = ⊤
 
   -- A connection ended for this reason, and failed or not; `counted` of its commands were counted before.
@@ -88,7 +92,19 @@ no_ends = record { binary = 0; http = 0; tls = 0; line_too_long = 0; idle = 0; f
 
 -- nothing was counted
 abbrev pub no_totals : Totals
-no_totals = record { accepted = 0; failed = 0; rejected = 0; ended = 0; broken = 0; commands = 0; read = 0; written = 0; ends = no_ends; shards = no_shards }
+no_totals =
+    record {
+      accepted = 0;
+      failed = 0;
+      rejected = 0;
+      ended = 0;
+      broken = 0;
+      commands = 0;
+      read = 0;
+      written = 0;
+      ends = no_ends;
+      shards = no_shards;
+    }
 
 module _ {C : Type 0} (told : C → ℕ → Type 0) where
   -- the value read from the counter is added
@@ -143,8 +159,9 @@ module _ {C : Type 0} (told : C → ℕ → Type 0) where
   pub record AreTotals (counts : Counts C) (totals : Totals) : Type 0 where
     pub seats : Totals
     pub threads : FoldsTo AddsThread no_totals (threads_of counts) seats
-    pub sums : totals ≡ record seats { accepted = totals.accepted; failed = totals.failed; rejected = totals.rejected; shards = totals.shards }
-    pub accepted : told (shared_value counts.entrance).accepted totals.accepted
-    pub failed : told (shared_value counts.entrance).failed totals.failed
-    pub rejected : told (shared_value counts.entrance).rejected totals.rejected
+    pub sums : totals ≡ record seats
+        { accepted = totals.accepted; failed = totals.failed; rejected = totals.rejected; shards = totals.shards }
+    pub accepted : told (shared_value counts.acceptor).accepted totals.accepted
+    pub failed : told (shared_value counts.acceptor).failed totals.failed
+    pub rejected : told (shared_value counts.acceptor).rejected totals.rejected
     pub shards : FoldsTo AddsShard no_shards (shards_of counts) totals.shards

@@ -6,20 +6,23 @@ use Rattle.mc_watch.specs.declared.event.ConnectionEvent.TheVariants.{Opened, Cl
 use Rattle.mc_watch.specs.declared.event.Peer.{Peer}
 use Rattle.mc_watch.specs.declared.event.Peer.TheVariants.{At, Unix}
 use Rattle.mc_watch.specs.declared.event.Manner.{Manner}
-use Rattle.mc_watch.specs.declared.event.Manner.TheVariants.{ByClient, Quit, LineTooLong, Binary, Http, Tls, Idle, ReadFailed, WriteFailed, NoMemory, Shutdown}
+use Rattle.mc_watch.specs.declared.event.Manner.TheVariants.{ByClient, Quit, LineTooLong, Binary, Http, Tls, Idle}
+use Rattle.mc_watch.specs.declared.event.Manner.TheVariants.{ReadFailed, WriteFailed, NoMemory, ShutdownRequested}
+use Rattle.mc_watch.specs.declared.event.Manner.TheVariants.{Shutdown}
 
 abbrev pub manner_text : Manner → List ℕ
-manner_text ByClient = codes "its client closed it"
-manner_text Quit = codes "its client quit"
-manner_text LineTooLong = codes "a line was too long"
-manner_text Binary = codes "it speaks memcached's binary protocol"
-manner_text Http = codes "it speaks HTTP"
-manner_text Tls = codes "it speaks TLS"
-manner_text Idle = codes "it was idle for too long"
-manner_text ReadFailed = codes "a read failed"
-manner_text WriteFailed = codes "a write failed"
-manner_text NoMemory = codes "no memory was left for its replies"
-manner_text Shutdown = codes "the server ends"
+manner_text ByClient = codes "closed by client"
+manner_text Quit = codes "client quit"
+manner_text LineTooLong = codes "line too long"
+manner_text Binary = codes "speaks the binary protocol"
+manner_text Http = codes "speaks HTTP"
+manner_text Tls = codes "speaks TLS"
+manner_text Idle = codes "idle timeout"
+manner_text ReadFailed = codes "read failed"
+manner_text WriteFailed = codes "write failed"
+manner_text NoMemory = codes "no memory for replies"
+manner_text ShutdownRequested = codes "client sent shutdown"
+manner_text Shutdown = codes "server shutdown"
 
 -- who a connection comes from
 abbrev pub peer_text : Peer → List ℕ

@@ -15,7 +15,8 @@ room = 512
 
 module _ {A P : Type 0} where
   -- The event was queued, with the number of those dropped before it.
-  pub record Queues (old : Producer Record A P) (dropped : ℕ) (event : ConnectionEvent) (new : Producer Record A P) (left : ℕ) : Type 0 where
+  pub record Queues (old : Producer Record A P) (dropped : ℕ) (event : ConnectionEvent) (new : Producer Record A P)
+      (left : ℕ) : Type 0 where
     pub told : sent new ≡ sent old ++ (record { event = event; dropped = dropped }) ∷ []
     pub none_dropped : left ≡ 0
 

@@ -6,7 +6,11 @@ use Rattle.mc_watch.specs.declared.shutdown.Shutdown.{Shutdown}
 
 -- the counter of the stage
 abbrev pub stage_of : {C : Type 0} → Shutdown C → C
-stage_of shutdown = arc_value shutdown.stage
+stage_of shutdown = (arc_value shutdown.progress).stage
+
+-- the counter of requests by clients
+abbrev pub request_of : {C : Type 0} → Shutdown C → C
+request_of shutdown = (arc_value shutdown.progress).request
 
 -- the shared stage, if the server may be asked to end
 abbrev pub drain_stage : {C : Type 0} → Option (Drain C) → Option C
@@ -23,3 +27,9 @@ module _ {C : Type 0} (told : C → ℕ → Type 0) where
   abbrev pub MayBePast : ℕ → Option (Shutdown C) → Bool → Type 0
   MayBePast least None answer = answer ≡ false
   MayBePast least (Some shutdown) answer = IsPast least shutdown answer
+
+  -- whether the counter of requests that was read is past 0
+  pub record IsRequested (shutdown : Shutdown C) (answer : Bool) : Type 0 where
+    pub count : ℕ
+    pub is_told : told (request_of shutdown) count
+    pub past : IsTrue answer ↔ (1 ≤ count)

@@ -21,6 +21,8 @@ module _ {C : Type 0} (goes : C → ℕ → Type 0) where
     pub items : goes counters.items totals.items
     pub bytes : goes counters.bytes totals.bytes
     pub evicted : goes counters.evicted totals.evicted
+    pub reclaimed : goes counters.reclaimed totals.reclaimed
+    pub too_large : goes counters.too_large totals.too_large
     pub get : EachOfCommand counters.get totals.get
     pub set : EachOfCommand counters.set totals.set
     pub cas : EachOfCommand counters.cas totals.cas

@@ -1,11 +1,12 @@
 -- The contents and statistics of a shard, and the sums of several; each count saturates at 64 bits.
-use Rattle.std.specs.Prelude.{ℕ, ◌≡◌, ◌+◌, ◌-◌, ◌^◌, [], ◌∷◌, fold, min}
+use Rattle.std.specs.Prelude.{ℕ, ◌≡◌, ◌+◌, ◌-◌, ◌%◌, ◌^◌, [], ◌∷◌, fold, min}
 use Rattle.std.specs.FinMap.{len}
-use Rattle.mc_item.specs.declared.tally.CountedAs.{CountedAs}
-use Rattle.mc_item.specs.declared.tally.CountedAs.TheVariants.{Get, Set, Cas, Touch, Delete, Incr, Decr, Flush}
-use Rattle.mc_item.specs.declared.tally.Status.TheVariants.{Hit, Miss, BadValue, NoMemory, Refused}
-use Rattle.mc_item.specs.declared.tally.Tally.{Tally}
-use Rattle.mc_item.specs.Tally.{counted}
+use Rattle.mc_item.specs.declared.op_stats.StatClass.{StatClass}
+use Rattle.mc_item.specs.declared.op_stats.StatClass.TheVariants.{Get, Set, Cas, Touch, Delete, Incr, Decr, Flush}
+use Rattle.mc_item.specs.declared.op_stats.StatClass.TheVariants.{Reclaimed, TooLarge}
+use Rattle.mc_item.specs.declared.op_stats.Status.TheVariants.{Hit, Miss, BadValue, NoMemory, Refused}
+use Rattle.mc_item.specs.declared.op_stats.OpStats.{OpStats}
+use Rattle.mc_item.specs.OpStats.{counted}
 use Rattle.mc_store.specs.State.{State, costs}
 use Rattle.mc_watch.specs.declared.shard_counts.CommandTotals.{CommandTotals}
 use Rattle.mc_watch.specs.declared.shard_counts.ShardTotals.{ShardTotals}
@@ -30,6 +31,8 @@ shards_of_both one other = record {
   items = sum_of one.items other.items;
   bytes = sum_of one.bytes other.bytes;
   evicted = sum_of one.evicted other.evicted;
+  reclaimed = sum_of one.reclaimed other.reclaimed;
+  too_large = sum_of one.too_large other.too_large;
   out_of_memory = sum_of one.out_of_memory other.out_of_memory;
   get = commands_of_both one.get other.get;
   set = commands_of_both one.set other.set;
@@ -51,6 +54,8 @@ no_shards = record {
   items = 0;
   bytes = 0;
   evicted = 0;
+  reclaimed = 0;
+  too_large = 0;
   out_of_memory = 0;
   get = no_commands;
   set = no_commands;
@@ -77,33 +82,39 @@ abbrev pub IsSummed : ShardTotals → Type 0
 IsSummed totals = totals.out_of_memory ≡ (commands_of_all totals).no_memory
 
 -- the statistics of one kind of command in a shard
-abbrev pub commands_counted : Tally → CountedAs → CommandTotals
-commands_counted tally asked = record {
-  hits = counted tally asked Hit;
-  misses = counted tally asked Miss;
-  bad_values = counted tally asked BadValue;
-  no_memory = counted tally asked NoMemory;
-  refused = counted tally asked Refused;
+abbrev pub commands_counted : OpStats → StatClass → CommandTotals
+commands_counted op_stats asked = record {
+  hits = counted op_stats asked Hit;
+  misses = counted op_stats asked Miss;
+  bad_values = counted op_stats asked BadValue;
+  no_memory = counted op_stats asked NoMemory;
+  refused = counted op_stats asked Refused;
 }
 
+-- how often this was counted, whether the item was found or fetched or not
+abbrev pub found_or_not : OpStats → StatClass → ℕ
+found_or_not op_stats asked = (counted op_stats asked Hit + counted op_stats asked Miss) % 2 ^ 64
+
 -- the totals of a shard with these counts, except for the commands for which memory was refused
-abbrev pub totals_counted : (items bytes evicted : ℕ) → Tally → ShardTotals
-totals_counted items bytes evicted tally = record {
+abbrev pub totals_counted : (items bytes evicted : ℕ) → OpStats → ShardTotals
+totals_counted items bytes evicted op_stats = record {
   items = items;
   bytes = bytes;
   evicted = evicted;
+  reclaimed = found_or_not op_stats Reclaimed;
+  too_large = found_or_not op_stats TooLarge;
   out_of_memory = 0;
-  get = commands_counted tally Get;
-  set = commands_counted tally Set;
-  cas = commands_counted tally Cas;
-  touch = commands_counted tally Touch;
-  delete = commands_counted tally Delete;
-  incr = commands_counted tally Incr;
-  decr = commands_counted tally Decr;
-  flush = commands_counted tally Flush;
+  get = commands_counted op_stats Get;
+  set = commands_counted op_stats Set;
+  cas = commands_counted op_stats Cas;
+  touch = commands_counted op_stats Touch;
+  delete = commands_counted op_stats Delete;
+  incr = commands_counted op_stats Incr;
+  decr = commands_counted op_stats Decr;
+  flush = commands_counted op_stats Flush;
 }
 
 -- the published totals of a shard in this state
 abbrev pub shown_of : State → ShardTotals
 shown_of state =
-    with_out_of_memory (totals_counted (len state.items) (costs state.items) state.evicted state.tally)
+    with_out_of_memory (totals_counted (len state.items) (costs state.items) state.evicted state.op_stats)

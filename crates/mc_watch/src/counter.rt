@@ -32,6 +32,7 @@ pub trait Count: Drop {
 }
 
 /// A lock-free counter of 64 bits with one writer; any thread reads it. It wraps after 2^64 - 1.
+/// See docs/DECISIONS.md, W1.
 #[derive(Drop)]
 pub struct Counter {
     word: AtomicU64,

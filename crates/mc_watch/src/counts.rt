@@ -47,7 +47,7 @@ pub struct SeatCounts<C = Counter> {
 
 /// Counters of the accepting thread.
 #[derive(Drop)]
-pub struct EntranceCounts<C = Counter> {
+pub struct AcceptorCounts<C = Counter> {
     /// Connections accepted.
     pub accepted: C,
     /// Failed accepts.
@@ -96,7 +96,7 @@ pub struct Totals {
 
 /// The counters of a server's threads, each on cache lines of its own.
 pub struct Counts<C = Counter> {
-    entrance: Arc<CachePadded<EntranceCounts<C>>, Global>,
+    acceptor: Arc<CachePadded<AcceptorCounts<C>>, Global>,
     threads: Vec<Arc<CachePadded<SeatCounts<C>>, Global>>,
     shards: Vec<Arc<CachePadded<ShardCounts<C>>, Global>>,
 }
@@ -105,7 +105,7 @@ impl<C: Drop> Drop for Counts<C> {
     /// Written by hand, so that its owners drop it by a single call (docs/DECISIONS.md, F20).
     fn drop(self) {
         let Counts {
-            entrance: _entrance,
+            acceptor: _acceptor,
             threads: _threads,
             shards: _shards,
         } = self;
@@ -140,7 +140,7 @@ impl<C: Count> EndCounts<C> {
             Manner::Idle => self.idle.add(1),
             Manner::ReadFailed | Manner::WriteFailed => self.failed.add(1),
             Manner::NoMemory => self.refused_memory.add(1),
-            Manner::ByClient | Manner::Quit | Manner::Shutdown => {}
+            Manner::ByClient | Manner::Quit | Manner::ShutdownRequested | Manner::Shutdown => {}
         }
     }
 }
@@ -199,19 +199,18 @@ impl Totals {
 }
 
 impl Counts<Counter> {
-    /// Nothing was counted yet, by `threads` threads that serve, `shards` shards that show what they hold, and the thread that
-    /// accepts.
+    /// Counters at 0, for `threads` serving threads, `shards` shards and the accepting thread.
     pub fn new(alloc: Global, threads: usize, shards: usize) -> Result<Counts, AllocError>
         ensures threads { IfOk result (λ counts. length counts.threads.items ≡ threads) }
         ensures shards { IfOk result (λ counts. shard_count counts ≡ shards) }
     {
-        let entrance = EntranceCounts {
+        let acceptor = AcceptorCounts {
             accepted: Counter::new(),
             failed: Counter::new(),
             rejected: Counter::new(),
         };
         let mut counts = Counts {
-            entrance: Arc::new(alloc, CachePadded::new(entrance))?,
+            acceptor: Arc::new(alloc, CachePadded::new(acceptor))?,
             threads: Vec::with_capacity(alloc, threads)?,
             shards: new_shards(alloc, shards)?,
         };
@@ -229,17 +228,17 @@ impl<C: Count> Counts<C> {
         ensures { IfOk result (λ shared. SameCounts shared self.now) }
     {
         Ok(Counts {
-            entrance: self.entrance()?,
+            acceptor: self.acceptor()?,
             threads: share_each(alloc, &self.threads)?,
             shards: self.shards(alloc)?,
         })
     }
 
     /// The counters of the accepting thread.
-    pub fn entrance(&self) -> Result<Arc<CachePadded<EntranceCounts<C>>, Global>, AllocError>
-        ensures { IfOk result (λ counts. shared_value counts ≡ shared_value self.now.entrance) }
+    pub fn acceptor(&self) -> Result<Arc<CachePadded<AcceptorCounts<C>>, Global>, AllocError>
+        ensures { IfOk result (λ counts. shared_value counts ≡ shared_value self.now.acceptor) }
     {
-        Arc::try_clone(&self.entrance)
+        Arc::try_clone(&self.acceptor)
     }
 
     /// The counters of serving thread number `thread`, if there is one.
@@ -283,9 +282,9 @@ impl<C: Count> Counts<C> {
         for thread in &self.threads {
             totals.add(thread);
         }
-        totals.accepted = self.entrance.accepted.get();
-        totals.failed = self.entrance.failed.get();
-        totals.rejected = self.entrance.rejected.get();
+        totals.accepted = self.acceptor.accepted.get();
+        totals.failed = self.acceptor.failed.get();
+        totals.rejected = self.acceptor.rejected.get();
         totals.shards = ShardTotals::default().and_each(&self.shards);
         totals
     }

@@ -25,6 +25,8 @@ pub enum Manner {
     WriteFailed,
     /// Memory for replies was refused.
     NoMemory,
+    /// The client sent `shutdown`, and the server shuts down.
+    ShutdownRequested,
     /// The server shut down.
     Shutdown,
 }
@@ -83,17 +85,18 @@ impl fmt::Display for Manner {
 
     fn fmt<W: fmt::Write>(&self, f: &mut fmt::Formatter<W>) -> fmt::Result {
         f.write_str(match self {
-            Manner::ByClient => "its client closed it",
-            Manner::Quit => "its client quit",
-            Manner::LineTooLong => "a line was too long",
-            Manner::Binary => "it speaks memcached's binary protocol",
-            Manner::Http => "it speaks HTTP",
-            Manner::Tls => "it speaks TLS",
-            Manner::Idle => "it was idle for too long",
-            Manner::ReadFailed => "a read failed",
-            Manner::WriteFailed => "a write failed",
-            Manner::NoMemory => "no memory was left for its replies",
-            Manner::Shutdown => "the server ends",
+            Manner::ByClient => "closed by client",
+            Manner::Quit => "client quit",
+            Manner::LineTooLong => "line too long",
+            Manner::Binary => "speaks the binary protocol",
+            Manner::Http => "speaks HTTP",
+            Manner::Tls => "speaks TLS",
+            Manner::Idle => "idle timeout",
+            Manner::ReadFailed => "read failed",
+            Manner::WriteFailed => "write failed",
+            Manner::NoMemory => "no memory for replies",
+            Manner::ShutdownRequested => "client sent shutdown",
+            Manner::Shutdown => "server shutdown",
         })
     }
 }

@@ -5,24 +5,24 @@
 
 mod counter;
 mod counts;
-mod dismissal;
 mod event;
+mod idle_timer;
 mod meter;
-mod pulse;
 mod reporter;
 mod shard_counts;
 mod shutdown;
 mod signals;
-mod watch;
+mod stop_token;
+mod telemetry;
 
 pub use counter::{Count, Counter};
-pub use counts::{Counts, EndCounts, EndTotals, EntranceCounts, SeatCounts, Totals};
-pub use dismissal::Dismissal;
+pub use counts::{AcceptorCounts, Counts, EndCounts, EndTotals, SeatCounts, Totals};
 pub use event::{ConnectionEvent, Manner, Peer};
+pub use idle_timer::{CoarseClock, IdleTimer};
 pub use meter::Meter;
-pub use pulse::{Pulse, Seconds};
 pub use reporter::{Reporter, Reports, reporters};
 pub use shard_counts::{CommandTotals, ShardCounts, ShardTotals};
 pub use shutdown::{Drain, Shutdown};
 pub use signals::Signals;
-pub use watch::{EntranceWatch, IdleLimit, SeatWatch, Watch};
+pub use stop_token::StopToken;
+pub use telemetry::{AcceptorTelemetry, IdleLimit, SlotTelemetry, Telemetry};

@@ -1,14 +1,14 @@
 //! Measurements of one connection.
 ghost use Rattle.std.specs.Prelude.{◌≡◌, ◌+◌, ◌-◌, ◌^◌, None, IfSome, min};
 ghost use Rattle.mc_watch.specs.Counts.{shared_value};
-ghost use Rattle.mc_watch.specs.Pulse.{MayBeIdle, MayBeat};
-ghost use Rattle.mc_watch.specs.Shutdown.{MayBePast};
+ghost use Rattle.mc_watch.specs.IdleTimer.{MayBeIdle, MayBeat};
+ghost use Rattle.mc_watch.specs.Shutdown.{MayBePast, request_of};
 ghost use Rattle.mc_watch.specs.declared.event.Manner.TheVariants.{Quit};
 
 use crate::counter::{Count, Counter};
 use crate::counts::SeatCounts;
 use crate::event::Manner;
-use crate::pulse::Pulse;
+use crate::idle_timer::IdleTimer;
 use crate::shutdown::Shutdown;
 use crossbeam_utils::CachePadded;
 use std::alloc::Global;
@@ -22,12 +22,12 @@ pub struct Meter<C = Counter> {
     written: u64,
     /// Commands already added to the thread's counters.
     commands: u64,
-    /// Why it ended: `Quit` unless something else was noted.
+    /// Why it ended: `Quit` unless something else was noted. See docs/DECISIONS.md, W5.
     manner: Manner,
     /// The counters of its thread, if telemetry is on.
     counts: Option<Arc<CachePadded<SeatCounts<C>>, Global>>,
     /// The idle timer, if there is an idle timeout.
-    pulse: Option<Pulse<C>>,
+    idle_timer: Option<IdleTimer<C>>,
     /// The stage of the server's shutdown, if it can be asked to shut down.
     shutdown: Option<Shutdown<C>>,
 }
@@ -42,7 +42,7 @@ impl<C: Count> Meter<C> {
               commands = 0;
               manner = Quit;
               counts = None;
-              pulse = None;
+              idle_timer = None;
               shutdown = None;
             } }
     {
@@ -52,7 +52,7 @@ impl<C: Count> Meter<C> {
     /// A meter of a new connection, with the counters of its thread, if telemetry is on.
     pub fn begin(
         counts: Option<Arc<CachePadded<SeatCounts<C>>, Global>>,
-        pulse: Option<Pulse<C>>,
+        idle_timer: Option<IdleTimer<C>>,
         shutdown: Option<Shutdown<C>>,
     ) -> Meter<C>
         ensures { result ≡
@@ -62,7 +62,7 @@ impl<C: Count> Meter<C> {
               commands = 0;
               manner = Quit;
               counts = counts;
-              pulse = pulse;
+              idle_timer = idle_timer;
               shutdown = shutdown;
             } }
     {
@@ -72,7 +72,7 @@ impl<C: Count> Meter<C> {
             commands: 0,
             manner: Manner::Quit,
             counts,
-            pulse,
+            idle_timer,
             shutdown,
         }
     }
@@ -82,11 +82,11 @@ impl<C: Count> Meter<C> {
         ensures noted { self.new ≡
             record self.old {
               read = min (self.old.read + count) (2 ^ 64 - 1);
-              pulse = self.new.pulse;
+              idle_timer = self.new.idle_timer;
             } }
         ensures counted { IfSome self.old.counts
             (λ counts. C.was_added (shared_value counts).read count) }
-        ensures beats { MayBeat C.has_told self.old.pulse self.new.pulse }
+        ensures beats { MayBeat C.has_told self.old.idle_timer self.new.idle_timer }
     {
         let count = count as u64;
         self.read = self.read.saturating_add(count);
@@ -101,11 +101,11 @@ impl<C: Count> Meter<C> {
         ensures noted { self.new ≡
             record self.old {
               written = min (self.old.written + count) (2 ^ 64 - 1);
-              pulse = self.new.pulse;
+              idle_timer = self.new.idle_timer;
             } }
         ensures counted { IfSome self.old.counts
             (λ counts. C.was_added (shared_value counts).written count) }
-        ensures beats { MayBeat C.has_told self.old.pulse self.new.pulse }
+        ensures beats { MayBeat C.has_told self.old.idle_timer self.new.idle_timer }
     {
         let count = count as u64;
         self.written = self.written.saturating_add(count);
@@ -135,21 +135,21 @@ impl<C: Count> Meter<C> {
     }
 
     fn beat(&mut self)
-        ensures same { self.new ≡ record self.old { pulse = self.new.pulse } }
-        ensures beats { MayBeat C.has_told self.old.pulse self.new.pulse }
+        ensures same { self.new ≡ record self.old { idle_timer = self.new.idle_timer } }
+        ensures beats { MayBeat C.has_told self.old.idle_timer self.new.idle_timer }
     {
-        if let Some(pulse) = &mut self.pulse {
-            pulse.beat();
+        if let Some(idle_timer) = &mut self.idle_timer {
+            idle_timer.beat();
         }
     }
 
     /// Whether the connection was idle for longer than the idle timeout.
     pub fn is_idle(&self) -> bool
         // Never idle without a timeout.
-        ensures { MayBeIdle C.has_told self.now.pulse result }
+        ensures { MayBeIdle C.has_told self.now.idle_timer result }
     {
-        match &self.pulse {
-            Some(pulse) => pulse.is_idle(),
+        match &self.idle_timer {
+            Some(idle_timer) => idle_timer.is_idle(),
             None => false,
         }
     }
@@ -173,6 +173,15 @@ impl<C: Count> Meter<C> {
             return false;
         };
         shutdown.is_cut()
+    }
+
+    /// Requests the server's shutdown, if it can be requested.
+    pub fn request_shutdown(&self)
+        ensures { IfSome self.now.shutdown (λ shutdown. C.was_set (request_of shutdown) 1) }
+    {
+        if let Some(shutdown) = &self.shutdown {
+            shutdown.request();
+        }
     }
 
     /// Why the connection ended.

@@ -1,9 +1,10 @@
-//! Queues of connection events from the serving threads to the logging thread.
+//! Queues of connection events from the serving threads to the logging thread. A full queue drops
+//! events, so no serving thread waits for standard error (docs/DECISIONS.md, W2).
 ghost use Rattle.std.specs.Prelude.{◌≡◌, None, IfOk, length};
 ghost use Rattle.mc_watch.specs.Reports.{AreHeard, Tells};
 
-use crate::dismissal::Dismissal;
 use crate::event::ConnectionEvent;
+use crate::stop_token::StopToken;
 use rtrb::{Consumer, Producer, RingBuffer};
 use std::alloc::{AllocError, Global};
 use std::io::Eprint;
@@ -95,17 +96,17 @@ impl Reporter {
 impl Reports {
     /// Writes each event to standard error as a line with this prefix, until a stop is requested
     /// and the queues are empty. Events of one reporter are written in order.
-    pub fn write_all<R: Eprint + Wait>(self, rt: &R, prefix: &str, dismissal: &Dismissal) {
+    pub fn write_all<R: Eprint + Wait>(self, rt: &R, prefix: &str, stop_token: &StopToken) {
         let mut reports = self;
         for _ in rt.forever() {
             // Read before the queues: everything reported before the stop request is still written.
-            let is_last = dismissal.is_said();
+            let is_last = stop_token.is_said();
             let wrote = reports.write_some(rt, prefix);
             if is_last && !wrote {
                 return;
             }
             if !wrote {
-                dismissal.wait(rt, Duration::from_millis(LOOK_MILLIS));
+                stop_token.wait(rt, Duration::from_millis(LOOK_MILLIS));
             }
         }
         unreachable!()
@@ -139,7 +140,7 @@ fn write<R: Eprint>(rt: &R, prefix: &str, report: Record) {
     let event = report.event;
     if report.dropped > 0 {
         let dropped = report.dropped;
-        let _ = eprintln!(rt; "{prefix}{dropped} lines were dropped here");
+        let _ = eprintln!(rt; "{prefix}log lines dropped: {dropped}");
     }
     let _ = eprintln!(rt; "{prefix}{event}");
 }

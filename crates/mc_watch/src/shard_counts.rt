@@ -5,11 +5,11 @@ ghost use Rattle.mc_store.specs.Shard.{IsShard};
 ghost use Rattle.mc_store.specs.State.{State};
 ghost use Rattle.mc_watch.specs.Counts.{AddsShard, shared_values};
 ghost use Rattle.mc_watch.specs.Told.{EachOfCommand, EachOfShard, EachShown};
-ghost use Rattle.mc_watch.specs.Totals.{IsSummed, commands_counted, commands_of_all, commands_of_both, shards_of_both, shown_of, totals_counted, with_out_of_memory};
+ghost use Rattle.mc_watch.specs.Totals.{IsSummed, commands_counted, commands_of_all, commands_of_both, found_or_not, shards_of_both, shown_of, totals_counted, with_out_of_memory};
 
 use crate::counter::{Count, Counter};
 use crossbeam_utils::CachePadded;
-use mc_item::{CountedAs, Status, Tally};
+use mc_item::{OpStats, StatClass, Status};
 use mc_store::Shard;
 use std::alloc::Global;
 use std::sync::Arc;
@@ -37,6 +37,11 @@ pub struct ShardTotals {
     pub bytes: u64,
     /// Items evicted.
     pub evicted: u64,
+    /// Expired items removed as others were stored.
+    pub reclaimed: u64,
+    /// Values of `set` and `ms` that were too large, under memcached's rules. See
+    /// docs/DECISIONS.md, W6.
+    pub too_large: u64,
     /// Commands for which memory was refused, of all kinds.
     pub out_of_memory: u64,
     pub get: CommandTotals,
@@ -65,6 +70,8 @@ struct ShardCounters<C> {
     items: C,
     bytes: C,
     evicted: C,
+    reclaimed: C,
+    too_large: C,
     get: CommandCounters<C>,
     set: CommandCounters<C>,
     cas: CommandCounters<C>,
@@ -81,17 +88,25 @@ pub struct ShardCounts<C = Counter> {
     counters: ShardCounters<C>,
 }
 
+/// The number of times that this was counted, whether the item was fetched or not.
+fn found_or_not(op_stats: &OpStats, asked: StatClass) -> u64
+    ensures { result ≡ found_or_not op_stats.now asked }
+{
+    let hits = op_stats.count(asked, Status::Hit);
+    hits.wrapping_add(op_stats.count(asked, Status::Miss))
+}
+
 impl CommandTotals {
     /// Statistics of one kind of command in a shard's tally.
-    fn of(tally: &Tally, asked: CountedAs) -> CommandTotals
-        ensures { result ≡ commands_counted tally.now asked }
+    fn of(op_stats: &OpStats, asked: StatClass) -> CommandTotals
+        ensures { result ≡ commands_counted op_stats.now asked }
     {
         CommandTotals {
-            hits: tally.count(asked, Status::Hit),
-            misses: tally.count(asked, Status::Miss),
-            bad_values: tally.count(asked, Status::BadValue),
-            no_memory: tally.count(asked, Status::NoMemory),
-            refused: tally.count(asked, Status::Refused),
+            hits: op_stats.count(asked, Status::Hit),
+            misses: op_stats.count(asked, Status::Miss),
+            bad_values: op_stats.count(asked, Status::BadValue),
+            no_memory: op_stats.count(asked, Status::NoMemory),
+            refused: op_stats.count(asked, Status::Refused),
         }
     }
 
@@ -116,26 +131,28 @@ impl ShardTotals {
     {
         let items = shard.len() as u64;
         let bytes = shard.cost() as u64;
-        ShardTotals::counted(items, bytes, shard.evicted(), &shard.tally()).with_out_of_memory()
+        ShardTotals::counted(items, bytes, shard.evicted(), &shard.op_stats()).with_out_of_memory()
     }
 
     /// Totals of a shard with these counts. `out_of_memory` is left at 0.
-    fn counted(items: u64, bytes: u64, evicted: u64, tally: &Tally) -> ShardTotals
-        ensures { result ≡ totals_counted items bytes evicted tally.now }
+    fn counted(items: u64, bytes: u64, evicted: u64, op_stats: &OpStats) -> ShardTotals
+        ensures { result ≡ totals_counted items bytes evicted op_stats.now }
     {
         ShardTotals {
             items,
             bytes,
             evicted,
+            reclaimed: found_or_not(op_stats, StatClass::Reclaimed),
+            too_large: found_or_not(op_stats, StatClass::TooLarge),
             out_of_memory: 0,
-            get: CommandTotals::of(tally, CountedAs::Get),
-            set: CommandTotals::of(tally, CountedAs::Set),
-            cas: CommandTotals::of(tally, CountedAs::Cas),
-            touch: CommandTotals::of(tally, CountedAs::Touch),
-            delete: CommandTotals::of(tally, CountedAs::Delete),
-            incr: CommandTotals::of(tally, CountedAs::Incr),
-            decr: CommandTotals::of(tally, CountedAs::Decr),
-            flush: CommandTotals::of(tally, CountedAs::Flush),
+            get: CommandTotals::of(op_stats, StatClass::Get),
+            set: CommandTotals::of(op_stats, StatClass::Set),
+            cas: CommandTotals::of(op_stats, StatClass::Cas),
+            touch: CommandTotals::of(op_stats, StatClass::Touch),
+            delete: CommandTotals::of(op_stats, StatClass::Delete),
+            incr: CommandTotals::of(op_stats, StatClass::Incr),
+            decr: CommandTotals::of(op_stats, StatClass::Decr),
+            flush: CommandTotals::of(op_stats, StatClass::Flush),
         }
     }
 
@@ -147,6 +164,8 @@ impl ShardTotals {
             items: self.items.saturating_add(other.items),
             bytes: self.bytes.saturating_add(other.bytes),
             evicted: self.evicted.saturating_add(other.evicted),
+            reclaimed: self.reclaimed.saturating_add(other.reclaimed),
+            too_large: self.too_large.saturating_add(other.too_large),
             out_of_memory: self.out_of_memory.saturating_add(other.out_of_memory),
             get: self.get.and(other.get),
             set: self.set.and(other.set),
@@ -240,6 +259,8 @@ impl<C: Count> ShardCounters<C> {
             items: self.items.get(),
             bytes: self.bytes.get(),
             evicted: self.evicted.get(),
+            reclaimed: self.reclaimed.get(),
+            too_large: self.too_large.get(),
             out_of_memory: 0,
             get: self.get.read(),
             set: self.set.read(),
@@ -259,6 +280,8 @@ impl<C: Count> ShardCounters<C> {
         self.items.set(totals.items);
         self.bytes.set(totals.bytes);
         self.evicted.set(totals.evicted);
+        self.reclaimed.set(totals.reclaimed);
+        self.too_large.set(totals.too_large);
         self.get.write(&totals.get);
         self.set.write(&totals.set);
         self.cas.write(&totals.cas);
@@ -278,6 +301,8 @@ impl ShardCounts<Counter> {
                 items: Counter::new(),
                 bytes: Counter::new(),
                 evicted: Counter::new(),
+                reclaimed: Counter::new(),
+                too_large: Counter::new(),
                 get: CommandCounters::new(),
                 set: CommandCounters::new(),
                 cas: CommandCounters::new(),

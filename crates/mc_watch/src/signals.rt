@@ -1,5 +1,5 @@
 //! Pending signals. A parent may start the program with signals blocked; they then stay pending and
-//! end nothing by themselves.
+//! end nothing by themselves. See docs/DECISIONS.md, S1.
 use std::alloc::Global;
 use std::fs::File;
 use std::io;

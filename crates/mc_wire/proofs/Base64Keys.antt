@@ -1,5 +1,7 @@
 -- The result of decoding a base64 key word.
-use Rattle.std.proofs.Common.{◌≡◌, ℕ, ◌<◌, ◌≤◌, ◌+◌, ◌-◌, ◌*◌, ◌/◌, ◌%◌, true, false, cond, Result, List, [], ◌∷◌, length, Some, None, Ok, Err, is_some, nat_lt, nat_eq, refl, sym, ap, ◌∙◌, arith, length-append}
+use Rattle.std.proofs.Common.{◌≡◌, ℕ, ◌<◌, ◌≤◌, ◌+◌, ◌-◌, ◌*◌, ◌/◌, ◌%◌, true, false, cond, Result, List, [], ◌∷◌}
+use Rattle.std.proofs.Common.{length, Some, None, Ok, Err, is_some, nat_lt, nat_eq, refl, sym, ap, ◌∙◌, arith}
+use Rattle.std.proofs.Common.{length-append}
 use Rattle.std.proofs.lemmas.List.{length-replicate}
 use Rattle.std.proofs.lemmas.Bool.Decides.{nat_tests}
 use Rattle.base64.specs.Engines.{standard}
@@ -12,7 +14,7 @@ use Rattle.std.specs.Result.{result_ok}
 use Rattle.mc_wire.proofs.Base64Octets.{decoded_octets}
 use Rattle.mc_wire.specs.Base64Key.{Base64IsText, base64_bytes, base64_of, base64_key, base64_fault, IsBase64Of}
 use Rattle.mc_wire.specs.declared.TheConstants.{KEY_LIMIT}
-use Rattle.mc_wire.specs.declared.fault.WireFault.TheVariants.{NotBase64}
+use Rattle.mc_wire.specs.declared.error.WireError.TheVariants.{NotBase64}
 
 is_strict : IsStrict standard
 is_strict = (refl, refl)
@@ -28,7 +30,8 @@ length-base64_of bytes = omega (arith, length-append {A = ℕ}, length-encode_sy
 short_text : (n : ℕ) → (4 * n + 2) / 3 + (3 - n % 3) % 3 ≤ 250 → n ≤ 186
 short_text n h = omega arith
 
-long_text : (n : ℕ) → n ≤ 186 → 0 < n → (0 < (4 * n + 2) / 3 + (3 - n % 3) % 3) × ((4 * n + 2) / 3 + (3 - n % 3) % 3 ≤ 250)
+long_text : (n : ℕ) → n ≤ 186 → 0 < n → (0 < (4 * n + 2) / 3 + (3 - n % 3) % 3)
+    × ((4 * n + 2) / 3 + (3 - n % 3) % 3 ≤ 250)
 long_text n h some = (omega arith, omega arith)
 
 pub decoded_ok : (word bytes : List ℕ) → decode_of standard word ≡ Ok bytes → base64_bytes word ≡ Some bytes
@@ -52,14 +55,16 @@ filled word [] text some = let none = ap length (text ∙ encode_of-nil standard
 filled word (byte ∷ bytes) text some = omega arith
 
 -- a word of a length that key words have
-in_limits : (word : List ℕ) → 0 < length word → length word ≤ KEY_LIMIT → (base64_key word ≡ base64_bytes word) × (base64_fault word ≡ cond (is_some (base64_bytes word)) None (Some NotBase64))
+in_limits : (word : List ℕ) → 0 < length word → length word ≤ KEY_LIMIT → (base64_key word ≡ base64_bytes word)
+    × (base64_fault word ≡ cond (is_some (base64_bytes word)) None (Some NotBase64))
 in_limits word some short =
     let first : nat_eq (length word) 0 ≡ false = grind (arith, nat_tests) in
     let second : nat_lt KEY_LIMIT (length word) ≡ false = grind (arith, nat_tests) in
     (rw (first, second), rw (first, second))
 
 -- A word of 1 to 250 bytes that decodes is the base64 text of a key.
-pub decoded_key : (word bytes : List ℕ) → IsBytes word → 0 < length word → length word ≤ KEY_LIMIT → decode_of standard word ≡ Ok bytes → IsKeyWord word bytes
+pub decoded_key : (word bytes : List ℕ) → IsBytes word → 0 < length word → length word ≤ KEY_LIMIT
+    → decode_of standard word ≡ Ok bytes → IsKeyWord word bytes
 unfolding base64_of
 decoded_key word bytes octets some short decoded =
     let limits = in_limits word some short in
@@ -67,12 +72,19 @@ decoded_key word bytes octets some short decoded =
     let text = decode_of_strict standard word bytes is_strict octets decoded in
     record {
       key = limits.0 ∙ value;
-      text = record { text = text; octets = decoded_octets word bytes octets decoded; some = filled word bytes text some; short = short_text (length bytes) (omega (arith, ap length text, length-base64_of bytes)) };
+      text =
+          record {
+            text = text;
+            octets = decoded_octets word bytes octets decoded;
+            some = filled word bytes text some;
+            short = short_text (length bytes) (omega (arith, ap length text, length-base64_of bytes));
+          };
       fault = rw (limits.1, value);
     }
 
 -- a word that does not decode
-pub undecoded_key : (word : List ℕ) → 0 < length word → length word ≤ KEY_LIMIT → base64_bytes word ≡ None → (base64_fault word ≡ Some NotBase64) × (base64_key word ≡ None)
+pub undecoded_key : (word : List ℕ) → 0 < length word → length word ≤ KEY_LIMIT → base64_bytes word ≡ None
+    → (base64_fault word ≡ Some NotBase64) × (base64_key word ≡ None)
 undecoded_key word some short none = let limits = in_limits word some short in (rw (limits.1, none), limits.0 ∙ none)
 
 -- the base64 text of a key gives the key
@@ -81,7 +93,8 @@ unfolding base64_of
 text_key word bytes is =
     let long = long_text (length bytes) is.short is.some in
     let size = ap length is.text ∙ length-base64_of bytes in
-    let back : decode_of standard word ≡ Ok bytes = rw is.text (decode_of-encode_of standard bytes is_consistent is.octets) in
+    let back : decode_of standard word ≡ Ok bytes =
+    rw is.text (decode_of-encode_of standard bytes is_consistent is.octets) in
     (in_limits word (omega arith) (omega arith)).0 ∙ decoded_ok word bytes back
 
 -- a word that gives a key is a text of it
@@ -90,7 +103,8 @@ unfolding base64_bytes decoded_of
 key_text word bytes octets is =
     let some : 0 < length word = grind (arith, nat_tests) in
     let short : length word ≤ KEY_LIMIT = grind (arith, nat_tests) in
-    (decoded_key word bytes octets some short (the_ok (decode_of standard word) (sym (in_limits word some short).0 ∙ is))).text where
+    (decoded_key word bytes octets some short
+    (the_ok (decode_of standard word) (sym (in_limits word some short).0 ∙ is))).text where
       the_ok : (read : Result (List ℕ) DecodeError) → result_ok read ≡ Some bytes → read ≡ Ok bytes
       the_ok (Ok read) is = cc
       the_ok (Err e) is = absurd cc

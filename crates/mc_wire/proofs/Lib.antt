@@ -5,5 +5,5 @@ pub mod Places
 pub mod Numbers
 pub mod Scanning
 pub mod Splitting
-pub mod Outlets
+pub mod Sinks
 mod Rows

@@ -12,11 +12,14 @@ odd_product n = omega arith
 
 step_parity : (hash parity byte : ℕ) → hash % 2 ≡ parity % 2 → fnv_step hash byte % 2 ≡ bit_xor parity byte % 2
 step_parity hash parity byte same =
-    odd_product (bit_xor hash byte) ∙ (xor_mod hash byte 1 ∙ (ap (λ low. bit_xor low (byte % 2)) same ∙ sym (xor_mod parity byte 1)))
+    odd_product (bit_xor hash byte)
+    ∙ (xor_mod hash byte 1 ∙ (ap (λ low. bit_xor low (byte % 2)) same ∙ sym (xor_mod parity byte 1)))
 
-fold_parity : (bytes : List ℕ) (hash parity : ℕ) → hash % 2 ≡ parity % 2 → fold fnv_step hash bytes % 2 ≡ fold bit_xor parity bytes % 2
+fold_parity : (bytes : List ℕ) (hash parity : ℕ) → hash % 2 ≡ parity % 2 → fold fnv_step hash bytes % 2
+    ≡ fold bit_xor parity bytes % 2
 fold_parity [] hash parity same = same
-fold_parity (byte ∷ bytes) hash parity same = fold_parity bytes (fnv_step hash byte) (bit_xor parity byte) (step_parity hash parity byte same)
+fold_parity (byte ∷ bytes) hash parity same =
+    fold_parity bytes (fnv_step hash byte) (bit_xor parity byte) (step_parity hash parity byte same)
 
 -- The shard of a key among two is determined by the lowest bits of its bytes: shard 1 if an even number of
 -- them are set, else 0.

@@ -1,11 +1,12 @@
 -- Keys in base64, by a meta command's flag `b` (protocol.txt, Meta Commands): the standard alphabet with
 -- padding (RFC 4648, section 4).
-use Rattle.std.specs.Prelude.{ℕ, ◌≡◌, ◌<◌, ◌≤◌, List, length, Option, Some, None, nat_lt, is_some, ◌↔◌, if◌then◌else◌, ◌==◌}
+use Rattle.std.specs.Prelude.{ℕ, ◌≡◌, ◌<◌, ◌≤◌, List, length, Option, Some, None, nat_lt, is_some, ◌↔◌, if◌then◌else◌}
+use Rattle.std.specs.Prelude.{◌==◌}
 use Rattle.base64.specs.Engines.{standard}
 use Rattle.base64.specs.GeneralPurpose.{IsBytes, decoded_of, encode_of}
 use Rattle.mc_wire.specs.Limits.{decoded_key_limit, key_limit}
-use Rattle.mc_wire.specs.declared.fault.WireFault.{WireFault}
-use Rattle.mc_wire.specs.declared.fault.WireFault.TheVariants.{NoKey, KeyTooLong, NotBase64}
+use Rattle.mc_wire.specs.declared.error.WireError.{WireError}
+use Rattle.mc_wire.specs.declared.error.WireError.TheVariants.{NoKey, KeyTooLong, NotBase64}
 
 -- the base64 text of these bytes
 unfoldable pub base64_of : List ℕ → List ℕ
@@ -23,7 +24,7 @@ pub record IsBase64Of (word bytes : List ℕ) : Type 0 where
   pub short : length bytes ≤ decoded_key_limit
 
 -- why a word isn't a valid key in base64, in the order of the tests
-abbrev pub base64_fault : List ℕ → Option WireFault
+abbrev pub base64_fault : List ℕ → Option WireError
 base64_fault word =
     if length word == 0 then Some NoKey
     else (if nat_lt key_limit (length word) then Some KeyTooLong

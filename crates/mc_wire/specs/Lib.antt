@@ -2,7 +2,7 @@
 pub mod Limits
 pub mod Words
 pub mod Number
-pub mod Outlet
+pub mod Sink
 pub mod Key
 pub mod Base64Key
 pub mod SameKey

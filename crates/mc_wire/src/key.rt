@@ -8,9 +8,9 @@ ghost use Rattle.mc_wire.specs.Key as spec;
 ghost use Rattle.mc_wire.specs.SameKey.{same_key};
 ghost use Rattle.mc_wire.specs.internal.Eight.{IsWord};
 ghost use Rattle.mc_wire.specs.internal.Parity.{parity_of};
-ghost use Rattle.mc_wire.specs.declared.fault.WireFault.TheVariants.{NotBase64};
+ghost use Rattle.mc_wire.specs.declared.error.WireError.TheVariants.{NotBase64};
 
-use crate::fault::WireFault;
+use crate::error::WireError;
 use crate::{BASE64_LIMIT, KEY_LIMIT};
 use base64::engine::general_purpose::STANDARD;
 use std::alloc::{AllocError, Global};
@@ -21,7 +21,7 @@ use std::marker::Model;
 const DECODE_ROOM: usize = 189;
 
 /// Keys of at most this many bytes are stored inline in `Key`, which therefore has a size of 40
-/// bytes.
+/// bytes. See docs/DECISIONS.md, F11.
 const SHORT_KEY: usize = 38;
 
 /// FNV-1a, 32 bits: the offset basis, and the prime by which each step multiplies.
@@ -120,11 +120,11 @@ impl Key {
     /// Keys).
     ///
     /// Errors: `NoKey`, `KeyTooLong`, `KeyByte` or `Memory`, tested in this order.
-    pub fn from_word(alloc: Global, word: &[u8]) -> Result<Key, WireFault>
+    pub fn from_word(alloc: Global, word: &[u8]) -> Result<Key, WireError>
         ensures ok { IfOk result (λ key. (key ≡ word.now) × (key_fault word.now ≡ None)) }
         ensures fault { IfErr result
-            (λ fault. fault ≢ WireFault.Memory → key_fault word.now ≡ Some fault) }
-        ensures memory { IsErrOf result WireFault.Memory → key_fault word.now ≡ None }
+            (λ fault. fault ≢ WireError.Memory → key_fault word.now ≡ Some fault) }
+        ensures memory { IsErrOf result WireError.Memory → key_fault word.now ≡ None }
     {
         if let Some(fault) = key_fault(word) {
             return Err(fault);
@@ -148,30 +148,30 @@ impl Key {
     ///
     /// Errors: `NoKey`, `KeyTooLong`, `NotBase64` or `Memory`, tested in this order.
     #[tactic(auto, using(crate::proofs::Base64Keys::text_key))]
-    pub fn from_base64(alloc: Global, word: &[u8]) -> Result<Key, WireFault>
+    pub fn from_base64(alloc: Global, word: &[u8]) -> Result<Key, WireError>
         ensures ok { IfOk result (λ key. base64_key word.now ≡ Some key) }
         ensures text { IfOk result (λ key. IsBase64Of word.now key) }
         ensures fits { OnOk result (base64_fault word.now ≡ None) }
         ensures fault { IfErr result
-            (λ fault. fault ≢ WireFault.Memory → base64_fault word.now ≡ Some fault) }
+            (λ fault. fault ≢ WireError.Memory → base64_fault word.now ≡ Some fault) }
         ensures none { IfErr result
-            (λ fault. fault ≢ WireFault.Memory → base64_key word.now ≡ None) }
-        ensures memory { IsErrOf result WireFault.Memory → base64_fault word.now ≡ None }
+            (λ fault. fault ≢ WireError.Memory → base64_key word.now ≡ None) }
+        ensures memory { IsErrOf result WireError.Memory → base64_fault word.now ≡ None }
 
         // Conversely, a word that encodes a key yields that key, whatever the result is.
         ensures whole { (bytes : List ℕ) → IsBase64Of word.now bytes →
             base64_key word.now ≡ Some bytes }
     {
         if word.is_empty() {
-            return Err(WireFault::NoKey);
+            return Err(WireError::NoKey);
         }
         if word.len() > KEY_LIMIT {
-            return Err(WireFault::KeyTooLong);
+            return Err(WireError::KeyTooLong);
         }
         // Decoded on the stack first, so that invalid base64 allocates nothing.
         let mut room = [0; DECODE_ROOM];
         let Some(len) = decode(word, &mut room) else {
-            return Err(WireFault::NotBase64);
+            return Err(WireError::NotBase64);
         };
         let key = Key::keep(alloc, room.split_at(len).0)?;
         Ok(key)
@@ -254,19 +254,19 @@ fn parity(bytes: &[u8]) -> usize
 
 /// Why a word isn't a valid key (protocol.txt, Keys): `NoKey`, `KeyTooLong` or `KeyByte`, tested in
 /// this order; `None` if it is one. Allocates nothing.
-pub fn key_fault(word: &[u8]) -> Option<WireFault>
+pub fn key_fault(word: &[u8]) -> Option<WireError>
     ensures { result ≡ key_fault word.now }
 {
     if word.is_empty() {
-        return Some(WireFault::NoKey);
+        return Some(WireError::NoKey);
     }
     if word.len() > KEY_LIMIT {
-        return Some(WireFault::KeyTooLong);
+        return Some(WireError::KeyTooLong);
     }
     if is_key_word(word) {
         None
     } else {
-        Some(WireFault::KeyByte)
+        Some(WireError::KeyByte)
     }
 }
 

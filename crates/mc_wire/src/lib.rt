@@ -1,19 +1,19 @@
-//! The lexical layer of memcached's text protocol: words of a line, numbers, keys, and the outlets
+//! The lexical layer of memcached's text protocol: words of a line, numbers, keys, and the sinks
 //! that replies are written to.
 #![tactic(auto)]
 
-mod fault;
+mod error;
 mod key;
 mod laws;
 mod number;
-mod outlet;
+mod sink;
 mod walk;
 
-pub use fault::{OutFault, WireFault};
+pub use error::{SinkError, WireError};
 pub use key::{Key, key_fault};
 pub use laws::{base64_is_text, limits};
 pub use number::{number_i64, number_u64};
-pub use outlet::{Outlet, put_all, put_parts};
+pub use sink::{Sink, put_parts, write_all};
 pub use walk::{WordWalk, words};
 
 /// Maximum number of digits of a number, leading zeros included.
@@ -39,19 +39,20 @@ pub const DEFAULT_LINE_LIMIT: usize = 65_536;
 pub const DROP_IN_LINE_LIMIT: usize = 1_048_576;
 
 /// Smallest allowed line limit, in bytes.
-pub const LEAST_LINE_LIMIT: usize = 2_048;
+pub const MIN_LINE_LIMIT: usize = 2_048;
 
 /// Largest allowed line limit, in bytes.
-pub const GREATEST_LINE_LIMIT: usize = 8_388_608;
+pub const MAX_LINE_LIMIT: usize = 8_388_608;
 
 /// Default maximum size of a value, in bytes.
 pub const DEFAULT_VALUE_LIMIT: usize = 1_048_576;
 
 /// Smallest allowed value limit, in bytes.
-pub const LEAST_VALUE_LIMIT: usize = 1_024;
+pub const MIN_VALUE_LIMIT: usize = 1_024;
 
 /// Largest allowed value limit, in bytes.
-pub const GREATEST_VALUE_LIMIT: usize = 8_388_608;
+pub const MAX_VALUE_LIMIT: usize = 8_388_608;
 
-/// Latest Unix time of a shard's clock, in seconds: 2^40. Later times count as this one.
+/// Latest Unix time of a shard's clock, in seconds: 2^40. Later times count as this one. See
+/// docs/DECISIONS.md, P1.
 pub const LATEST_MOMENT: u64 = 1_099_511_627_776;

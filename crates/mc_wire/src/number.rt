@@ -7,20 +7,20 @@ ghost use Rattle.mc_wire.specs.internal.Steps.{with_digit};
 ghost use Rattle.mc_wire.specs.internal.Steps as step;
 
 use crate::DIGIT_LIMIT;
-use crate::fault::WireFault;
+use crate::error::WireError;
 
 /// Parses an unsigned 64-bit number: 1 to `DIGIT_LIMIT` digits, leading zeros allowed. Any other
 /// word is `NotNumber`. Allocates nothing.
-pub fn number_u64(word: &[u8]) -> Result<u64, WireFault>
-    ensures { result ≡ ok_or (number_of (2 ^ 64) word.now) WireFault.NotNumber }
+pub fn number_u64(word: &[u8]) -> Result<u64, WireError>
+    ensures { result ≡ ok_or (number_of (2 ^ 64) word.now) WireError.NotNumber }
 {
     if word.is_empty() || word.len() > DIGIT_LIMIT {
-        return Err(WireFault::NotNumber);
+        return Err(WireError::NotNumber);
     }
     let mut value = 0;
     for byte in word {
         let Some(more) = append_digit(value, *byte) else {
-            return Err(WireFault::NotNumber);
+            return Err(WireError::NotNumber);
         };
         value = more;
     }
@@ -30,8 +30,8 @@ pub fn number_u64(word: &[u8]) -> Result<u64, WireFault>
 /// Parses a signed 64-bit number: an optional `-` and 1 to `DIGIT_LIMIT` digits, leading zeros
 /// allowed. Any other word is `NotNumber`, including numbers below -2^63 or above 2^63-1. Allocates
 /// nothing.
-pub fn number_i64(word: &[u8]) -> Result<i64, WireFault>
-    ensures { result ≡ ok_or (integer_of word.now) WireFault.NotNumber }
+pub fn number_i64(word: &[u8]) -> Result<i64, WireError>
+    ensures { result ≡ ok_or (integer_of word.now) WireError.NotNumber }
 {
     match behind_minus(word) {
         Some(digits) => negative(number_u64(digits)?),
@@ -62,15 +62,15 @@ fn behind_minus(word: &[u8]) -> Option<&[u8]>
 }
 
 /// Negates the magnitude; an error if the result is below -2^63.
-fn negative(size: u64) -> Result<i64, WireFault>
-    ensures { result ≡ ok_or (step.negative size) WireFault.NotNumber }
+fn negative(size: u64) -> Result<i64, WireError>
+    ensures { result ≡ ok_or (step.negative size) WireError.NotNumber }
 {
-    0i64.checked_sub_unsigned(size).ok_or(WireFault::NotNumber)
+    0i64.checked_sub_unsigned(size).ok_or(WireError::NotNumber)
 }
 
 /// The magnitude as a signed number; an error if it is above 2^63-1.
-fn positive(size: u64) -> Result<i64, WireFault>
-    ensures { result ≡ ok_or (step.positive size) WireFault.NotNumber }
+fn positive(size: u64) -> Result<i64, WireError>
+    ensures { result ≡ ok_or (step.positive size) WireError.NotNumber }
 {
-    0i64.checked_add_unsigned(size).ok_or(WireFault::NotNumber)
+    0i64.checked_add_unsigned(size).ok_or(WireError::NotNumber)
 }

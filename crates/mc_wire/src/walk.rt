@@ -5,7 +5,7 @@ ghost use Rattle.std.specs.List.{position, list_any};
 ghost use Rattle.mc_wire.specs.Words.{words_of, words_left, is_space};
 ghost use Rattle.mc_wire.specs.internal.Steps.{with_word};
 
-/// Number of bytes that are tested for a space at once.
+/// Number of bytes that are tested for a space at once. See docs/DECISIONS.md, F14.
 const RUN: usize = 16;
 
 /// Iterator over the words of a text.

@@ -1,4 +1,5 @@
-pub mod Desks
+pub mod WorkerStates
 pub mod Steps
 pub mod Turning
 pub mod Marking
+pub mod Scribing

@@ -1,12 +1,13 @@
 -- The marks of a worker's turns for one seat.
-use Rattle.std.proofs.Common.{◌≡◌, ◌≢◌, ℕ, zero, suc, ◌<◌, ◌==◌, Bool, true, false, Option, Some, None, List, [], ◌∷◌, ◌++◌, length, refl, ap, sym, ◌∙◌, arith, slice_set, append-nil, inl, inr, ◌⊎◌}
+use Rattle.std.proofs.Common.{◌≡◌, ◌≢◌, ℕ, zero, suc, ◌<◌, ◌==◌, Bool, true, false, Option, Some, None, List, [], ◌∷◌}
+use Rattle.std.proofs.Common.{◌++◌, length, refl, ap, sym, ◌∙◌, arith, slice_set, append-nil, inl, inr, ◌⊎◌}
 use Rattle.std.proofs.lemmas.Bool.Decides.{eqb_tells}
 use Rattle.std.proofs.lemmas.Option.{same_Some}
 use Rattle.std.specs.List.{slice_get}
 use Rattle.std.specs.Option.{option_map}
 use Rattle.mc_ring.specs.Ends.{sent_on}
 use Rattle.mc_ring.specs.EndsLaws.{get-set_other}
-use Rattle.mc_worker.specs.Desk.{Desk, in_hand}
+use Rattle.mc_worker.specs.WorkerState.{WorkerState, in_hand}
 use Rattle.mc_ring.specs.Reply.{Shown}
 use Rattle.mc_worker.specs.declared.worker.Turn.{Turn}
 use Rattle.mc_worker.specs.declared.worker.Turn.TheVariants.{Gave, Blocked, Nothing, Ended, Ran}
@@ -25,11 +26,11 @@ set_within (y ∷ xs) zero x within = refl
 set_within (y ∷ xs) (suc i) x within = set_within xs i x (omega (arith, within))
 
 -- Where nothing has happened, the marks that were there are the right ones.
-pub marks_refl : (desk : Desk) (marks : List Bool) → Marks desk desk marks marks
-marks_refl desk marks seat = inl (refl, refl)
+pub marks_refl : (worker_state : WorkerState) (marks : List Bool) → Marks worker_state worker_state marks marks
+marks_refl worker_state marks seat = inl (refl, refl)
 
 -- Marks that are right after a first change, and again after a second, are right after both together.
-pub marks_trans : (a b c : Desk) (xs ys zs : List Bool) → Marks a b xs ys → Marks b c ys zs → Marks a c xs zs
+pub marks_trans : (a b c : WorkerState) (xs ys zs : List Bool) → Marks a b xs ys → Marks b c ys zs → Marks a c xs zs
 marks_trans a b c xs ys zs first second seat = elim (first seat) [
   | inl none ↦ elim (second seat) [
     | inl none' ↦ inl (none'.0 ∙ none.0, none'.1 ∙ none.1)
@@ -58,55 +59,79 @@ none_given Ended seat hand no_gift = refl
 none_given (Ran ticket part moment) seat hand no_gift = refl
 
 -- After a turn that gave no reply, the marks that were there are the right ones.
-pub marks_none : (old : Desk) (turn : Turn) (new : Desk) (marks : List Bool) → is_gave turn ≡ false → Gives old turn new → Marks old new marks marks
-marks_none old turn new marks no_gift gives seat = inl (gives seat ∙ rw (none_given turn seat old.hand no_gift) (append-nil (sent_on old.ends seat)), refl)
+pub marks_none : (old : WorkerState) (turn : Turn) (new : WorkerState) (marks : List Bool) → is_gave turn ≡ false
+    → Gives old turn new → Marks old new marks marks
+marks_none old turn new marks no_gift gives seat =
+    inl (gives seat ∙ rw (none_given turn seat old.hand no_gift) (append-nil (sent_on old.ends seat)), refl)
 
 -- Whose reply is in the hand.
-pub at_holder : (hand : Option (ℕ × Shown)) (holder : ℕ) → option_map (λ held. held.0) hand ≡ Some holder → (reply : Shown) × (hand ≡ Some (holder, reply))
+pub at_holder : (hand : Option (ℕ × Shown)) (holder : ℕ) → option_map (λ held. held.0) hand ≡ Some holder
+    → (reply : Shown) × (hand ≡ Some (holder, reply))
 at_holder None holder held = absurd (cc)
 at_holder (Some (seat, reply)) holder held = (reply, ap (λ (k : ℕ). Some (k, reply)) (same_Some seat holder held))
 
-held_for : (hand : Option (ℕ × Shown)) (holder seat : ℕ) (reply : Shown) → hand ≡ Some (holder, reply) → (holder == seat) ≡ true → in_hand seat hand ≡ reply ∷ []
+held_for : (hand : Option (ℕ × Shown)) (holder seat : ℕ) (reply : Shown) → hand ≡ Some (holder, reply)
+    → (holder == seat) ≡ true → in_hand seat hand ≡ reply ∷ []
 held_for hand holder seat reply held at = rw (held, at) refl
 
-held_for_another : (hand : Option (ℕ × Shown)) (holder seat : ℕ) (reply : Shown) → hand ≡ Some (holder, reply) → (holder == seat) ≡ false → in_hand seat hand ≡ []
+held_for_another : (hand : Option (ℕ × Shown)) (holder seat : ℕ) (reply : Shown) → hand ≡ Some (holder, reply)
+    → (holder == seat) ≡ false → in_hand seat hand ≡ []
 held_for_another hand holder seat reply held at = rw (held, at) refl
 
 -- the mark of the seat that was given a reply
-pub marks_gave : (old new : Desk) (holder : ℕ) (marks : List Bool) → Gives old Gave new → option_map (λ held. held.0) old.hand ≡ Some holder → holder < length marks → Marks old new marks (slice_set marks holder true)
+pub marks_gave : (old new : WorkerState) (holder : ℕ) (marks : List Bool) → Gives old Gave new
+    → option_map (λ held. held.0) old.hand ≡ Some holder → holder < length marks
+    → Marks old new marks (slice_set marks holder true)
 marks_gave old new holder marks gives held within seat =
     let hand = at_holder old.hand holder held in
     let sent = sent_on old.ends seat in
     elim (eqb_tells holder seat) [
       | inl at ↦ inr (
-        let longer : sent_on new.ends seat ≡ sent ++ hand.0 ∷ [] = gives seat ∙ ap (λ xs. sent ++ xs) (held_for old.hand holder seat hand.0 hand.1 at.0) in
+        let longer : sent_on new.ends seat ≡ sent ++ hand.0 ∷ [] =
+            gives seat ∙ ap (λ xs. sent ++ xs) (held_for old.hand holder seat hand.0 hand.1 at.0) in
             rw longer (length_more sent hand.0),
         rw (← at.1) (set_within marks holder true within),
       )
       | inr other ↦ inl (
-        gives seat ∙ ap (λ xs. sent ++ xs) (held_for_another old.hand holder seat hand.0 hand.1 other.0) ∙ append-nil sent,
+        gives seat ∙ ap (λ xs. sent ++ xs) (held_for_another old.hand holder seat hand.0 hand.1 other.0)
+            ∙ append-nil sent,
         get-set_other marks holder seat true (λ e. other.1 (sym e)),
       )
     ]
 
 -- A worker whose hand is empty gives no reply.
-pub marks_absurd : (old new : Desk) (P : Type 0) → GivesIt old new → option_map (λ held. held.0) old.hand ≡ None → P
-marks_absurd old new P gave held = absurd (let e : Some gave.seat ≡ None = sym (ap (option_map (λ held. held.0)) gave.held) ∙ held in cc)
+pub marks_absurd : (old new : WorkerState) (P : Type 0) → GivesIt old new → option_map (λ held. held.0) old.hand ≡ None
+    → P
+marks_absurd old new P gave held =
+    absurd (let e : Some gave.seat ≡ None = sym (ap (option_map (λ held. held.0)) gave.held) ∙ held in cc)
 
 -- The reply in the hand is for this seat, or is that which was there at first.
-abbrev pub HeldStill : Desk → ℕ → Desk → Type 0
-HeldStill first seat now = (other : ℕ) → option_map (λ held. held.0) now.hand ≡ Some other → (other ≡ seat) ⊎ (option_map (λ held. held.0) first.hand ≡ Some other)
+abbrev pub HeldStill : WorkerState → ℕ → WorkerState → Type 0
+HeldStill first seat now =
+    (other : ℕ) → option_map (λ held. held.0) now.hand ≡ Some other → (other ≡ seat)
+    ⊎ (option_map (λ held. held.0) first.hand ≡ Some other)
 
 -- A turn leaves the hand empty, as it was, or with a reply for the seat.
-pub held_turn : (first old new : Desk) (seat : ℕ) (turn : Turn) → Turned old seat turn new → HeldStill first seat old → HeldStill first seat new
-held_turn first old new seat Gave turned held other is = absurd (let e : None ≡ Some other = sym (ap (λ (d : Desk). option_map (λ held. held.0) d.hand) turned.rest) ∙ is in cc)
-held_turn first old new seat Blocked turned held other is = held other (sym (ap (λ (d : Desk). option_map (λ held. held.0) d.hand) turned.rest) ∙ is)
-held_turn first old new seat Nothing turned held other is = held other (sym (ap (λ (d : Desk). option_map (λ held. held.0) d.hand) turned.rest) ∙ is)
-held_turn first old new seat Ended turned held other is = held other (sym (ap (λ (d : Desk). option_map (λ held. held.0) d.hand) turned.rest) ∙ is)
-held_turn first old new seat (Ran ticket part moment) turned held other is = inl (same_Some other seat (sym is ∙ ap (λ (d : Desk). option_map (λ held. held.0) d.hand) turned.rest))
+pub held_turn : (first old new : WorkerState) (seat : ℕ) (turn : Turn) → Turned old seat turn new
+    → HeldStill first seat old → HeldStill first seat new
+held_turn first old new seat Gave turned held other is =
+    absurd (let e : None ≡ Some other = sym (ap (λ (d : WorkerState). option_map (λ held. held.0) d.hand) turned.rest)
+    ∙ is in cc)
+held_turn first old new seat Blocked turned held other is =
+    held other (sym (ap (λ (d : WorkerState). option_map (λ held. held.0) d.hand) turned.rest) ∙ is)
+held_turn first old new seat Nothing turned held other is =
+    held other (sym (ap (λ (d : WorkerState). option_map (λ held. held.0) d.hand) turned.rest) ∙ is)
+held_turn first old new seat Ended turned held other is =
+    held other (sym (ap (λ (d : WorkerState). option_map (λ held. held.0) d.hand) turned.rest) ∙ is)
+held_turn first old new seat (Ran ticket part moment) turned held other is =
+    inl (same_Some other seat (sym is ∙ ap (λ (d : WorkerState). option_map (λ held. held.0) d.hand) turned.rest))
 
 -- The seat that is given the reply in the hand is one of those that may be marked.
-pub marks_held : (first now : Desk) (seat holder : ℕ) (before marks : List Bool) → option_map (λ held. held.0) now.hand ≡ Some holder → HeldStill first seat now → MarksNoOther first seat before marks → MarksNoOther first seat before (slice_set marks holder true)
+pub marks_held : (first now : WorkerState) (seat holder : ℕ) (before marks : List Bool)
+    → option_map (λ held. held.0) now.hand ≡ Some holder → HeldStill first seat now
+    → MarksNoOther first seat before marks → MarksNoOther first seat before (slice_set marks holder true)
 marks_held first now seat holder before marks holds held no_other other apart apart_first =
-    let another : other ≢ holder = λ same. elim (held holder holds) [ inl is ↦ apart (same ∙ is) | inr is ↦ apart_first (is ∙ ap (λ k. Some k) (sym same)) ] in
+    let another : other ≢ holder =
+    λ same. elim (held holder holds)
+    [ inl is ↦ apart (same ∙ is) | inr is ↦ apart_first (is ∙ ap (λ k. Some k) (sym same)) ] in
     get-set_other marks holder other true another ∙ no_other other apart apart_first

@@ -9,7 +9,8 @@ use Rattle.mc_store.specs.declared.shard.Shard.{Shard}
 
 -- From whatever state a shard holds, its step is one that the protocol allows, and it holds the state after that.
 pub steps_keep : (old new : Shard) (op : Op) (moment : ℕ) (answer : Answer) → Steps old op moment answer new
-    → (state : State) → Keeps (held_of old) state → (after : State) × IsStep state op moment answer after × Keeps (held_of new) after
+    → (state : State) → Keeps (held_of old) state → (after : State) × IsStep state op moment answer after
+    × Keeps (held_of new) after
 unfolding IsShard
 steps_keep old new op moment answer steps state kept = let done = steps state kept in (done.0, done.1, done.2)
 

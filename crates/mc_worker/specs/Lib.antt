@@ -1,5 +1,6 @@
-pub mod Desk
-pub mod DeskLaws
+pub mod WorkerState
+pub mod WorkerStateLaws
 pub mod Turns
 pub mod Marks
 pub mod Serves
+pub mod Scribe

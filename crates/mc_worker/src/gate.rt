@@ -2,13 +2,14 @@
 use mc_reply::Ticket;
 use mc_store::Shard;
 
-/// Is called before a shard runs a piece. Whoever wants to hold workers up, or to see what they run, gives one of their own.
+/// Is called before a shard runs a piece. Whoever wants to hold workers up, or to see what they
+/// run, gives one of their own.
 pub trait Gate {
     /// The shard of this number is about to run a piece of the command of this ticket.
     fn before(&self, shard: usize, ticket: Ticket);
 
-    /// The shard of this number has run all that was there for it: what it holds and what it has counted may be looked at. Nothing
-    /// is done where a gate doesn't say otherwise.
+    /// The shard of this number has run all that was there for it: what it holds and what it has
+    /// counted may be looked at. Nothing is done where a gate doesn't say otherwise.
     fn after(&self, _number: usize, _shard: &Shard) {}
 }
 

@@ -1,12 +1,13 @@
--- What the process takes, in bytes: a bound on what was measured, which a test holds the process to.
+-- The memory of the process in bytes: a bound on what was measured, which a test compares with the
+-- process.
 use Rattle.std.specs.Prelude.{ℕ, ◌+◌, ◌-◌, ◌*◌, ◌/◌, ◌^◌, Bool, if◌then◌else◌, min}
 use Rattle.mc_sizes.specs.declared.sizes.Sizes.{Sizes}
 
--- the number, or the greatest of 64 bits
+-- the number, or 2^64 - 1 if it is greater
 abbrev pub held : ℕ → ℕ
 held number = min number (2 ^ 64 - 1)
 
--- what the items of all shards may cost together
+-- the maximum cost of all shards' items together
 abbrev pub memory_of : Sizes → ℕ
 memory_of sizes = held (sizes.shards * sizes.bytes)
 
@@ -18,7 +19,7 @@ bytes_at_start sizes = held (4194304 + held (sizes.seats * held (2304 + held (si
 abbrev pub bytes_connected : Sizes → ℕ
 bytes_connected sizes = held (bytes_at_start sizes + held (sizes.seats * 16384))
 
--- what an item takes beside its key and value: 290, and 136 more where it has an expiry
+-- an item's memory beside its key and value: 290, and 136 more with an expiry
 abbrev pub bytes_beside : Bool → ℕ
 bytes_beside expires = if expires then 426 else 290
 

@@ -5,37 +5,37 @@ use mc_reply::ServerStats;
 use mc_seat::Clock;
 use mc_server::MachineClock;
 use mc_sizes::Sizes;
-use mc_watch::{Counts, Totals, Watch};
+use mc_watch::{Counts, Telemetry, Totals};
 use std::alloc::{AllocError, Global};
 use std::boxed::Box;
 use std::fs::File;
 use std::rt::Files;
 use std::time;
 
-/// The machine's time, and what the threads of the server have counted, which all copies share.
+/// The machine's time, and the counts of the server's threads, which all copies share.
 #[derive(Clone, Copy)]
 pub struct ServerClock<R> {
     clock: MachineClock<R>,
     /// /proc/self/stat, if it can be opened.
     stat: Option<&'static File>,
-    /// Its time at the start.
+    /// The time at which the clock was made.
     started: u64,
-    /// How many connections are served at a time at most.
+    /// The maximum number of open connections.
     seats: u64,
-    /// What its threads count, if they count.
+    /// The counters of the server's threads, if they count.
     counts: Option<&'static Counts>,
 }
 
 impl<R: time::Clock + Files<File = File> + Copy> ServerClock<R> {
-    /// It starts now. The memory of the counts is never freed, and the file never closed: each thread
-    /// reads them until it ends.
+    /// A clock that starts now. The memory of the counters is never freed, and the file never
+    /// closed: each thread reads them until it ends.
     pub fn start(
         rt: R,
         alloc: Global,
         sizes: &Sizes,
-        watch: &Watch,
+        telemetry: &Telemetry,
     ) -> Result<ServerClock<R>, AllocError> {
-        let counts = match &watch.counts {
+        let counts = match &telemetry.counts {
             Some(counts) => Some(leaked(alloc, counts.share(alloc)?)?),
             None => None,
         };
@@ -54,7 +54,7 @@ impl<R: time::Clock + Files<File = File> + Copy> ServerClock<R> {
     }
 }
 
-/// The counts at a place that is never freed.
+/// The counters at an address that is never freed.
 fn leaked(alloc: Global, counts: Counts) -> Result<&'static Counts, AllocError> {
     Ok(Box::leak(Box::new(alloc, counts)?))
 }

@@ -1,4 +1,4 @@
-//! The files that are open at the start, and how many more the system lets the program open.
+//! The files that are open at the start, and how many more may be opened.
 ghost use Rattle.std.specs.Prelude.{◌≡◌, ◌+◌, ◌*◌, ◌-◌, ◌^◌, min};
 
 use libc::types::rlimit;
@@ -7,19 +7,20 @@ use std::io::Eprint;
 use std::os::fd::{AsRawFd, IntoRawFd};
 use std::rt::Files;
 
-/// The files that each shard's thread has open: its poll twice, and what wakes it.
+/// Files of each shard's thread: two for its poll, and its waker.
 const FILES_A_SHARD: u64 = 3;
 
-/// The files that are open besides: the three standard ones, the three of the thread that accepts, a connection that waits for a
-/// seat, and what says which signals wait.
+/// Other open files: the three standard ones, the three of the accepting thread, a connection that
+/// waits for a slot, and the status file with the pending signals.
 const OTHER_FILES: u64 = 8;
 
-/// The last of the descriptors of standard input, output and errors.
+/// The last descriptor of standard input, output and error.
 const LAST_STANDARD: i32 = 2;
 
-/// Opens an empty file for each of the standard descriptors that is closed, so that no socket gets its number: what is written
-/// to standard error would reach a client. It can only be read, so a write fails as at a closed one. Where there is no
-/// `/dev/null`, the root directory takes its place.
+/// Opens an empty file for each standard descriptor that is closed. Otherwise a socket could get
+/// its number, and what is written to standard error would reach a client. The file is read-only,
+/// so a write fails as it would on a closed descriptor. Without `/dev/null` the root directory is
+/// opened.
 pub fn open_standard<R: Files<File = File>>(rt: &R) {
     for _ in 0..=LAST_STANDARD {
         let opened = File::open(rt, "/dev/null").or_else(|_| File::open(rt, "/"));
@@ -32,7 +33,7 @@ pub fn open_standard<R: Files<File = File>>(rt: &R) {
     }
 }
 
-/// How many files are open while each seat has a connection, the listeners among them.
+/// The number of open files if each slot has a connection, listeners included.
 fn files_for(seats: usize, shards: usize, listeners: usize) -> u64
     ensures { result ≡
         min
@@ -46,8 +47,8 @@ fn files_for(seats: usize, shards: usize, listeners: usize) -> u64
         .saturating_add(OTHER_FILES)
 }
 
-/// Tells on standard error where fewer files may be open than a connection on each seat needs. Connections that find no file
-/// wait, as those that find no seat.
+/// Warns on standard error if fewer files may be open than a connection on each slot needs.
+/// Connections that find no file wait like those that find no slot. See docs/DECISIONS.md, N10.
 pub fn tell_files(rt: &impl Eprint, seats: usize, shards: usize, listeners: usize) {
     let mut limit = rlimit {
         rlim_cur: 0,
@@ -57,7 +58,7 @@ pub fn tell_files(rt: &impl Eprint, seats: usize, shards: usize, listeners: usiz
     if libc::getrlimit(libc::RLIMIT_NOFILE, &mut limit) == 0 && limit.rlim_cur < needed {
         let most = limit.rlim_cur;
         let _ = eprintln!(rt;
-            "mcd: --seats {seats} needs {needed} open files, and {most} are allowed (ulimit -n)"
+            "mcd: warning: --seats {seats} needs {needed} open files, but only {most} are allowed (ulimit -n)"
         );
     }
 }

@@ -1,4 +1,4 @@
-//! Listens where the command line says.
+//! Listens at the addresses and paths of the command line. See docs/DECISIONS.md, O5.
 use crate::refuse;
 use mc_doors::Listener;
 use mc_options::{listening_address, listening_path};
@@ -9,34 +9,35 @@ use std::net::{Net, SocketAddr, ToSocketAddrs};
 use std::process::ExitCode;
 use std::rt::Files;
 
-/// Linux's error number for a family of addresses that it doesn't have, as IPv6 where that is switched off.
+/// Linux's errno for an address family that is not supported, such as IPv6 if it is switched off.
 const NO_FAMILY: i32 = 97;
 
-/// Where to listen, as the options give it.
+/// Where to listen, from the options.
 #[derive(Clone, Copy)]
 pub struct Places<'a> {
-    /// The words of `--listen`, each of them one place or several with commas between them.
+    /// The words of `--listen`, each with one address or several, separated by commas.
     pub words: &'a [&'a str],
     /// The path of `--unix-socket`.
     pub path: Option<&'a str>,
     /// The mode of Unix sockets.
     pub mode: u32,
-    /// The port of an address that names none.
+    /// The port of an address without one.
     pub port: &'a str,
 }
 
-/// What listens there.
+/// The listeners.
 #[derive(Drop)]
 pub struct Opened {
     pub listeners: Vec<Listener>,
-    /// Their addresses and paths, as they are told.
+    /// Their addresses and paths, as they are printed.
     pub names: String,
-    /// The ports of their addresses, each once.
+    /// The ports of their addresses, without duplicates.
     pub ports: Vec<u16>,
 }
 
 impl Opened {
-    /// Listens at all of the places. Where one is refused the reason is told, and the status of the program is returned.
+    /// Listens at all of the addresses and paths. If one fails, reports the reason and returns the
+    /// program's exit status.
     pub fn at<R: Net + Files + Eprint + Alloc<A = Global>>(
         rt: &R,
         places: Places<'_>,
@@ -56,7 +57,7 @@ impl Opened {
         Ok(opened)
     }
 
-    /// Listens at each place of a word.
+    /// Listens at each address of a word.
     fn open_word<R: Net + Files + Eprint + Alloc<A = Global>>(
         &mut self,
         rt: &R,
@@ -69,7 +70,7 @@ impl Opened {
         Ok(())
     }
 
-    /// Listens at a place of `--listen`.
+    /// Listens at one address or path of `--listen`.
     fn open_place<R: Net + Files + Eprint + Alloc<A = Global>>(
         &mut self,
         rt: &R,
@@ -90,7 +91,8 @@ impl Opened {
         }
     }
 
-    /// Listens at each address that a host and a port mean, but for those that this machine doesn't have, where it has another.
+    /// Listens at each address of a host and port. Of several, those that this machine doesn't have
+    /// are skipped, unless it has none.
     fn open_name<R: Net>(&mut self, rt: &R, name: &str) -> io::Result<()> {
         let before = self.listeners.len();
         let mut passed_over = None;
@@ -106,7 +108,7 @@ impl Opened {
         }
     }
 
-    /// Listens at the address, unless one of the listeners behind the first `before` does.
+    /// Listens at the address, unless a listener after the first `before` has it already.
     fn open_address<R: Net>(
         &mut self,
         rt: &R,
@@ -135,7 +137,7 @@ impl Opened {
         Ok(self.listeners.push(listener)?)
     }
 
-    /// Parts the next name from those before.
+    /// Separates the next name from those before it.
     fn part_names(&mut self) -> Result<(), AllocError> {
         if self.listeners.is_empty() {
             return Ok(());
@@ -144,12 +146,12 @@ impl Opened {
     }
 }
 
-/// Whether the fault of listening at an address is that this machine doesn't have it.
+/// Whether listening failed because this machine doesn't have the address.
 fn is_elsewhere(fault: &io::Error) -> bool {
     fault.kind() == ErrorKind::AddrNotAvailable || fault.raw_os_error() == Some(NO_FAMILY)
 }
 
-/// Tells why there is no listening at the place that an option gives; the status with which the program ends.
+/// Reports why listening at the address of an option failed, and returns the exit status.
 pub fn refuse_place(rt: &impl Eprint, option: &str, place: &str, fault: &io::Error) -> ExitCode {
     let status = refuse(rt, "cannot listen");
     let _ = eprintln!(rt; "mcd: --{option} {place}: {fault}");

@@ -1,4 +1,4 @@
-//! What the process takes by its options.
+//! The memory that the process takes with its options (`--plan`; docs/DECISIONS.md, O7).
 ghost use Rattle.std.specs.Prelude.{◌≡◌};
 ghost use Rattle.mcd.specs.Plan.{bytes_at_start, bytes_beside, bytes_connected, bytes_full, memory_of};
 
@@ -10,10 +10,10 @@ use std::io;
 use std::io::{Eprint, Print};
 use std::process::ExitCode;
 
-/// What a key and its value have together, in bytes, for which the plan says what the process takes.
+/// Lengths of key and value together, in bytes, for which the plan shows the memory of the process.
 const LENGTHS: [u64; 4] = [32, 128, 1_024, 16_384];
 
-/// Prints what a server of these sizes takes; the status with which the program ends.
+/// Prints the memory of a server of these sizes, and returns the exit status.
 pub fn print_plan<R: Print + Eprint>(rt: &R, sizes: &Sizes) -> ExitCode {
     tell_warnings(rt, sizes);
     match print_lines(rt, sizes) {
@@ -22,32 +22,33 @@ pub fn print_plan<R: Print + Eprint>(rt: &R, sizes: &Sizes) -> ExitCode {
     }
 }
 
-/// The lines of the plan: the server, and what its process takes.
+/// The lines of the plan: the server, and the memory of its process.
 fn print_lines<R: Print>(rt: &R, sizes: &Sizes) -> io::Result<()> {
     print_server(rt, sizes)?;
-    print_figure(rt, bytes_at_start(sizes), "at the start")?;
+    print_figure(rt, bytes_at_start(sizes), "at startup")?;
     print_figure(rt, bytes_connected(sizes), "with a connection on each seat")?;
     print_full(rt, sizes)?;
-    println!(rt; "Replies that clients don't read, and long lines, come on top.")
+    println!(rt; "Long lines, and replies that clients don't read, come on top.")
 }
 
-/// The server of which this is the plan.
+/// The line that describes the server.
 fn print_server<R: Print>(rt: &R, sizes: &Sizes) -> io::Result<()> {
     let rules = rules_of(sizes.profile);
     let (shards, seats) = (sizes.shards, sizes.seats);
     let memory = mebibytes(memory_of(sizes));
     let share = mebibytes(sizes.bytes as u64);
     println!(rt; "mcd {VERSION}: {rules}, {shards} threads, {memory} MiB, {seats} seats")?;
-    println!(rt; "each shard holds {share} MiB of items; the process takes at most about:")
+    println!(rt; "each shard holds up to {share} MiB of items; the process takes at most about:")
 }
 
-/// What the process takes full of items, for each of some lengths, without expiries and with them.
+/// The memory of the process when it is full of items, for several lengths, without expiries and
+/// with them.
 fn print_full<R: Print>(rt: &R, sizes: &Sizes) -> io::Result<()> {
     for length in LENGTHS {
         let full = mebibytes(bytes_full(sizes, length, false));
         let expiring = mebibytes(bytes_full(sizes, length, true));
         println!(rt;
-            "  {full} MiB full of items of {length} bytes, key and value; {expiring} MiB if each has an expiry"
+            "  {full} MiB when full of items of {length} bytes (key and value); {expiring} MiB if each has an expiry"
         )?;
     }
     Ok(())
@@ -59,39 +60,39 @@ fn print_figure<R: Print>(rt: &R, bytes: u64, when: &str) -> io::Result<()> {
     println!(rt; "  {count} MiB {when}")
 }
 
-/// What the items of all shards may cost together, in bytes.
+/// The maximum cost of all shards' items together, in bytes.
 pub fn memory_of(sizes: &Sizes) -> u64
     ensures { result ≡ memory_of sizes.now }
 {
     (sizes.shards as u64).saturating_mul(sizes.bytes as u64)
 }
 
-/// What the process takes at its start, in bytes.
+/// The memory of the process at its start, in bytes.
 fn bytes_at_start(sizes: &Sizes) -> u64
     ensures { result ≡ bytes_at_start sizes.now }
 {
-    let lanes = (sizes.shards as u64).saturating_mul(6_144);
-    let seat = 2_304_u64.saturating_add(lanes);
+    let channels = (sizes.shards as u64).saturating_mul(6_144);
+    let seat = 2_304_u64.saturating_add(channels);
     4_194_304_u64.saturating_add((sizes.seats as u64).saturating_mul(seat))
 }
 
-/// What it takes with an open connection on each seat, in bytes.
+/// Its memory with an open connection on each slot, in bytes.
 fn bytes_connected(sizes: &Sizes) -> u64
     ensures { result ≡ bytes_connected sizes.now }
 {
     bytes_at_start(sizes).saturating_add((sizes.seats as u64).saturating_mul(16_384))
 }
 
-/// What an item takes beside its key and value, in bytes; more where it has an expiry, for its places in the queue of those that
-/// are looked at.
+/// The memory of an item beside its key and value, in bytes. An expiry adds to it, for entries in
+/// the queue of items to check.
 fn bytes_beside(expires: bool) -> u64
     ensures { result ≡ bytes_beside expires }
 {
     if expires { 426 } else { 290 }
 }
 
-/// What the process takes full of items whose key and value have `length` bytes together, in bytes. Either each has an expiry or
-/// none has one.
+/// The memory of the process, in bytes, when it is full of items whose key and value have `length`
+/// bytes together. Either each has an expiry or none has one.
 fn bytes_full(sizes: &Sizes, length: u64, expires: bool) -> u64
     ensures { result ≡ bytes_full sizes.now length expires }
 {

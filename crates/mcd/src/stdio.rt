@@ -1,26 +1,27 @@
-//! Serves one line, as the command line says.
+//! Serves one line, by the options of the command line.
 ghost use Rattle.std.specs.Prelude.{IfOk};
 ghost use Rattle.mc_sizes.specs.Sizes.{AreWithin};
 ghost use Rattle.mc_seat.specs.Explains.{IsExplained};
 ghost use Rattle.mcd.specs.Served.{MayBe};
 
-use mc_seat::{Clock, Line, Served};
-use mc_server::{LineRefusal, MachineClock, StillClock, serve_one};
+use mc_seat::{Clock, Served, Transport};
+use mc_server::{FixedClock, LineError, MachineClock, serve_one};
 use mc_sizes::Sizes;
 use std::alloc::Global;
 use std::random::RandomSource;
 use std::sync::Wait;
 use std::time;
 
-/// Serves one line until it ends, by the machine's clock, or where every moment is given by that one.
-pub fn serve_line<R: Wait + RandomSource + time::Clock + Alloc<A = Global>, L: Line>(
+/// Serves one line until it ends, by the machine's clock, or by a clock that is fixed at the given
+/// time.
+pub fn serve_line<R: Wait + RandomSource + time::Clock + Alloc<A = Global>, L: Transport>(
     rt: &R,
     line: &mut L,
     at: Option<u64>,
     sizes: Sizes,
-) -> Result<Served, LineRefusal>
+) -> Result<Served, LineError>
     requires { AreWithin sizes }
-    // A server of these sizes explains what was read and written, at such moments.
+    // A server of these sizes explains what was read and written, at such times.
     ensures explained { IfOk result (λ served.
         IsExplained (record sizes { seats = 1 }) (MayBe at)
         (record {
@@ -31,18 +32,18 @@ pub fn serve_line<R: Wait + RandomSource + time::Clock + Alloc<A = Global>, L: L
         })) }
 {
     match at {
-        Some(moment) => serve_by(rt, line, sizes, &StillClock(moment)),
+        Some(moment) => serve_by(rt, line, sizes, &FixedClock(moment)),
         None => serve_by(rt, line, sizes, &MachineClock::start(rt)),
     }
 }
 
 /// Serves one line until it ends, by this clock.
-fn serve_by<R: Wait + RandomSource + Alloc<A = Global>, L: Line, K: Clock>(
+fn serve_by<R: Wait + RandomSource + Alloc<A = Global>, L: Transport, K: Clock>(
     rt: &R,
     line: &mut L,
     sizes: Sizes,
     clock: &K,
-) -> Result<Served, LineRefusal>
+) -> Result<Served, LineError>
     requires { AreWithin sizes }
     ensures explained { IfOk result (λ served.
         IsExplained (record sizes { seats = 1 }) (K.may_answer clock.now)

@@ -1,4 +1,4 @@
-//! Serves those who connect, as the command line says.
+//! Serves clients over sockets, by the options of the command line.
 ghost use Rattle.mc_sizes.specs.Sizes.{AreWithin};
 
 use crate::clock::ServerClock;
@@ -7,8 +7,8 @@ use crate::places::{Opened, Places, refuse_place};
 use crate::refuse;
 use crate::start::{tell_start, tell_warnings};
 use crate::version::VERSION;
-use mc_metrics::{Ended, NotWatching, Wishes, start_watching};
-use mc_serve::{ServeRefusal, serve_tcp};
+use mc_metrics::{Ended, Requester, TelemetryConfig, TelemetryError, start_telemetry};
+use mc_serve::{ServeError, serve_tcp};
 use mc_sizes::Sizes;
 use std::alloc::Global;
 use std::fs::File;
@@ -21,7 +21,7 @@ use std::sync::Wait;
 use std::thread::Threads;
 use std::time;
 
-/// Listens at the places, and serves who connects; the status with which the program ends.
+/// Listens, serves clients until the server ends, and returns the exit status.
 pub fn listen<
     R: Threads
         + Wait
@@ -40,7 +40,7 @@ pub fn listen<
     places: Places<'_>,
     connections: Option<u64>,
     sizes: Sizes,
-    wishes: Wishes<'_>,
+    telemetry_config: TelemetryConfig<'_>,
 ) -> ExitCode
     requires { AreWithin sizes }
 {
@@ -52,18 +52,32 @@ pub fn listen<
         Ok(opened) => opened,
         Err(status) => return status,
     };
-    let (watch, watching) = match start_watching(rt, VERSION, ports.leak(), sizes, wishes) {
+    let (telemetry, watching) = match start_telemetry(
+        rt,
+        VERSION,
+        ports.leak(),
+        sizes,
+        telemetry_config,
+    ) {
         Ok(begun) => begun,
-        Err(fault) => return refuse_watching(rt, fault, sizes.shards, wishes.metrics),
+        Err(fault) => return refuse_watching(rt, fault, sizes.shards, telemetry_config.metrics),
     };
-    let Ok(clock) = ServerClock::start(*rt, rt.alloc(), &sizes, &watch) else {
+    let Ok(clock) = ServerClock::start(*rt, rt.alloc(), &sizes, &telemetry) else {
         let _ = watching.end(rt);
         return refuse(rt, "out of memory");
     };
     tell_start(rt, &sizes, names.as_str());
     tell_files(rt, sizes.seats, sizes.shards, listeners.len());
     tell_warnings(rt, &sizes);
-    let served = serve_tcp(rt, rt.alloc(), listeners, sizes, connections, clock, watch);
+    let served = serve_tcp(
+        rt,
+        rt.alloc(),
+        listeners,
+        sizes,
+        connections,
+        clock,
+        telemetry,
+    );
     let ended = watching.end(rt);
     match served {
         Ok(_) => report_end(rt, ended),
@@ -71,42 +85,64 @@ pub fn listen<
     }
 }
 
-/// Reports that a signal ended the server, where one did; the status with which the program ends.
+/// Reports what ended the server, if anything did, and returns the exit status.
 fn report_end(rt: &impl Eprint, ended: Ended) -> ExitCode {
     let _ = match ended {
         Ended::Unasked => Ok(()),
-        Ended::InOrder => eprintln!(rt; "mcd: ended by a signal, all replies written"),
-        Ended::Cut => eprintln!(rt; "mcd: ended by a signal, connections cut off (--drain)"),
+        Ended::InOrder(requester) => {
+            let name = name_of(requester);
+            eprintln!(rt; "mcd: stopped by {name}, all replies written")
+        }
+        Ended::Cut(requester) => {
+            let name = name_of(requester);
+            eprintln!(rt; "mcd: stopped by {name}, connections cut off (--drain)")
+        }
     };
     ExitCode::SUCCESS
 }
 
-/// Tells why nothing is watched; the status with which the program ends.
+/// What ended the server, as it is reported.
+fn name_of(requester: Requester) -> &'static str {
+    match requester {
+        Requester::Signal => "a signal",
+        Requester::Client => "a client's shutdown",
+    }
+}
+
+/// Reports why telemetry could not be started, and returns the exit status.
 fn refuse_watching(
     rt: &impl Eprint,
-    fault: NotWatching,
+    fault: TelemetryError,
     shards: usize,
     metrics: Option<&str>,
 ) -> ExitCode {
     match fault {
-        NotWatching::Memory => refuse(rt, "out of memory"),
-        NotWatching::Thread => refuse_threads(rt, shards),
-        NotWatching::Metrics(error) => refuse_place(rt, "metrics", metrics.unwrap_or(""), &error),
+        TelemetryError::Memory => refuse(rt, "out of memory"),
+        TelemetryError::Thread => refuse_threads(rt, shards),
+        TelemetryError::Metrics(error) => refuse_place(
+            rt,
+            "metrics",
+            metrics.unwrap_or(""),
+            &error,
+        ),
     }
 }
 
-/// Tells why the server ended; the status with which the program ends.
-fn refuse_serving(rt: &impl Eprint, refusal: ServeRefusal, shards: usize) -> ExitCode {
+/// Reports why the server ended, and returns the exit status.
+fn refuse_serving(rt: &impl Eprint, refusal: ServeError, shards: usize) -> ExitCode {
     match refusal {
-        ServeRefusal::Memory => refuse(rt, "out of memory"),
-        ServeRefusal::Thread => refuse_threads(rt, shards),
-        ServeRefusal::Bind => refuse(rt, "cannot listen"),
+        ServeError::Memory => refuse(rt, "out of memory"),
+        ServeError::Thread => refuse_threads(rt, shards),
+        ServeError::Bind => refuse(rt, "cannot listen"),
     }
 }
 
-/// Tells how many threads the options ask for, where they can't be started; the status with which the program ends.
+/// Reports the number of threads in the options, if they can't be started, and returns the exit
+/// status.
 fn refuse_threads(rt: &impl Eprint, shards: usize) -> ExitCode {
     let status = refuse(rt, "cannot start a thread");
-    let _ = eprintln!(rt; "mcd: --shards {shards} needs a thread for each, and three open files");
+    let _ = eprintln!(rt;
+        "mcd: --shards {shards} needs {shards} threads, and three open files each"
+    );
     status
 }

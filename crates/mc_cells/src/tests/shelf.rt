@@ -1,4 +1,4 @@
-//! Texts in a list, which lie in cells.
+//! Texts in cells, as a list.
 ghost use Rattle.std.specs.Prelude.{◌≡◌, ◌∷◌, ◌<◌, ◌≤◌, [], length, slice_index_or, IfOk, OnOk, OnErr};
 ghost use Rattle.std.specs.List.{remove};
 ghost use Rattle.mc_cells.specs.declared.TheConstants.{TEXT_LIMIT};
@@ -8,12 +8,12 @@ use bytes::Bytes;
 use std::alloc::{AllocError, Global};
 use std::marker::Model;
 
-/// Texts, the last one that came first.
+/// Texts, with the newest one first.
 #[derive(Drop)]
 pub struct Shelf {
     cells: Cells,
     page: Page,
-    /// The place of each, and its length.
+    /// The first cell and the length of each text.
     kept: Vec<(u32, usize)>,
 }
 
@@ -47,7 +47,7 @@ impl Shelf {
         self.kept.len()
     }
 
-    /// Puts a text before the others. Where memory is refused nothing changes.
+    /// Puts a text before the others. If memory is refused nothing changes.
     pub fn put(&mut self, text: &[u8]) -> Result<(), AllocError>
         requires { length text.now ≤ TEXT_LIMIT }
         ensures ok { OnOk result (self.new ≡ text.now ∷ self.old) }
@@ -61,7 +61,7 @@ impl Shelf {
         Ok(())
     }
 
-    /// Takes the text at an index out.
+    /// Removes the text at an index.
     pub fn take(&mut self, index: usize)
         requires { index < length self.old }
         ensures { self.new ≡ remove self.old index }

@@ -1,5 +1,6 @@
 -- Parsing one flag after another: what each means, and the state so far.
-use Rattle.std.specs.Prelude.{ℕ, ◌≡◌, ◌+◌, ◌==◌, ◌^◌, Bool, true, false, not, List, [], ◌∷◌, ◌++◌, length, Option, Some, None, nat_lt, codes, if◌then◌else◌, Result, Ok, Err, replicate, slice_index_or, slice_set}
+use Rattle.std.specs.Prelude.{ℕ, ◌≡◌, ◌+◌, ◌==◌, ◌^◌, Bool, true, false, not, List, [], ◌∷◌, ◌++◌, length, Option, Some}
+use Rattle.std.specs.Prelude.{None, nat_lt, codes, if◌then◌else◌, Result, Ok, Err, replicate, slice_index_or, slice_set}
 use Rattle.std.specs.Option.{ok_or, option_map}
 use Rattle.std.specs.Str.{byte}
 use Rattle.mc_wire.specs.Number.{number_of, integer_of}
@@ -11,8 +12,9 @@ use Rattle.mc_command.specs.declared.meta_flags.Flag.TheVariants as flag
 use Rattle.mc_command.specs.declared.meta_flags.FlagReader.{FlagReader}
 use Rattle.mc_command.specs.declared.meta.MetaKind.{MetaKind}
 use Rattle.mc_command.specs.declared.meta.MetaKind.TheVariants.{Set, Arithmetic}
-use Rattle.mc_command.specs.declared.refusal.Refusal.{Refusal}
-use Rattle.mc_command.specs.declared.refusal.Refusal.TheVariants.{BadFormat, InvalidFlag, DuplicateFlag, OpaqueTooLong}
+use Rattle.mc_command.specs.declared.error.CommandError.{CommandError}
+use Rattle.mc_command.specs.declared.error.CommandError.TheVariants.{BadFormat, InvalidFlag, DuplicateFlag}
+use Rattle.mc_command.specs.declared.error.CommandError.TheVariants.{OpaqueTooLong}
 use Rattle.mc_command.specs.declared.rules.Profile.{Profile}
 use Rattle.mc_command.specs.declared.rules.Rules.{Rules}
 use Rattle.mc_command.specs.Field.{then_of}
@@ -37,16 +39,16 @@ nothing_asked profile = record {
   direction = None;
 }
 
-abbrev pub mode_flag : MetaKind → List ℕ → Result Flag Refusal
+abbrev pub mode_flag : MetaKind → List ℕ → Result Flag CommandError
 mode_flag Set token = ok_or (option_map flag.Mode (mode_of token)) BadFormat
 mode_flag Arithmetic token = ok_or (option_map flag.Direction (direction_of token)) BadFormat
 mode_flag other token = Err BadFormat
 
-abbrev pub opaque_flag : List ℕ → Result Flag Refusal
+abbrev pub opaque_flag : List ℕ → Result Flag CommandError
 opaque_flag token = if nat_lt OPAQUE_LIMIT (length token) then Err OpaqueTooLong else Ok (flag.Opaque token)
 
 -- the meaning of a flag besides being returned
-abbrev pub flag_of : MetaKind → ℕ → List ℕ → Result Flag Refusal
+abbrev pub flag_of : MetaKind → ℕ → List ℕ → Result Flag CommandError
 flag_of name letter token =
     if letter == byte "b" then Ok flag.Base64
     else (if letter == byte "q" then Ok flag.Quiet
@@ -88,7 +90,8 @@ with_flag asked flag.Bare = asked
 -- the state with one more returned flag, if there is one
 abbrev pub with_shown : FlagsRead → Option ReturnFlag → FlagsRead
 with_shown asked None = asked
-with_shown asked (Some shown) = record asked { flags = record asked.flags { returned = asked.flags.returned ++ shown ∷ [] } }
+with_shown asked (Some shown) =
+    record asked { flags = record asked.flags { returned = asked.flags.returned ++ shown ∷ [] } }
 
 -- how many of these letters were seen
 abbrev pub seen_count : List Bool → List ℕ → ℕ
@@ -105,7 +108,7 @@ pub record CountsFlags (reader : FlagReader) : Type 0 where
   pub shown : length reader.asked.flags.returned ≡ shown_count reader.seen
 
 -- the state with one more flag
-abbrev pub with_word : Rules → MetaKind → FlagReader → List ℕ → Result FlagReader Refusal
+abbrev pub with_word : Rules → MetaKind → FlagReader → List ℕ → Result FlagReader CommandError
 with_word rules name reader [] = Err InvalidFlag
 with_word rules name reader (letter ∷ token) =
     if not (is_among (letters_by rules.profile name) letter) then Err InvalidFlag

@@ -16,10 +16,11 @@ use Rattle.mc_command.specs.declared.meta.MetaSet.{MetaSet}
 use Rattle.mc_command.specs.declared.meta_flags.FlagsRead.{FlagsRead}
 use Rattle.mc_command.specs.declared.meta.MetaKind.{MetaKind}
 use Rattle.mc_command.specs.declared.meta.MetaKind.TheVariants.{Get, Set, Delete, Arithmetic}
-use Rattle.mc_command.specs.declared.refusal.Refusal.{Refusal}
+use Rattle.mc_command.specs.declared.error.CommandError.{CommandError}
 use Rattle.mc_command.specs.declared.rules.Rules.{Rules}
 use Rattle.mc_command.specs.Field.{exptime_by}
-use Rattle.mc_command.specs.Meta.{compare_by, compare_refusal, direction_of, flags_of, has_flag, mode_of, token_of, unless, unsigned_token, vivify_of}
+use Rattle.mc_command.specs.Meta.{compare_by, compare_refusal, direction_of, flags_of, has_flag, mode_of, token_of}
+use Rattle.mc_command.specs.Meta.{unless, unsigned_token, vivify_of}
 
 -- the signed number in a flag's token
 abbrev pub signed_token : ℕ → List (List ℕ) → Option ℤ
@@ -115,7 +116,7 @@ arithmetic_by rules key asked = record {
 }
 
 -- the command of this key and these flags
-abbrev pub command_by : Rules → MetaKind → List ℕ → FlagsRead → Result Command Refusal
+abbrev pub command_by : Rules → MetaKind → List ℕ → FlagsRead → Result Command CommandError
 command_by rules Get key asked = Ok (command.MetaGet (get_by rules key asked))
 command_by rules Set key asked =
     unless (compare_refusal rules (set_by rules key asked)) (Ok (command.MetaSet (set_by rules key asked)))

@@ -17,7 +17,8 @@ abbrev pub packed : Expiry → ℕ
 packed Never = never
 packed (At second) = second
 
-by_test : (second : ℕ) (is_never : Bool) → (second == never) ≡ is_never → packed (if is_never then Never else At second) ≡ second
+by_test : (second : ℕ) (is_never : Bool) → (second == never) ≡ is_never → packed (if is_never then Never else At second)
+    ≡ second
 by_test second true same = sym (eqb-true second never same)
 by_test second false other = refl
 

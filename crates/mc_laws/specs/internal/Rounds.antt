@@ -32,4 +32,5 @@ Tried old events least new = (sizes : Sizes) (w : World) → Stands sizes old w 
 abbrev pub Repeats : Sim → List Event → Bool → Sim → Type 0
 Repeats old events quiet new =
     (sizes : Sizes) (w : World) → Stands sizes old w →
-    MatchBool quiet ((done : HasRepeated sizes w events 0 new) × IsQuiet sizes done.later events) (HasRepeated sizes w events (2 ^ 128 - 1) new)
+    MatchBool quiet ((done : HasRepeated sizes w events 0 new) × IsQuiet sizes done.later events)
+    (HasRepeated sizes w events (2 ^ 128 - 1) new)

@@ -14,7 +14,8 @@ action_of value = if ends_with nat_eq value (codes "..") then Append else Set
 
 -- the rule of the option of this name and letter; it is a flag if its metavariable is empty
 abbrev pub told_rule : List ℕ → Option ℕ → List ℕ → Rule
-told_rule name letter value = with_letter letter (if nat_eq (length value) 0 then flag_rule name else valued_rule (action_of value) name)
+told_rule name letter value =
+    with_letter letter (if nat_eq (length value) 0 then flag_rule name else valued_rule (action_of value) name)
 
 -- the option with this short letter
 abbrev pub by_letter : Option ℕ → Arg → Arg

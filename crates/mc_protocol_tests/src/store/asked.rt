@@ -1,7 +1,7 @@
 //! Operations of test rows, as plain data.
 use mc_command::{Direction, MetaCount, MetaFetch, MetaRemoval, StoreMode, StoreRequest, Vivify};
 use mc_item::{NoMemory, Op, Value};
-use mc_wire::{GREATEST_VALUE_LIMIT, Key, WireFault};
+use mc_wire::{Key, MAX_VALUE_LIMIT, WireError};
 use std::alloc::Global;
 
 /// An operation on the item of a key.
@@ -64,7 +64,7 @@ fn text_of(ask: Ask) -> &'static str {
 }
 
 fn long_value(alloc: Global, length: usize) -> Result<Value, NoMemory> {
-    let bytes = vec![in alloc; b'x'; length.min(GREATEST_VALUE_LIMIT)]?;
+    let bytes = vec![in alloc; b'x'; length.min(MAX_VALUE_LIMIT)]?;
     Value::new(bytes)
 }
 
@@ -199,10 +199,10 @@ fn reading(key: Key, ask: Ask) -> Op {
 }
 
 /// The operation with this key, and with its own value.
-pub fn op_of(alloc: Global, word: &str, ask: Ask) -> Result<Op, WireFault> {
+pub fn op_of(alloc: Global, word: &str, ask: Ask) -> Result<Op, WireError> {
     let key = Key::from_word(alloc, word.as_bytes())?;
     let Ok(value) = value_of(alloc, ask) else {
-        return Err(WireFault::Memory);
+        return Err(WireError::Memory);
     };
     match storing(key, value, ask) {
         Ok(op) => Ok(op),

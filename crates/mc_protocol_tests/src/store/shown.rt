@@ -1,5 +1,5 @@
 //! The answer of a shard as a short text.
-use mc_item::{Answer, CountedAs, Marks, MetaDone, MetaHit, Stats, Status, Tally, Value};
+use mc_item::{Answer, Marks, MetaDone, MetaHit, OpStats, StatClass, Stats, Status, Value};
 use std::alloc::{AllocError, Global};
 
 /// The bytes of a value as text, or its length if it is long.
@@ -52,19 +52,19 @@ fn done_text(alloc: Global, done: &MetaDone) -> Result<String, AllocError> {
 fn counted_text(
     alloc: Global,
     name: &str,
-    tally: &Tally,
-    asked: CountedAs,
+    op_stats: &OpStats,
+    asked: StatClass,
 ) -> Result<String, AllocError> {
-    let hits = tally.count(asked, Status::Hit);
-    let misses = tally.count(asked, Status::Miss);
+    let hits = op_stats.count(asked, Status::Hit);
+    let misses = op_stats.count(asked, Status::Miss);
     format!(in alloc; "{name} {hits}/{misses}")
 }
 
 fn stats_text(alloc: Global, stats: &Stats) -> Result<String, AllocError> {
-    let get = counted_text(alloc, "get", &stats.tally, CountedAs::Get)?;
-    let set = counted_text(alloc, "set", &stats.tally, CountedAs::Set)?;
-    let touch = counted_text(alloc, "touch", &stats.tally, CountedAs::Touch)?;
-    let own = counted_text(alloc, "other", &stats.tally, CountedAs::Other)?;
+    let get = counted_text(alloc, "get", &stats.op_stats, StatClass::Get)?;
+    let set = counted_text(alloc, "set", &stats.op_stats, StatClass::Set)?;
+    let touch = counted_text(alloc, "touch", &stats.op_stats, StatClass::Touch)?;
+    let own = counted_text(alloc, "other", &stats.op_stats, StatClass::Other)?;
     format!(in alloc;
         "{get} {set} {touch} {own} n{} b{} of {} e{}",
         stats.items, stats.bytes, stats.budget, stats.evicted

@@ -16,4 +16,5 @@ pub record HasGiven (reader : Reader) (rules : Rules) (fed : List ℕ) (ended : 
   pub left : reader.commands_left + length given ≡ most_commands
   pub may : AllByRecursion MayBeGiven given
   pub front : SpellsFront rules 0 fed (entries_of given) unread
-  pub now : MatchBool (is_closed (entries_of given)) (reader.state ≡ state.Closed) ((0 < reader.commands_left) × Holds rules reader.state reader.buffer.bytes unread)
+  pub now : MatchBool (is_closed (entries_of given)) (reader.state ≡ state.Closed)
+      ((0 < reader.commands_left) × Holds rules reader.state reader.buffer.bytes unread)

@@ -1,7 +1,8 @@
 -- The unread bytes of a stream, by the reader's state.
-use Rattle.std.specs.Prelude.{ℕ, ◌≡◌, ◌+◌, ◌<◌, ◌≤◌, Bool, true, false, List, [], ◌∷◌, ◌++◌, length, Option, Some, None, nat_lt}
+use Rattle.std.specs.Prelude.{ℕ, ◌≡◌, ◌+◌, ◌<◌, ◌≤◌, Bool, true, false, List, [], ◌∷◌, ◌++◌, length, Option, Some, None}
+use Rattle.std.specs.Prelude.{nat_lt}
 use Rattle.mc_command.specs.declared.command.Command.{Command}
-use Rattle.mc_command.specs.declared.refusal.Refusal.{Refusal}
+use Rattle.mc_command.specs.declared.error.CommandError.{CommandError}
 use Rattle.mc_command.specs.declared.line.Line.TheVariants.{Data, Skip}
 use Rattle.mc_command.specs.Line.{Says}
 use Rattle.mc_reader.specs.declared.state.State.{State}
@@ -32,7 +33,8 @@ pub record IsWhole (rules : Rules) (shown : Command) (others unread : List ℕ) 
 
 -- A prefix of the bytes denotes a command.
 abbrev pub SpellsSomething : Rules → List ℕ → Type 0
-SpellsSomething rules bytes = (text after : List ℕ) × (entry : Command) × (bytes ≡ text ++ after) × Spells rules text entry
+SpellsSomething rules bytes =
+    (text after : List ℕ) × (entry : Command) × (bytes ≡ text ++ after) × Spells rules text entry
 
 -- The unread bytes are a storage line, these bytes of its block and the block's end, and then the others.
 pub record IsInBlock (rules : Rules) (asked : Command) (count : ℕ) (bytes others unread : List ℕ) : Type 0 where
@@ -44,7 +46,8 @@ pub record IsInBlock (rules : Rules) (asked : Command) (count : ℕ) (bytes othe
   pub behind : length bytes < count + 2 → others ≡ []
 
 -- The unread bytes are a refused line, the skipped bytes but for the last `left` ones, and the others.
-pub record IsInSkip (rules : Rules) (discarded : Option (List ℕ)) (refusal : Refusal) (left : ℕ) (others unread : List ℕ) : Type 0 where
+pub record IsInSkip (rules : Rules) (discarded : Option (List ℕ)) (refusal : CommandError) (left : ℕ)
+    (others unread : List ℕ) : Type 0 where
   pub line : List ℕ
   pub skipped : List ℕ
   pub no_end : HasNoEnd line
@@ -55,9 +58,12 @@ pub record IsInSkip (rules : Rules) (discarded : Option (List ℕ)) (refusal : R
 
 -- The unread bytes, by the state and the bytes of the buffer.
 abbrev pub Holds : Rules → State → List ℕ → List ℕ → Type 0
-Holds rules (state.Line long) buffer unread = (unread ≡ buffer) × (length buffer ≤ rules.line_limit) × EndsAt buffer long
-Holds rules (state.Block block) buffer unread = IsInBlock rules block.command block.count block.bytes.items buffer unread
-Holds rules (state.Skip skipped) buffer unread = IsInSkip rules skipped.discarded skipped.refusal skipped.left buffer unread
+Holds rules (state.Line long) buffer unread =
+    (unread ≡ buffer) × (length buffer ≤ rules.line_limit) × EndsAt buffer long
+Holds rules (state.Block block) buffer unread =
+    IsInBlock rules block.command block.count block.bytes.items buffer unread
+Holds rules (state.Skip skipped) buffer unread =
+    IsInSkip rules skipped.discarded skipped.refusal skipped.left buffer unread
 Holds rules state.Closed buffer unread = ⊥
 
 -- a line end that was found is within the bytes

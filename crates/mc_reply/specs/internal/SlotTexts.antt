@@ -1,15 +1,17 @@
 -- The texts of replies over slots, some of which may still be empty: an empty slot has no text.
-use Rattle.std.specs.Prelude.{ℕ, ◌%◌, ◌^◌, Bool, true, false, List, [], ◌∷◌, ◌++◌, length, codes, decimal, Option, Some, None, if◌then◌else◌}
+use Rattle.std.specs.Prelude.{ℕ, ◌%◌, ◌^◌, Bool, true, false, List, [], ◌∷◌, ◌++◌, length, codes, decimal, Option, Some}
+use Rattle.std.specs.Prelude.{None, if◌then◌else◌}
 use Rattle.std.specs.List.{concat, flat_map, list_any, sum_by}
 use Rattle.mc_item.specs.declared.answer.Answer.{Answer}
 use Rattle.mc_item.specs.declared.answer.Answer.TheVariants.{Hit, Number}
-use Rattle.mc_reply.specs.declared.form.Shape.{Shape}
-use Rattle.mc_reply.specs.declared.form.Shape.TheVariants as shape
+use Rattle.mc_reply.specs.declared.pending_reply.ReplyKind.{ReplyKind}
+use Rattle.mc_reply.specs.declared.pending_reply.ReplyKind.TheVariants as reply_kind
 use Rattle.mc_item.specs.declared.stat.Stat.{Stat}
 use Rattle.mc_item.specs.declared.stat.Stat.TheVariants as stat
 use Rattle.mc_item.specs.Stat.{row_of}
 use Rattle.mc_reply.specs.declared.server_stats.ServerStats.{ServerStats}
-use Rattle.mc_reply.specs.Text.{command_stats, memory_line, fixed_text, answer_line, is_no_memory, item_stats, item_text, meta_text, server_text, stat_in, stat_text, told, traffic_text}
+use Rattle.mc_reply.specs.Text.{command_stats, memory_line, fixed_text, answer_line, is_no_memory, item_stats}
+use Rattle.mc_reply.specs.Text.{item_text, meta_text, server_text, stat_in, stat_text, told, traffic_text}
 
 -- the fixed line of an answer; a number has none
 abbrev pub fixed_line : Answer → List ℕ
@@ -36,7 +38,8 @@ first_text text (slot ∷ slots) = slot_text text slot
 
 -- the items of these keys
 abbrev pub items_text : Bool → List (List ℕ) → List (Option Answer) → List ℕ
-items_text with_unique (key ∷ keys) (slot ∷ slots) = slot_text (item_text with_unique key) slot ++ items_text with_unique keys slots
+items_text with_unique (key ∷ keys) (slot ∷ slots) =
+    slot_text (item_text with_unique key) slot ++ items_text with_unique keys slots
 items_text with_unique [] slots = []
 items_text with_unique (key ∷ keys) [] = []
 
@@ -68,9 +71,12 @@ abbrev pub unless_lacking : List (Option Answer) → List ℕ → List ℕ
 unless_lacking slots text = if list_any lacks_memory slots then memory_line else text
 
 -- the text of a reply of this shape, over its slots
-unfoldable pub slots_text : Shape → List (Option Answer) → List ℕ
-slots_text (shape.Fixed fixed) slots = fixed_text fixed
-slots_text (shape.Line noreply lenient) slots = if noreply then [] else unless_lacking slots (first_text (λ answer. answer_line (told answer lenient)) slots)
-slots_text (shape.Values keys with_unique) slots = unless_lacking slots (items_text with_unique keys slots ++ codes "END\r\n")
-slots_text (shape.Stats server) slots = unless_lacking slots (stats_over server slots)
-slots_text (shape.Meta kind flags value key lenient) slots = unless_lacking slots (first_text (meta_text kind flags value key lenient) slots)
+unfoldable pub slots_text : ReplyKind → List (Option Answer) → List ℕ
+slots_text (reply_kind.Fixed fixed) slots = fixed_text fixed
+slots_text (reply_kind.Line noreply lenient) slots =
+    if noreply then [] else unless_lacking slots (first_text (λ answer. answer_line (told answer lenient)) slots)
+slots_text (reply_kind.Values keys with_unique) slots =
+    unless_lacking slots (items_text with_unique keys slots ++ codes "END\r\n")
+slots_text (reply_kind.Stats server) slots = unless_lacking slots (stats_over server slots)
+slots_text (reply_kind.Meta kind flags value key lenient) slots =
+    unless_lacking slots (first_text (meta_text kind flags value key lenient) slots)

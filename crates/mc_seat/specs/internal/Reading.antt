@@ -1,16 +1,18 @@
 -- How a service reads on.
 use Rattle.std.specs.Prelude.{ℕ, ◌≡◌, List, []}
-use Rattle.mc_wire.specs.Outlet.{Sight}
+use Rattle.mc_wire.specs.Sink.{Sight}
 use Rattle.mc_ring.specs.Reply.{Shown}
 use Rattle.mc_conn.specs.Told.{Told}
-use Rattle.mc_seat.specs.declared.service.Service.{Service}
-use Rattle.mc_seat.specs.declared.service.LineStep.{LineStep}
+use Rattle.mc_seat.specs.declared.buffered_conn.BufferedConn.{BufferedConn}
+use Rattle.mc_seat.specs.declared.buffered_conn.LineStep.{LineStep}
 use Rattle.mc_seat.specs.Later.{text_in}
-use Rattle.mc_seat.specs.Service.{HasStopped, ServiceSays}
+use Rattle.mc_seat.specs.BufferedConn.{HasStopped, ServiceSays}
 use Rattle.mc_seat.specs.internal.Stands.{IsComplete}
 use Rattle.mc_seat.specs.internal.Steps.{all_handed}
 
 -- What going on does, once the line took the replies to all commands taken.
-abbrev pub ReadingSays : LineStep → (ℕ → Type 0) → Service → Sight → Service → Sight → Type 0
+abbrev pub ReadingSays : LineStep → (ℕ → Type 0) → BufferedConn → Sight → BufferedConn → Sight → Type 0
 ReadingSays did may_answer old before new now =
-    (received : ℕ → List Shown) (begin : Sight) (told : Told) → HasStopped received may_answer begin before (all_handed told) old → text_in old.unwritten ≡ [] → IsComplete received told → ServiceSays did received may_answer begin now told new
+    (received : ℕ → List Shown) (begin : Sight) (told : Told)
+    → HasStopped received may_answer begin before (all_handed told) old → text_in old.unwritten ≡ []
+    → IsComplete received told → ServiceSays did received may_answer begin now told new

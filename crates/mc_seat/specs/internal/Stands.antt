@@ -1,17 +1,18 @@
 -- What stands between a line and its connection while the line is served.
 use Rattle.std.specs.Prelude.{ℕ, ◌≡◌, ◌≤◌, Bool, true, false, List, [], ◌++◌, length, take}
 use Rattle.std.specs.List.{AllByRecursion, concat}
-use Rattle.mc_wire.specs.Outlet.{with_bytes}
+use Rattle.mc_wire.specs.Sink.{with_bytes}
 use Rattle.mc_conn.specs.History.{Taken}
 use Rattle.mc_ring.specs.Reply.{Shown}
 use Rattle.mc_conn.specs.Fits.{KeysFit}
 use Rattle.mc_conn.specs.Told.{Told, all_texts, commands_of}
-use Rattle.mc_wire.specs.Outlet.{Read, Sight, with_reads}
+use Rattle.mc_wire.specs.Sink.{Read, Sight, with_reads}
 use Rattle.mc_seat.specs.Reads.{OwesNothing}
 use Rattle.mc_command.specs.declared.rules.Rules.{Rules}
 
 -- Between begin and now the line gave the bytes fed and those unread, and took these texts.
-pub record GaveAndTook (rules : Rules) (fits : Type 0) (begin now : Sight) (unread fed : List ℕ) (ended : Bool) (taken : List Taken) (texts : List (List ℕ)) : Type 0 where
+pub record GaveAndTook (rules : Rules) (fits : Type 0) (begin now : Sight) (unread fed : List ℕ) (ended : Bool)
+    (taken : List Taken) (texts : List (List ℕ)) : Type 0 where
   pub read_is : now.given ≡ with_bytes begin.given (fed ++ unread)
   pub ended_is : ended ≡ true → (now.ended ≡ true) × (unread ≡ [])
   pub open_is : ended ≡ false → now.ended ≡ true → begin.ended ≡ true
@@ -29,7 +30,8 @@ handed_texts told = take told.handed (all_texts told)
 -- By what its connection was told, and what the shards sent.
 abbrev pub Serving : (ℕ → List Shown) → Sight → Sight → List ℕ → Told → Type 0
 Serving received begin now unread told =
-    GaveAndTook told.rules (KeysFit told.shards told.taken received) begin now unread told.fed told.ended told.taken (handed_texts told)
+    GaveAndTook told.rules (KeysFit told.shards told.taken received) begin now unread told.fed told.ended told.taken
+    (handed_texts told)
 
 -- Where the keys of the replies are those of the pieces, every command taken has its reply.
 abbrev pub IsComplete : (ℕ → List Shown) → Told → Type 0

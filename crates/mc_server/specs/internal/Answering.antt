@@ -17,7 +17,8 @@ use Rattle.mc_model.specs.Log.{Entry, Leaves, on_shard, replies_in}
 -- Each shard is what its part of the log leads to, from the empty state.
 abbrev pub Backs : Sizes → List Shard → List Entry → Type 0
 Backs sizes shards log =
-    (shard : ℕ) (kept : Shard) → slice_get shards shard ≡ Some kept → (state : State) × Leaves sizes shard log state × IsShard kept state
+    (shard : ℕ) (kept : Shard) → slice_get shards shard ≡ Some kept → (state : State) × Leaves sizes shard log state
+    × IsShard kept state
 
 -- the piece of an entry, with its shard
 abbrev pub piece_in : Entry → ℕ × Piece
@@ -46,7 +47,7 @@ pub record CanAnswer (conn : Conn) (shards : List Shard) : Type 0 where
   pub conn_is : IsConn conn told
   pub answers : ShardsAnswered sizes told shards log
 
--- The first out pieces have left now, and all of them were run and answered.
+-- The first `out` pieces have been sent, and all of them were run and answered.
 pub record AnswersMore (sizes : Sizes) (told : Told) (conn : Conn) (shards : List Shard) : Type 0 where
   pub out : ℕ
   pub lent : Bool
@@ -56,7 +57,7 @@ pub record AnswersMore (sizes : Sizes) (told : Told) (conn : Conn) (shards : Lis
   pub answers : ShardsAnswered sizes (record told { out = out; lent = lent; accepted = accepted }) shards log
   pub handed : KeepsHanded told (record told { out = out; lent = lent; accepted = accepted })
 
--- Whatever the shards had answered, they answered the rest of what is due.
+-- Whatever the shards had answered before, they answered the rest of what is due.
 abbrev pub AnswersAll : Conn → List Shard → Conn → List Shard → Type 0
 AnswersAll old before new after =
     (sizes : Sizes) (told : Told) (log : List Entry) → IsConn old told → ShardsAnswered sizes told before log →

@@ -1,16 +1,17 @@
--- What stands between the turns of a line that is served by itself.
+-- What holds between the turns of a line that is served without threads.
 use Rattle.std.specs.Prelude.{ℕ, List}
-use Rattle.mc_wire.specs.Outlet.{Sight}
+use Rattle.mc_wire.specs.Sink.{Sight}
 use Rattle.mc_sizes.specs.declared.sizes.Sizes.{Sizes}
 use Rattle.mc_store.specs.declared.shard.Shard.{Shard}
 use Rattle.mc_conn.specs.Told.{Told}
 use Rattle.mc_model.specs.Log.{Entry}
-use Rattle.mc_seat.specs.declared.service.Service.{Service}
-use Rattle.mc_seat.specs.Service.{HasStopped}
+use Rattle.mc_seat.specs.declared.buffered_conn.BufferedConn.{BufferedConn}
+use Rattle.mc_seat.specs.BufferedConn.{HasStopped}
 use Rattle.mc_server.specs.internal.Answering.{ShardsAnswered, replies_on}
 
-pub record Turns (sizes : Sizes) (may_answer : ℕ → Type 0) (begin now : Sight) (service : Service) (shards : List Shard) : Type 0 where
+pub record Turns (sizes : Sizes) (may_answer : ℕ → Type 0) (begin now : Sight) (buffered_conn : BufferedConn)
+    (shards : List Shard) : Type 0 where
   pub told : Told
   pub log : List Entry
   pub answers : ShardsAnswered sizes told shards log
-  pub stopped : HasStopped (replies_on log) may_answer begin now told service
+  pub stopped : HasStopped (replies_on log) may_answer begin now told buffered_conn

@@ -1,7 +1,7 @@
 //! The sink of a simulated connection's replies: a buffer of at most `limit` bytes.
 ghost use Rattle.std.specs.Prelude.{◌≡◌, ◌≤◌, ◌+◌, ◌<◌, ◌^◌, IsTrue, IfOk, IfErr, false, length, vec_capacity};
 
-use mc_wire::{OutFault, Outlet};
+use mc_wire::{Sink, SinkError};
 
 /// A buffer with reserved capacity. It takes what fits, and fails only if it is full.
 #[derive(Drop)]
@@ -15,9 +15,9 @@ pub(crate) struct Page {
     ghost full: { IsTrue failed → limit ≤ length bytes.items },
 }
 
-impl Outlet for Page {
+impl Sink for Page {
     ghost use Rattle.std.specs.Prelude.{None};
-    ghost use Rattle.mc_wire.specs.Outlet.{Counted, Listed};
+    ghost use Rattle.mc_wire.specs.Sink.{Counted, Listed};
 
     // A page isn't read from; the history of its input holds its limit instead.
     ghost sight = { λ page.
@@ -29,7 +29,7 @@ impl Outlet for Page {
           failed = page.failed;
         } };
 
-    fn write(&mut self, bytes: &[u8]) -> Result<usize, OutFault> {
+    fn write(&mut self, bytes: &[u8]) -> Result<usize, SinkError> {
         let Some(byte) = bytes.first() else {
             return Ok(0);
         };
@@ -38,7 +38,7 @@ impl Outlet for Page {
             return Ok(1);
         }
         self.failed = true;
-        Err(OutFault)
+        Err(SinkError)
     }
 }
 

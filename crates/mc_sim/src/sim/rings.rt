@@ -5,7 +5,7 @@ ghost use Rattle.std.specs.Prelude.{◌≡◌, ◌↔◌, ◌<◌, IfOk, IfErr, 
 ghost use Rattle.std.specs.List.{AllByRecursion, slice_get};
 ghost use Rattle.mc_sizes.specs.Sizes.{AreWithin};
 ghost use Rattle.mc_sizes.specs.declared.sizes.Sizes.{Sizes};
-ghost use Rattle.mc_ring.specs.Lane.{Far};
+ghost use Rattle.mc_ring.specs.Channel.{Far};
 ghost use Rattle.mc_ring.specs.Ends.{Ends};
 ghost use Rattle.mc_ring.specs.Made.{AreNewEnds, IsUnused};
 ghost use Rattle.mc_ring.specs.Reply.{shown};
@@ -13,7 +13,7 @@ ghost use Rattle.mc_sim.specs.Laid.{AreIn, LooksAt};
 ghost use Rattle.mc_sim.specs.Rings.{AreWired, GivesNone, GivesReply, KeepsPiece, ReceivesNone, ReceivesReply, RunsNone, RunsOldest, IsStarted, SendsPiece, TellsWaiting, Wires, ends_of, new_wires};
 
 use mc_reply::Ticket;
-use mc_ring::{Parcel, Reply, SeatEnds, ShardEnds, lanes};
+use mc_ring::{Reply, Request, SeatEnds, ShardEnds, channels};
 use mc_sizes::Sizes;
 use mc_split::Piece;
 use mc_worker::{OpenGate, Turn, Worker};
@@ -68,7 +68,7 @@ impl Rings {
         ensures { IfOk result
             (λ rings. AreWired sizes rings (new_wires sizes)) }
     {
-        let Ok((seats, shards)) = lanes(alloc, sizes) else {
+        let Ok((seats, shards)) = channels(alloc, sizes) else {
             return Err(AllocError);
         };
         let workers = all_workers(rt, alloc, shards, sizes)?;
@@ -104,7 +104,7 @@ impl Rings {
         if self.places <= waiting {
             return Err(piece);
         }
-        if let Err(Parcel::Piece(piece)) = self.seats[seat].send(shard, Parcel::Piece(piece)) {
+        if let Err(Request::Piece(piece)) = self.seats[seat].send(shard, Request::Piece(piece)) {
             return Err(piece);
         }
         Ok(())
@@ -254,7 +254,7 @@ fn worker<R: RandomSource>(
 ) -> Result<Worker, AllocError>
     requires within { AreWithin sizes }
     requires place { ends.number < sizes.shards }
-    requires unused { AllByRecursion IsUnused ends.lanes }
+    requires unused { AllByRecursion IsUnused ends.channels }
     ensures ends { IfOk result (λ worker. worker.ends ≡ ends) }
     ensures started { IfOk result (λ worker. IsStarted sizes worker) }
 {

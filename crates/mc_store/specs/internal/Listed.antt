@@ -1,11 +1,12 @@
 -- A shard's items as a list, the most recently used first, and what they cost.
-use Rattle.std.specs.Prelude.{ℕ, ◌≡◌, ◌+◌, ◌-◌, ◌/◌, ◌%◌, ◌^◌, ◌<◌, ◌≤◌, ◌⊎◌, List, [], ◌∷◌, length, All, Option, Some, None, nat_le, if◌then◌else◌}
+use Rattle.std.specs.Prelude.{ℕ, ◌≡◌, ◌+◌, ◌-◌, ◌/◌, ◌%◌, ◌^◌, ◌<◌, ◌≤◌, ◌⊎◌, List, [], ◌∷◌, length, All, Option, Some}
+use Rattle.std.specs.Prelude.{None, nat_le, if◌then◌else◌}
 use Rattle.std.specs.List.{sum_by}
 use Rattle.std.specs.Map.{remove_entry}
 use Rattle.mc_wire.specs.SameKey.{same_key}
 use Rattle.mc_item.specs.declared.item.Item.{Item}
 use Rattle.mc_wire.specs.declared.TheConstants.{DIGIT_LIMIT}
-use Rattle.mc_sizes.specs.declared.TheConstants.{LEAST_BUDGET, GREATEST_BUDGET}
+use Rattle.mc_sizes.specs.declared.TheConstants.{MIN_BUDGET, MAX_BUDGET}
 use Rattle.mc_store.specs.State.{item_overhead, cost}
 use Rattle.mc_store.specs.Shelf.{Shelf}
 
@@ -38,7 +39,10 @@ gone room entries = length entries - length (within room entries)
 abbrev pub put_in : List ℕ → Item → Shelf → Shelf
 put_in key item shelf =
     let entries = (key, item) ∷ remove_entry (same_key key) shelf.entries in
-    record shelf { entries = within shelf.budget entries; evicted = (shelf.evicted + gone shelf.budget entries) % 2 ^ 64 }
+    record shelf {
+      entries = within shelf.budget entries;
+      evicted = (shelf.evicted + gone shelf.budget entries) % 2 ^ 64;
+    }
 
 -- No key is empty.
 abbrev pub HaveKeys : List ListedItem → Type 0
@@ -55,5 +59,5 @@ pub record IsCounted (entries : List ListedItem) (capacity cost budget : ℕ) : 
   pub keys : HaveKeys entries
   -- each item's key has a byte, so that there is always room for one more in the list
   pub room : capacity ≡ budget / (item_overhead + 1) + 1
-  pub least : LEAST_BUDGET ≤ budget
-  pub most : budget ≤ GREATEST_BUDGET
+  pub least : MIN_BUDGET ≤ budget
+  pub most : budget ≤ MAX_BUDGET

@@ -16,7 +16,9 @@ IsOutcome settled outcome answer new = ((answer ≡ NoMemory) × (new ≡ settle
 -- What the shard did at its own time is the outcome of the settled state.
 abbrev pub Does : Shard → List ℕ → (State → Outcome) → Answer → Shard → Type 0
 Does old key outcome answer new =
-    (state : State) → IsShard old state → (after : State) × IsOutcome (without_dead state (Some key)) (outcome (without_dead state (Some key))) answer after × IsShard new after
+    (state : State) → IsShard old state → (after : State)
+    × IsOutcome (without_dead state (Some key)) (outcome (without_dead state (Some key))) answer after
+    × IsShard new after
 
 -- the answer of a part of an operation that was done, or refused
 abbrev pub answered : {A : Type 0} → (A → Answer) → Result A Answer → Answer
@@ -26,4 +28,5 @@ answered reply (Err answer) = answer
 -- The shard did the operation, and is still to count it.
 abbrev pub Acts : Shard → Op → Answer → Shard → Type 0
 Acts old op answer new =
-    (state : State) → IsShard old state → (after : State) × Answers (without_dead state (key_of op)) op answer after × IsShard new after
+    (state : State) → IsShard old state → (after : State) × Answers (without_dead state (key_of op)) op answer after
+    × IsShard new after

@@ -153,7 +153,7 @@ impl Shard {
             fetched: item.fetched,
             sent: item.sent,
         };
-        self.items.make_first(key, new);
+        self.items.promote(key, new);
         Answer::Touched
     }
 
@@ -184,7 +184,7 @@ impl Shard {
         ensures lawful { is_lawful Kind.MetaGet result ≡ true }
     {
         let look = self.access(asked.touch, FetchKind::Meta(asked.recache));
-        let Ok(found) = self.items.see(&asked.key, look) else {
+        let Ok(found) = self.items.get_without_touch(&asked.key, look) else {
             return Answer::NoMemory;
         };
         match found {
@@ -193,7 +193,8 @@ impl Shard {
         }
     }
 
-    /// `mg` of a key that is not there: with an exptime it makes an empty item, and this client is told to fill it.
+    /// `mg` of a key that is not there: with an exptime it makes an empty item, and this client is
+    /// told to fill it.
     #[tactic(auto, unfolding(mc_item::specs::Kind::is_lawful))]
     fn meta_get_absent(&mut self, key: Key, vivify: Option<i64>) -> Answer
         ensures does { Does self.old key (λ settled. absent_meta_get settled key vivify) result

@@ -1,4 +1,5 @@
-//! Dead items, which give their room back: an item with an expiry waits for its turn to be looked at.
+//! Dead items, which give their room back: an item with an expiry waits for its turn to be looked
+//! at.
 ghost use Rattle.std.specs.Prelude.{◌≡◌, ◌<◌, ◌≤◌, ◌&&◌, ◌==◌, not, ℕ, List, Option, IfOk};
 ghost use Rattle.std.specs.Option.{IsSome};
 ghost use Rattle.std.specs.VecDeque.{deque_len, deque_capacity};
@@ -13,8 +14,8 @@ use mc_wire::Key;
 use std::alloc::AllocError;
 use std::collections::VecDeque;
 
-/// Makes room for a turn of the item that is to enter under the key, and copies the key for it. An item without an expiry
-/// gets none, and neither does one whose unique is a client's token.
+/// Makes room for a turn of the item that is to enter under the key, and copies the key for it. An
+/// item without an expiry gets none, and neither does one whose unique is a client's token.
 pub(super) fn make_turn(
     turns: &mut VecDeque<(Key, u64)>,
     token: Option<u64>,
@@ -37,7 +38,8 @@ pub(super) fn make_turn(
     Ok(Some(copy))
 }
 
-/// Whether the item goes: it is dead, and it isn't the one that enters, which has the unique `entering`.
+/// Whether the item goes: it is dead, and it isn't the one that enters, which has the unique
+/// `entering`.
 fn is_reclaimed(item: &Item, entering: u64, time: u64) -> bool
     ensures { result ≡ (is_dead item.now.expiry time && not (item.now.unique == entering)) }
 {
@@ -48,7 +50,8 @@ impl Shard {
     ghost use Rattle.mc_store.specs.State.{State, looked, with_turn};
     ghost use Rattle.mc_store.specs.Shard.{IsShard};
 
-    /// Looks at the next two turns, for the item of this unique, which entered. Then it gets the turn that was made for it.
+    /// Looks at the next two turns, for the item of this unique, which entered. Then it gets the
+    /// turn that was made for it.
     pub(super) fn take_turns(&mut self, turn: Option<Key>, unique: u64)
         requires { IsSome turn → deque_len self.old.turns < deque_capacity self.old.turns }
         ensures { (state : State) (token : Option ℕ) (key : List ℕ) (item : TheItem) →
@@ -62,8 +65,9 @@ impl Shard {
         }
     }
 
-    /// Looks at the next turn, for the item of this unique, which entered. Where the turn's item is dead, both go. Where it
-    /// lives, its turn comes again after all others. Where it was stored anew or is gone, the turn is dropped.
+    /// Looks at the next turn, for the item of this unique, which entered. Where the turn's item is
+    /// dead, both go, and it is counted. Where it lives, its turn comes again after all others.
+    /// Where it was stored anew or is gone, the turn is dropped.
     fn look(&mut self, entering: u64)
         ensures looked { (state : State) → IsShard self.old state →
             IsShard self.new (looked entering state) }
@@ -80,6 +84,7 @@ impl Shard {
             return;
         }
         if is_reclaimed(item, entering, self.time) {
+            self.op_stats.count_reclaimed(item.fetched);
             self.items.remove(&key);
             return;
         }

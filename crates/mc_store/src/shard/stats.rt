@@ -1,10 +1,11 @@
-//! What a shard counted and holds: `stats`, `stats reset` (protocol.txt, "General-purpose statistics").
+//! What a shard counted and holds: `stats`, `stats reset` (protocol.txt, "General-purpose
+//! statistics").
 ghost use Rattle.std.specs.Prelude.{◌≡◌, true};
 ghost use Rattle.mc_item.specs.Kind.{is_lawful};
 ghost use Rattle.mc_item.specs.declared.op.Op.TheVariants as op;
 
 use crate::shard::Shard;
-use mc_item::{Answer, BoxedStats, Kind, Stats, Tally};
+use mc_item::{Answer, BoxedStats, Kind, OpStats, Stats};
 use std::alloc::Global;
 
 impl Shard {
@@ -17,7 +18,7 @@ impl Shard {
         ensures lawful { is_lawful Kind.Stats result ≡ true }
     {
         let stats = Stats {
-            tally: self.tally,
+            op_stats: self.op_stats,
             evicted: self.items.evicted(),
             items: self.items.len() as u64,
             bytes: self.items.cost() as u64,
@@ -35,7 +36,7 @@ impl Shard {
         ensures acts { Acts self.old op.ResetStats result self.new }
         ensures lawful { is_lawful Kind.ResetStats result ≡ true }
     {
-        self.tally = Tally::new();
+        self.op_stats = OpStats::new();
         self.items.reset_evicted();
         Answer::Reset
     }

@@ -109,7 +109,7 @@ impl Shard {
                 fetched: item.fetched,
                 sent: item.sent,
             };
-            self.items.make_first(&asked.key, new);
+            self.items.promote(&asked.key, new);
             return Err(Answer::NotStored);
         }
         if is_other(asked.compare, item.unique) {

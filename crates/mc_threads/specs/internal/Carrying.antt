@@ -1,31 +1,36 @@
--- How the pieces of a connection go to the shards over the lanes of a seat, and how their replies come back.
+-- How the pieces of a connection go to the shards over the channels of a seat, and how their replies come back.
 use Rattle.std.specs.Prelude.{ℕ, ◌≡◌, ◌+◌, ◌<◌, Bool, List, ◌++◌, length, map, take, slice_get, Some}
 use Rattle.mc_split.specs.declared.plan.Piece.{Piece}
-use Rattle.mc_ring.specs.declared.parcel.Parcel.TheVariants as parcel
+use Rattle.mc_ring.specs.declared.request.Request.TheVariants as request
 use Rattle.mc_ring.specs.Reply.{Shown}
-use Rattle.mc_ring.specs.Lane.{Near}
+use Rattle.mc_ring.specs.Channel.{Near}
 use Rattle.mc_ring.specs.Ends.{AreSameEnds, Ends, received_on, sent_on}
 use Rattle.mc_conn.specs.declared.conn.Conn.{Conn}
 use Rattle.mc_conn.specs.Conn.{IsConn}
-use Rattle.mc_conn.specs.Due.{lane}
+use Rattle.mc_conn.specs.Due.{channel}
 use Rattle.mc_conn.specs.Fits.{Serves}
 use Rattle.mc_conn.specs.Told.{KeepsHanded, Told, all_pieces}
-use Rattle.mc_threads.specs.declared.courier.Courier.{Courier}
+use Rattle.mc_seat.specs.declared.clerk.Clerk.{Ghosts}
+use Rattle.mc_threads.specs.Records.{RecordsAllOf, RecordsLineOf}
+use Rattle.mc_threads.specs.declared.shard_link.ShardLink.{ShardLink}
 
 -- of the pieces that have left the connection those for one shard
 abbrev pub sent_to : Told → ℕ → List Piece
-sent_to told shard = lane shard (take told.out (all_pieces told))
+sent_to told shard = channel shard (take told.out (all_pieces told))
 
--- Since the ends were as before, the pieces that have left the connection were sent, each to its shard, and these replies were
--- received; of the other pieces sent to each shard, as many as under_way says, the replies are awaited.
-pub record Carries (before now : Ends Near) (under_way : List ℕ) (told : Told) (received : ℕ → List Shown) : Type 0 where
-  pub width : length now.lanes ≡ told.shards
-  pub each : length under_way ≡ told.shards
-  pub same : AreSameEnds before now
-  pub sent : (shard : ℕ) → shard < told.shards → sent_on now shard ≡ sent_on before shard ++ map parcel.Piece (sent_to told shard)
-  pub came : (shard : ℕ) → shard < told.shards → received_on now shard ≡ received_on before shard ++ received shard
-  pub awaited : (shard count : ℕ) → slice_get under_way shard ≡ Some count → length (received shard) + count ≡ length (sent_to told shard)
-  pub serves : Serves told.shards told.taken told.accepted received
+-- Since the ends were as before, the pieces that have left the connection were sent, each to its shard, and these
+-- replies were received; of the other pieces sent to each shard, as many as under_way says, the replies are awaited.
+pub record Carries (before now : Ends Near) (under_way : List ℕ) (told : Told) (received : ℕ → List Shown) : Type 0
+  where
+    pub width : length now.channels ≡ told.shards
+    pub each : length under_way ≡ told.shards
+    pub same : AreSameEnds before now
+    pub sent : (shard : ℕ) → shard < told.shards → sent_on now shard ≡ sent_on before shard
+        ++ map request.Piece (sent_to told shard)
+    pub came : (shard : ℕ) → shard < told.shards → received_on now shard ≡ received_on before shard ++ received shard
+    pub awaited : (shard count : ℕ) → slice_get under_way shard ≡ Some count → length (received shard) + count
+        ≡ length (sent_to told shard)
+    pub serves : Serves told.shards told.taken told.accepted received
 
 -- what is told once the first out pieces have left, and these replies were accepted
 abbrev pub carried : Told → ℕ → Bool → List Shown → Told
@@ -33,10 +38,17 @@ carried told out lent accepted = record told { out = out; lent = lent; accepted 
 
 -- What was received is the beginning of what is received now.
 abbrev pub KeepsReceived : (ℕ → List Shown) → (ℕ → List Shown) → Type 0
-KeepsReceived received later = (shard place : ℕ) (reply : Shown) → slice_get (received shard) place ≡ Some reply → slice_get (later shard) place ≡ Some reply
+KeepsReceived received later =
+    (shard place : ℕ) (reply : Shown) → slice_get (received shard) place ≡ Some reply → slice_get (later shard) place
+    ≡ Some reply
 
--- Pieces have left the connection, and replies were accepted, and all of it went over the lanes.
-pub record CarriesOn (before : Ends Near) (told : Told) (received : ℕ → List Shown) (ends : Ends Near) (under_way : List ℕ) (conn : Conn) : Type 0 where
+-- what a record may say of a line: by its connection, the replies received, and the ends before it
+abbrev pub Recorded : Type 1
+Recorded = Ends Near → Told → (ℕ → List Shown) → Type 0
+
+-- Pieces have left the connection, and replies were accepted, and all of it went over the channels and is as recorded.
+pub record CarriesOn (recorded : Recorded) (before : Ends Near) (told : Told) (received : ℕ → List Shown)
+    (ends : Ends Near) (under_way : List ℕ) (conn : Conn) : Type 0 where
   pub out : ℕ
   pub lent : Bool
   pub accepted : List Shown
@@ -45,19 +57,23 @@ pub record CarriesOn (before : Ends Near) (told : Told) (received : ℕ → List
   pub carries : Carries before ends under_way (carried told out lent accepted) later
   pub handed : KeepsHanded told (carried told out lent accepted)
   pub kept : KeepsReceived received later
+  pub as_recorded : recorded before (carried told out lent accepted) later
 
 -- what is known before anything is carried
-pub record MayCarry (ends : Ends Near) (under_way : List ℕ) (conn : Conn) : Type 0 where
+pub record MayCarry (recorded : Recorded) (ends : Ends Near) (under_way : List ℕ) (conn : Conn) : Type 0 where
   pub before : Ends Near
   pub told : Told
   pub received : ℕ → List Shown
   pub conn_is : IsConn conn told
   pub carries : Carries before ends under_way told received
+  pub as_recorded : recorded before told received
 
--- Whatever was carried, it goes on; and of what was carried then, this holds.
-pub record MovesOn (says : Told → ℕ → Type 0) (ends : Ends Near) (under_way : List ℕ) (conn : Conn) (ends' : Ends Near) (under_way' : List ℕ) (conn' : Conn) : Type 0 where
-  pub moves : (before : Ends Near) (told : Told) (received : ℕ → List Shown) → IsConn conn told → Carries before ends under_way told received →
-      (on : CarriesOn before told received ends' under_way' conn') × says told on.out
+-- Whatever was carried, it goes on, from one record to another; and of what was carried then, this holds.
+pub record MovesOn (says : Told → ℕ → Type 0) (recorded recorded' : Recorded) (ends : Ends Near) (under_way : List ℕ)
+    (conn : Conn) (ends' : Ends Near) (under_way' : List ℕ) (conn' : Conn) : Type 0 where
+  pub moves : (before : Ends Near) (told : Told) (received : ℕ → List Shown) → IsConn conn told
+      → Carries before ends under_way told received → recorded before told received →
+      (on : CarriesOn recorded' before told received ends' under_way' conn') × says told on.out
 
 -- nothing more
 abbrev pub AnyOut : Told → ℕ → Type 0
@@ -75,9 +91,16 @@ AllOutWhere so told out = so → AllOut told out
 abbrev pub NoneOut : Told → ℕ → Type 0
 NoneOut told out = out ≡ told.out
 
--- The courier and the connection carry on.
-abbrev pub CourierGoesOn : (Told → ℕ → Type 0) → Courier → Conn → Courier → Conn → Type 0
-CourierGoesOn says courier conn courier' conn' = MovesOn says courier.ends courier.under_way.items conn courier'.ends courier'.under_way.items conn'
+module _ {T C : Type 0} {g : Ghosts C T} where
+  -- The shard link and the connection carry on, with all that the connection took recorded.
+  abbrev pub ShardLinkGoesOn : (Told → ℕ → Type 0) → ShardLink T C g → Conn → ShardLink T C g → Conn → Type 0
+  ShardLinkGoesOn says shard_link conn shard_link' conn' =
+      MovesOn says (RecordsAllOf shard_link) (RecordsAllOf shard_link') shard_link.ends shard_link.under_way.items conn
+      shard_link'.ends shard_link'.under_way.items conn'
 
-abbrev pub CanCarry : Courier → Conn → Type 0
-CanCarry courier conn = MayCarry courier.ends courier.under_way.items conn
+  abbrev pub CanCarry : ShardLink T C g → Conn → Type 0
+  CanCarry shard_link conn = MayCarry (RecordsAllOf shard_link) shard_link.ends shard_link.under_way.items conn
+
+  -- The same, where the connection may have taken more than is recorded.
+  abbrev pub CanRecord : ShardLink T C g → Conn → Type 0
+  CanRecord shard_link conn = MayCarry (RecordsLineOf shard_link) shard_link.ends shard_link.under_way.items conn

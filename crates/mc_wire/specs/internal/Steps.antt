@@ -1,5 +1,6 @@
 -- Steps of parsing words and numbers.
-use Rattle.std.specs.Prelude.{ℕ, ◌+◌, ◌*◌, ◌^◌, ◌&&◌, List, [], ◌∷◌, Option, Some, None, nat_lt, if◌then◌else◌, ℤ, pos, neg_ℤ}
+use Rattle.std.specs.Prelude.{ℕ, ◌+◌, ◌*◌, ◌^◌, ◌&&◌, List, [], ◌∷◌, Option, Some, None, nat_lt, if◌then◌else◌, ℤ, pos}
+use Rattle.std.specs.Prelude.{neg_ℤ}
 use Rattle.std.specs.Char.{digit_value, is_ascii_digit}
 
 -- the words, with this one in front unless it is empty

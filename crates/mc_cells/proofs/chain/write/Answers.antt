@@ -5,7 +5,7 @@ use Rattle.mc_cells.specs.declared.chain.Cell.{Cell}
 use Rattle.mc_cells.specs.Chains.{next_of, no_cell, Wrote}
 use Rattle.mc_cells.proofs.chain.write.Goals as goal
 
--- a cell with the same link is put at a place
+-- a cell with an equal link is put at an index
 wrote : (cells : List Cell) (at : ℕ) (piece rest : List ℕ) → at < length cells
     → Wrote cells (set cells at (record { next = next_of cells at; bytes = piece ++ rest })) at piece
 wrote cells at piece rest there =

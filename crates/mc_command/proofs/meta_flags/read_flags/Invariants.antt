@@ -9,5 +9,6 @@ invariant-loop-word l = record {
   can_next : (goal.iterator-loop-word).can_next l.word-iterator;
   is_finite : (goal.iterator-loop-word).is_finite l.word-iterator;
   counted : CountsFlags l.reader;
-  left : read_from l.rules l.name l.reader (words_of l.word-iterator.rest.now) ≡ read_from l.rules l.name l.initial.reader (words_of l.initial.word-iterator.rest.now);
+  left : read_from l.rules l.name l.reader (words_of l.word-iterator.rest.now)
+      ≡ read_from l.rules l.name l.initial.reader (words_of l.initial.word-iterator.rest.now);
 }

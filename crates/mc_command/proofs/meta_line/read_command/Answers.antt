@@ -6,15 +6,19 @@ use Rattle.mc_command.proofs.meta_line.read_command.Goals as goal
 
 pub returns : goal.returns
 returns c =
-    reads_command c.args.rules c.args.name c.args.word.now (words_of c.args.walk.rest.now) c.in_ok-asked.asked c.in_ok-key.key c.into_command.result
+    reads_command c.args.rules c.args.name c.args.word.now (words_of c.args.walk.rest.now) c.in_ok-asked.asked
+    c.in_ok-key.key c.into_command.result
     c.in_ok-asked.ensures c.in_ok-key.ensures c.into_command.ensures
 
 pub returns-in_err-asked : goal.returns-in_err-asked
 returns-in_err-asked c =
     reads_refused _ (λ read. read) c.from_residual.result c.in_err-asked.field-0.0 (λ e. refl) c.from_residual.ensures.1
-    (λ other. flags_refused c.args.rules c.args.name c.args.word.now (words_of c.args.walk.rest.now) _ c.in_err-asked.ensures)
+    (λ other. flags_refused c.args.rules c.args.name c.args.word.now (words_of c.args.walk.rest.now) _
+    c.in_err-asked.ensures)
 
 pub returns-in_err-key : goal.returns-in_err-key
 returns-in_err-key c =
-    reads_refused _ (λ read. read) c.from_residual-in_err-key.result c.in_err-key.field-0.0 (λ e. refl) c.from_residual-in_err-key.ensures.1
-    (λ other. key_refused c.args.rules c.args.name c.args.word.now (words_of c.args.walk.rest.now) c.in_ok-asked.asked _ c.in_ok-asked.ensures (c.in_err-key.ensures other))
+    reads_refused _ (λ read. read) c.from_residual-in_err-key.result c.in_err-key.field-0.0 (λ e. refl)
+    c.from_residual-in_err-key.ensures.1
+    (λ other. key_refused c.args.rules c.args.name c.args.word.now (words_of c.args.walk.rest.now) c.in_ok-asked.asked _
+    c.in_ok-asked.ensures (c.in_err-key.ensures other))

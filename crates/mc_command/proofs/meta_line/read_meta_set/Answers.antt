@@ -8,7 +8,8 @@ use Rattle.mc_command.proofs.meta_line.read_meta_set.Goals as goal
 
 pub returns : goal.returns
 returns c =
-    reads_command c.args.rules Set c.args.word.now (words_of c.args.flags.rest.now) c.in_ok-asked.asked c.in_ok-key.key (as_meta_set c.into_checked_set.result)
+    reads_command c.args.rules Set c.args.word.now (words_of c.args.flags.rest.now) c.in_ok-asked.asked c.in_ok-key.key
+    (as_meta_set c.into_checked_set.result)
     c.in_ok-asked.ensures c.in_ok-key.ensures (c.into_checked_set.ensures)
 
 pub returns-in_err-asked : goal.returns-in_err-asked
@@ -18,5 +19,7 @@ returns-in_err-asked c =
 
 pub returns-in_err-key : goal.returns-in_err-key
 returns-in_err-key c =
-    reads_refused _ as_meta_set c.from_residual-in_err-key.result c.in_err-key.field-0.0 (λ e. refl) c.from_residual-in_err-key.ensures.1
-    (λ other. key_refused c.args.rules Set c.args.word.now (words_of c.args.flags.rest.now) c.in_ok-asked.asked _ c.in_ok-asked.ensures (c.in_err-key.ensures other))
+    reads_refused _ as_meta_set c.from_residual-in_err-key.result c.in_err-key.field-0.0 (λ e. refl)
+    c.from_residual-in_err-key.ensures.1
+    (λ other. key_refused c.args.rules Set c.args.word.now (words_of c.args.flags.rest.now) c.in_ok-asked.asked _
+    c.in_ok-asked.ensures (c.in_err-key.ensures other))

@@ -12,4 +12,5 @@ returns c =
     let words = words_of c.next-2.new.self.rest.now in
     let rules = c.args.rules in
     rw (c.block_line.ensures, c.in-Some.ensures.steps, c.in-Some-next.ensures.steps, c.read_block_count-count.ensures)
-    (says_block rules (block_count rules c.in-Some-next.count.now) (meta_command_of rules Set word words) c.read_command.result c.read_command.ensures (meta_given_up rules Set word words))
+    (says_block rules (block_count rules c.in-Some-next.count.now) (meta_command_of rules Set word words)
+    c.read_command.result c.read_command.ensures (meta_given_up rules Set word words))

@@ -10,4 +10,5 @@ returns c =
     let word = c.in-Some.word.now in
     let words = words_of c.next.new.self.rest.now in
     rw (c.whole_line.ensures, c.in-Some.ensures.steps)
-    (says_whole (meta_command_of c.args.rules name word words) c.read_command.result c.read_command.ensures (meta_given_up c.args.rules name word words))
+    (says_whole (meta_command_of c.args.rules name word words) c.read_command.result
+    c.read_command.ensures (meta_given_up c.args.rules name word words))

@@ -15,13 +15,17 @@ returns-in-Some-Some-Some-Some-Some-None c =
     let fifth = rw arm.is-4 at c.next-unique.ensures.steps in
     let none = rw arm.is-5 at c.next-more.ensures.steps in
     let block = rw (arm.is-3, arm.is-4) at c.announced_by_cas-block.ensures in
-    let said = cas_says c.args.rules _ _ _ _ _ _ _ _ arm.key arm.flags arm.exptime arm.field-0-3 arm.unique c.next-noreply.result c.storage.result first second third fourth fifth c.next-noreply.ensures.steps none c.storage.ensures in
+    let said = cas_says c.args.rules _ _ _ _ _ _ _ _ arm.key arm.flags arm.exptime arm.field-0-3 arm.unique
+    c.next-noreply.result c.storage.result first second third fourth fifth c.next-noreply.ensures.steps none
+    c.storage.ensures in
     rw (c.block_line.ensures, block) said
 
 pub returns-in_default : goal.returns-in_default
 returns-in_default c =
     let words = words_left c.args.walk in
-    let fourth = fourth_word words _ _ _ _ _ _ _ _ c.next-key.ensures.steps c.next-flags.ensures.steps c.next-exptime.ensures.steps c.next-count.ensures.steps in
-    let fifth = fifth_word words _ _ _ _ _ _ _ _ _ _ c.next-key.ensures.steps c.next-flags.ensures.steps c.next-exptime.ensures.steps c.next-count.ensures.steps c.next-unique.ensures.steps in
+    let fourth = fourth_word words _ _ _ _ _ _ _ _ c.next-key.ensures.steps c.next-flags.ensures.steps
+    c.next-exptime.ensures.steps c.next-count.ensures.steps in
+    let fifth = fifth_word words _ _ _ _ _ _ _ _ _ _ c.next-key.ensures.steps c.next-flags.ensures.steps
+    c.next-exptime.ensures.steps c.next-count.ensures.steps c.next-unique.ensures.steps in
     let few : cas_words c.args.rules words ≡ Err (word_count_refusal c.args.rules) = search rules in
     rw (fourth, fifth, few, sym c.announced_by_cas-block.ensures) c.miscounted.ensures

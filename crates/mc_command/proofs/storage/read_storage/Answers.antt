@@ -15,12 +15,15 @@ returns-in-Some-Some-Some-Some-None c =
     let fourth = rw arm.is-3 at c.next-count.ensures.steps in
     let none = rw arm.is-4 at c.next-more.ensures.steps in
     let block = rw arm.is-3 at c.announced-block.ensures in
-    let said = storage_says c.args.rules c.args.mode _ _ _ _ _ _ _ arm.key arm.flags arm.exptime arm.field-0-3 c.next-noreply.result c.storage.result first second third fourth c.next-noreply.ensures.steps none c.storage.ensures in
+    let said = storage_says c.args.rules c.args.mode _ _ _ _ _ _ _ arm.key arm.flags arm.exptime arm.field-0-3
+    c.next-noreply.result c.storage.result first second third fourth c.next-noreply.ensures.steps none
+    c.storage.ensures in
     rw (c.block_line.ensures, block) said
 
 pub returns-in_default : goal.returns-in_default
 returns-in_default c =
     let words = words_left c.args.walk in
-    let fourth = fourth_word words _ _ _ _ _ _ _ _ c.next-key.ensures.steps c.next-flags.ensures.steps c.next-exptime.ensures.steps c.next-count.ensures.steps in
+    let fourth = fourth_word words _ _ _ _ _ _ _ _ c.next-key.ensures.steps c.next-flags.ensures.steps
+    c.next-exptime.ensures.steps c.next-count.ensures.steps in
     let few : storage_words c.args.rules c.args.mode words ≡ Err (word_count_refusal c.args.rules) = search rules in
     rw (fourth, few, sym c.announced-block.ensures) c.miscounted.ensures

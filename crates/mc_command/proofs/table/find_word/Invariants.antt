@@ -7,4 +7,5 @@ use Rattle.mc_command.specs.internal.WordTable.{rows_of}
 use Rattle.mc_command.proofs.table.find_word.Given as goal
 
 abbrev pub invariant-loop-name : goal.invariant-loop-name
-invariant-loop-name g l = lookup (bytes_eq l.word) (rows_of l.table) ≡ lookup (bytes_eq l.word) (rows_of (drop l.name-index l.table))
+invariant-loop-name g l =
+    lookup (bytes_eq l.word) (rows_of l.table) ≡ lookup (bytes_eq l.word) (rows_of (drop l.name-index l.table))

@@ -1,10 +1,12 @@
--- All was written but the replies of the forms that are left.
+-- All was written but the replies of the pending replies that are left.
 use Rattle.std.proofs.Common.{map}
 use Rattle.std.specs.List.{concat}
-use Rattle.mc_join.specs.Replies.{complete, form_text}
+use Rattle.mc_join.specs.Replies.{complete, pending_reply_text}
 use Rattle.mc_reply.proofs.Texts.{WroteBut}
 use Rattle.mc_join.proofs.queue.put_first.Given as goal
 
-abbrev pub invariant-loop-form : goal.invariant-loop-form
-invariant-loop-form g l =
-    WroteBut (concat (map form_text (complete l.forms.items))) (concat (map form_text (complete l.form-iterator))) (g.O.Outlet.sight l.fn.out) (g.O.Outlet.sight l.out)
+abbrev pub invariant-loop-pending_reply : goal.invariant-loop-pending_reply
+invariant-loop-pending_reply g l =
+    WroteBut (concat (map pending_reply_text (complete l.pending_replies.items)))
+    (concat (map pending_reply_text (complete l.pending_reply-iterator))) (g.O.Sink.sight l.fn.out)
+    (g.O.Sink.sight l.out)

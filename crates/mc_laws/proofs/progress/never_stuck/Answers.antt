@@ -6,4 +6,5 @@ use Rattle.mc_laws.proofs.Working.{rests_or_goes}
 use Rattle.mc_laws.proofs.progress.never_stuck.Goals as goal
 
 pub returns : goal.returns
-returns c sizes events w within schedule = rests_or_goes sizes w within (all_kept sizes empty_world events w within.shards.0 schedule (at_begin sizes))
+returns c sizes events w within schedule =
+    rests_or_goes sizes w within (all_kept sizes empty_world events w within.shards.0 schedule (at_begin sizes))

@@ -8,4 +8,5 @@ use Rattle.mc_laws.proofs.progress.none_waits_forever.Goals as goal
 
 pub returns : goal.returns
 returns c sizes events w within schedule run fair seats =
-    none_waits sizes w run within (all_kept sizes empty_world events w within.shards.0 schedule (at_begin sizes)) (all_seated sizes empty_world events w schedule (seated_at_begin sizes)) fair seats
+    none_waits sizes w run within (all_kept sizes empty_world events w within.shards.0 schedule (at_begin sizes))
+    (all_seated sizes empty_world events w schedule (seated_at_begin sizes)) fair seats

@@ -10,5 +10,8 @@ use Rattle.mc_metrics.proofs.backlog.behind_colon.Goals as goal
 pub returns : goal.returns
 unfolding behind_colon
 returns c =
-    let found = nth_from_yields_List _ _ 1 c.nth.ensures.ran (YieldsList-from_str_split 58 c.args.word.now (lit< tt) c.split.ensures.text c.split.ensures.has_more c.split.ensures.pattern) in
-    c.hexadecimal.ensures ∙ ap hexadecimal (ap (λ x. x.now) c.unwrap_or.ensures ∙ text_or c.nth.result _ ∙ ap (λ o. unwrap_or o []) found)
+    let found = nth_from_yields_List _ _ 1 c.nth.ensures.ran
+    (YieldsList-from_str_split 58 c.args.word.now (lit< tt) c.split.ensures.text c.split.ensures.has_more
+    c.split.ensures.pattern) in
+    c.hexadecimal.ensures ∙ ap hexadecimal
+    (ap (λ x. x.now) c.unwrap_or.ensures ∙ text_or c.nth.result _ ∙ ap (λ o. unwrap_or o []) found)

@@ -10,5 +10,7 @@ use Rattle.mc_metrics.proofs.backlog.waiting_at.Goals as goal
 pub returns : goal.returns
 unfolding waiting_at
 returns c =
-    fold_from_yields_List _ (λ before line. saturated (before + waiting_in c.args.ports.now line)) 0 c.fold.result c.fold.ensures.ran (YieldsList-from_lines c.args.table.now c.lines.ensures.rest) (λ before x after q k. search rules)
+    fold_from_yields_List _ (λ before line. saturated (before + waiting_in c.args.ports.now line)) 0 c.fold.result
+    c.fold.ensures.ran (YieldsList-from_lines c.args.table.now c.lines.ensures.rest)
+    (λ before x after q k. search rules)
     ∙ saturating_sums (waiting_in c.args.ports.now) (lines c.args.table.now) 0

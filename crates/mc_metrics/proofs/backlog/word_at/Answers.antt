@@ -12,6 +12,9 @@ pub returns : goal.returns
 unfolding word_at words_of
 returns c =
     let found = nth_from_yields_List _ _ c.args.place c.nth.ensures.ran
-    (YieldsList-from_filter _ is_filled (YieldsList-at c.filter-words.ensures.source (YieldsList-from_str_split 32 c.args.line.now (lit< tt) c.split.ensures.text c.split.ensures.has_more c.split.ensures.pattern))
+    (YieldsList-from_filter _ is_filled
+    (YieldsList-at c.filter-words.ensures.source
+    (YieldsList-from_str_split 32 c.args.line.now (lit< tt) c.split.ensures.text c.split.ensures.has_more
+    c.split.ensures.pattern))
     c.filter-words.ensures.closure (λ x r q k. search (rules, tests, filled_if (x.now)))) in
     ap (λ x. x.now) c.unwrap_or.ensures ∙ text_or c.nth.result _ ∙ ap (λ o. unwrap_or o []) found

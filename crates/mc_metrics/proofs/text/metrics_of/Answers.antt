@@ -17,4 +17,5 @@ returns c =
     let first = c.in_ok-push_metrics.ensures ∙ ap (λ front. front ++ numbers) c.in_ok-text.ensures in
     let second = c.in_ok-push_cpu.ensures ∙ ap (λ front. front ++ cpu) first in
     let third = c.in_ok-push_ends.ensures ∙ ap (λ front. front ++ ends) second in
-    c.in_ok-push_commands.ensures ∙ (ap (λ front. front ++ commands) third ∙ five (version_text reading.facts.version.now) numbers cpu ends commands)
+    c.in_ok-push_commands.ensures ∙
+    (ap (λ front. front ++ commands) third ∙ five (version_text reading.facts.version.now) numbers cpu ends commands)

@@ -8,4 +8,6 @@ pub returns : goal.returns
 returns c =
     let each = commands_each c.args.shards.now in
     let front = ap (λ text. text ++ each) c.in_ok-push_str.ensures.bytes in
-    on_ok_weaker c.push_each_command.result (λ pushed. pushed ∙ (front ∙ append_assoc (string_bytes c.args.text.now) before_commands each)) c.push_each_command.ensures
+    on_ok_weaker c.push_each_command.result
+    (λ pushed. pushed ∙ (front ∙ append_assoc (string_bytes c.args.text.now) before_commands each))
+    c.push_each_command.ensures

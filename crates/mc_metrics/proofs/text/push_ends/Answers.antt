@@ -8,4 +8,5 @@ pub returns : goal.returns
 returns c =
     let each = ends_each c.args.ends.now in
     let front = ap (λ text. text ++ each) c.in_ok-push_str.ensures.bytes in
-    on_ok_weaker c.push_each_end.result (λ pushed. pushed ∙ (front ∙ append_assoc (string_bytes c.args.text.now) before_ends each)) c.push_each_end.ensures
+    on_ok_weaker c.push_each_end.result
+    (λ pushed. pushed ∙ (front ∙ append_assoc (string_bytes c.args.text.now) before_ends each)) c.push_each_end.ensures

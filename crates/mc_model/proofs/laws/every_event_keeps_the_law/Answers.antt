@@ -7,4 +7,5 @@ pub returns-clause-begin : goal.returns-clause-begin
 returns-clause-begin c = at_begin
 
 pub returns-clause-step : goal.returns-clause-step
-returns-clause-step c sizes w later event reply within law happens = event_kept sizes w event reply later within.shards.0 happens law
+returns-clause-step c sizes w later event reply within law happens =
+    event_kept sizes w event reply later within.shards.0 happens law

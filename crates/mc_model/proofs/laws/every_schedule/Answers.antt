@@ -6,4 +6,5 @@ use Rattle.mc_model.proofs.Follows.{headline}
 use Rattle.mc_model.proofs.laws.every_schedule.Goals as goal
 
 pub returns : goal.returns
-returns c sizes events w within leads = headline sizes w (all_kept sizes empty_world events w within.shards.0 leads (at_begin sizes))
+returns c sizes events w within leads =
+    headline sizes w (all_kept sizes empty_world events w within.shards.0 leads (at_begin sizes))

@@ -7,7 +7,8 @@ use Rattle.mc_options.proofs.options.first_given.Given as goal
 
 abbrev pub invariant-loop-option : goal.invariant-loop-option
 invariant-loop-option l =
-    first_given (first_value (found_of l.matches)) (map (λ name. name.now) (drop l.option-index l.options)) (map (λ name. name.now) l.flags)
+    first_given (first_value (found_of l.matches)) (map (λ name. name.now) (drop l.option-index l.options))
+    (map (λ name. name.now) l.flags)
     ≡ first_given (first_value (found_of l.matches)) (map (λ name. name.now) l.options) (map (λ name. name.now) l.flags)
 
 abbrev pub invariant-loop-flag : goal.invariant-loop-flag

@@ -6,7 +6,8 @@ use Rattle.mc_options.proofs.Behind.{start, step}
 use Rattle.mc_options.proofs.options.listen_in.Goals as goal
 
 pub returns-in-Some-clause-refused : goal.returns-in-Some-clause-refused
-returns-in-Some-clause-refused c = (tt, start NotOfTcp _ _ _ (sym c.first_given.ensures ∙ ap (option_map (λ name. name.now)) c.in-Some.is))
+returns-in-Some-clause-refused c =
+    (tt, start NotOfTcp _ _ _ (sym c.first_given.ensures ∙ ap (option_map (λ name. name.now)) c.in-Some.is))
 
 pub returns-in_err-seats-clause-refused : goal.returns-in_err-seats-clause-refused
 returns-in_err-seats-clause-refused c =
@@ -17,15 +18,22 @@ returns-in_err-seats-clause-refused c =
 pub returns-in_err-connections-clause-refused : goal.returns-in_err-connections-clause-refused
 returns-in_err-connections-clause-refused c =
     let none = sym c.first_given.ensures ∙ ap (option_map (λ name. name.now)) c.in_default.is in
-    passed_up c.from_residual-in_err-connections.result c.in_err-connections.field-0.0 _ c.from_residual-in_err-connections.ensures.1
-    (c.in_err-connections.ensures.refused.0, start NotOfTcp _ _ _ none ∙ (step _ _ _ c.in_ok-seats.ensures.given ∙ step _ _ _ c.in_err-connections.ensures.refused.1))
+    passed_up c.from_residual-in_err-connections.result c.in_err-connections.field-0.0 _
+    c.from_residual-in_err-connections.ensures.1 (
+      c.in_err-connections.ensures.refused.0,
+      start NotOfTcp _ _ _ none
+          ∙ (step _ _ _ c.in_ok-seats.ensures.given ∙ step _ _ _ c.in_err-connections.ensures.refused.1),
+    )
 
 pub returns-in_err-idle_timeout-clause-refused : goal.returns-in_err-idle_timeout-clause-refused
 returns-in_err-idle_timeout-clause-refused c =
     let none = sym c.first_given.ensures ∙ ap (option_map (λ name. name.now)) c.in_default.is in
-    passed_up c.from_residual-in_err-idle_timeout.result c.in_err-idle_timeout.field-0.0 _ c.from_residual-in_err-idle_timeout.ensures.1 (
+    passed_up c.from_residual-in_err-idle_timeout.result c.in_err-idle_timeout.field-0.0 _
+    c.from_residual-in_err-idle_timeout.ensures.1 (
       c.in_err-idle_timeout.ensures.refused.0,
-      start NotOfTcp _ _ _ none ∙ (step _ _ _ c.in_ok-seats.ensures.given ∙ (step _ _ _ c.in_ok-connections.ensures.given ∙ step _ _ _ c.in_err-idle_timeout.ensures.refused.1)),
+      start NotOfTcp _ _ _ none
+          ∙ (step _ _ _ c.in_ok-seats.ensures.given
+          ∙ (step _ _ _ c.in_ok-connections.ensures.given ∙ step _ _ _ c.in_err-idle_timeout.ensures.refused.1)),
     )
 
 pub returns-in_err-drain-clause-refused : goal.returns-in_err-drain-clause-refused
@@ -35,7 +43,8 @@ returns-in_err-drain-clause-refused c =
       c.in_err-drain.ensures.refused.0,
       start NotOfTcp _ _ _ none
           ∙ (step _ _ _ c.in_ok-seats.ensures.given
-          ∙ (step _ _ _ c.in_ok-connections.ensures.given ∙ (step _ _ _ c.in_ok-idle_timeout.ensures.given ∙ step _ _ _ c.in_err-drain.ensures.refused.1))),
+          ∙ (step _ _ _ c.in_ok-connections.ensures.given
+          ∙ (step _ _ _ c.in_ok-idle_timeout.ensures.given ∙ step _ _ _ c.in_err-drain.ensures.refused.1))),
     )
 
 pub returns-in_err-sizes-clause-refused : goal.returns-in_err-sizes-clause-refused
@@ -45,7 +54,9 @@ returns-in_err-sizes-clause-refused c =
       c.in_err-sizes.ensures.refused.0,
       start NotOfTcp _ _ _ none
           ∙ (step _ _ _ c.in_ok-seats.ensures.given
-          ∙ (step _ _ _ c.in_ok-connections.ensures.given ∙ (step _ _ _ c.in_ok-idle_timeout.ensures.given ∙ (step _ _ _ c.in_ok-drain.ensures.given ∙ step _ _ _ c.in_err-sizes.ensures.refused.1)))),
+          ∙ (step _ _ _ c.in_ok-connections.ensures.given
+          ∙ (step _ _ _ c.in_ok-idle_timeout.ensures.given
+          ∙ (step _ _ _ c.in_ok-drain.ensures.given ∙ step _ _ _ c.in_err-sizes.ensures.refused.1)))),
     )
 
 pub returns-in_err-port-clause-refused : goal.returns-in_err-port-clause-refused
@@ -57,7 +68,8 @@ returns-in_err-port-clause-refused c =
           ∙ (step _ _ _ c.in_ok-seats.ensures.given
           ∙ (step _ _ _ c.in_ok-connections.ensures.given
           ∙ (step _ _ _ c.in_ok-idle_timeout.ensures.given
-          ∙ (step _ _ _ c.in_ok-drain.ensures.given ∙ (step _ _ _ c.in_ok-sizes.ensures.given ∙ step _ _ _ c.in_err-port.ensures.refused.1))))),
+          ∙ (step _ _ _ c.in_ok-drain.ensures.given
+          ∙ (step _ _ _ c.in_ok-sizes.ensures.given ∙ step _ _ _ c.in_err-port.ensures.refused.1))))),
     )
 
 pub returns-in_err-mode-clause-refused : goal.returns-in_err-mode-clause-refused
@@ -70,7 +82,8 @@ returns-in_err-mode-clause-refused c =
           ∙ (step _ _ _ c.in_ok-connections.ensures.given
           ∙ (step _ _ _ c.in_ok-idle_timeout.ensures.given
           ∙ (step _ _ _ c.in_ok-drain.ensures.given
-          ∙ (step _ _ _ c.in_ok-sizes.ensures.given ∙ (step _ _ _ c.in_ok-port.ensures.given ∙ step _ _ _ c.in_err-mode.ensures.refused.1)))))),
+          ∙ (step _ _ _ c.in_ok-sizes.ensures.given
+          ∙ (step _ _ _ c.in_ok-port.ensures.given ∙ step _ _ _ c.in_err-mode.ensures.refused.1)))))),
     )
 
 pub returns-clause-given : goal.returns-clause-given
@@ -82,7 +95,8 @@ returns-clause-given c =
     ∙ (step _ _ _ c.in_ok-connections.ensures.given
     ∙ (step _ _ _ c.in_ok-idle_timeout.ensures.given
     ∙ (step _ _ _ c.in_ok-drain.ensures.given
-    ∙ (step _ _ _ c.in_ok-sizes.ensures.given ∙ (step _ _ _ c.in_ok-port.ensures.given ∙ step _ _ _ c.in_ok-mode.ensures.given)))))))
+    ∙ (step _ _ _ c.in_ok-sizes.ensures.given
+    ∙ (step _ _ _ c.in_ok-port.ensures.given ∙ step _ _ _ c.in_ok-mode.ensures.given)))))))
 
 pub returns-clause-within : goal.returns-clause-within
 returns-clause-within c = c.in_ok-sizes.ensures.within

@@ -15,7 +15,9 @@ pub returns-clause-matches : goal.returns-clause-matches
 unfolding rows_in
 returns-clause-matches c =
     let is = c.in_ok-program.ensures in
-    IfOk-weaker c.try_get_matches_from.result _ _ (λ m h. (h (ap is_simple is ∙ program_is_simple)).0 ∙ ap (λ (app : App). matches_of app (map string_bytes c.args.words.now)) is) c.try_get_matches_from.ensures.matches
+    IfOk-weaker c.try_get_matches_from.result _ _
+    (λ m h. (h (ap is_simple is ∙ program_is_simple)).0
+    ∙ ap (λ (app : App). matches_of app (map string_bytes c.args.words.now)) is) c.try_get_matches_from.ensures.matches
 
 -- and what it refuses
 program_is_free : is_simple_and_free program ≡ true
@@ -27,4 +29,5 @@ unfolding word_faults
 returns-clause-call c =
     let is = c.in_ok-program.ensures in
     let fails = c.try_get_matches_from.ensures.kinds (ap is_simple_and_free is ∙ program_is_free) in
-    subst (λ (app : App). FailsBy (fault_of app (map string_bytes c.args.words.now)) c.try_get_matches_from.result) is fails
+    subst (λ (app : App). FailsBy (fault_of app (map string_bytes c.args.words.now)) c.try_get_matches_from.result) is
+    fails

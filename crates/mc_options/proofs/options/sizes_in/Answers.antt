@@ -13,16 +13,21 @@ returns-in_err-budget-clause-refused c =
 
 pub returns-in_err-value-clause-refused : goal.returns-in_err-value-clause-refused
 returns-in_err-value-clause-refused c =
-    passed_up c.from_residual-in_err-value.result c.in_err-value.field-0.0 _ c.from_residual-in_err-value.ensures.1
-    (c.in_err-value.ensures.refused.0, step _ _ _ c.in_ok-budget.ensures.given ∙ step _ _ _ c.in_err-value.ensures.refused.1)
+    passed_up c.from_residual-in_err-value.result c.in_err-value.field-0.0 _ c.from_residual-in_err-value.ensures.1 (
+      c.in_err-value.ensures.refused.0,
+      step _ _ _ c.in_ok-budget.ensures.given ∙ step _ _ _ c.in_err-value.ensures.refused.1,
+    )
 
 pub returns-in_err-line-clause-refused : goal.returns-in_err-line-clause-refused
 returns-in_err-line-clause-refused c =
     let given = first_value (found_of c.args.matches.now) in
     let longest = sym (c.default_line-longest.ensures.value ∙ ap default_line c.profile_in-profile.ensures) in
     let line = ap (λ (most : ℕ). size_given given (codes "line-limit") 2048 most 8388608) longest in
-    passed_up c.from_residual-in_err-line.result c.in_err-line.field-0.0 _ c.from_residual-in_err-line.ensures.1
-    (c.in_err-line.ensures.refused.0, step _ _ _ c.in_ok-budget.ensures.given ∙ (step _ _ _ c.in_ok-value.ensures.given ∙ step _ _ _ (line ∙ c.in_err-line.ensures.refused.1)))
+    passed_up c.from_residual-in_err-line.result c.in_err-line.field-0.0 _ c.from_residual-in_err-line.ensures.1 (
+      c.in_err-line.ensures.refused.0,
+      step _ _ _ c.in_ok-budget.ensures.given
+          ∙ (step _ _ _ c.in_ok-value.ensures.given ∙ step _ _ _ (line ∙ c.in_err-line.ensures.refused.1)),
+    )
 
 pub returns-in_err-window-clause-refused : goal.returns-in_err-window-clause-refused
 returns-in_err-window-clause-refused c =
@@ -32,7 +37,8 @@ returns-in_err-window-clause-refused c =
     passed_up c.from_residual-in_err-window.result c.in_err-window.field-0.0 _ c.from_residual-in_err-window.ensures.1 (
       c.in_err-window.ensures.refused.0,
       step _ _ _ c.in_ok-budget.ensures.given
-          ∙ (step _ _ _ c.in_ok-value.ensures.given ∙ (step _ _ _ (line ∙ c.in_ok-line.ensures.given) ∙ step _ _ _ c.in_err-window.ensures.refused.1)),
+          ∙ (step _ _ _ c.in_ok-value.ensures.given
+          ∙ (step _ _ _ (line ∙ c.in_ok-line.ensures.given) ∙ step _ _ _ c.in_err-window.ensures.refused.1)),
     )
 
 pub returns-clause-given : goal.returns-clause-given
@@ -40,9 +46,10 @@ returns-clause-given c =
     let given = first_value (found_of c.args.matches.now) in
     let longest = sym (c.default_line-longest.ensures.value ∙ ap default_line c.profile_in-profile.ensures) in
     let line = ap (λ (most : ℕ). size_given given (codes "line-limit") 2048 most 8388608) longest in
-    rw c.profile_in-profile.ensures
+    rw (c.profile_in-profile.ensures, c.is_flag-shutdown.ensures)
     (step _ _ _ c.in_ok-budget.ensures.given
-    ∙ (step _ _ _ c.in_ok-value.ensures.given ∙ (step _ _ _ (line ∙ c.in_ok-line.ensures.given) ∙ step _ _ _ c.in_ok-window.ensures.given)))
+    ∙ (step _ _ _ c.in_ok-value.ensures.given
+    ∙ (step _ _ _ (line ∙ c.in_ok-line.ensures.given) ∙ step _ _ _ c.in_ok-window.ensures.given)))
 
 pub returns-clause-within : goal.returns-clause-within
 returns-clause-within c = record {

@@ -8,6 +8,9 @@ use Rattle.mc_options.proofs.program.with_options.Goals as goal
 
 pub loop-option-preserved : goal.loop-option-preserved
 loop-option-preserved c =
-    let behind = map (λ told. told_rule told.0.now told.1 told.2.now) (drop (c.loop-option.option-index + 1) c.args.options.now) in
+    let behind = map (λ told. told_rule told.0.now told.1 told.2.now)
+    (drop (c.loop-option.option-index + 1) c.args.options.now) in
     ap (λ (app : App). with_rules app behind) c.in_ok-more.ensures
-    ∙ (sym (at_drop_more (λ rest. with_rules (app_of c.loop-option.more) (map (λ told. told_rule told.0.now told.1 told.2.now) rest)) c.args.options.now c.loop-option.option-index _ c.loop-option-test.true) ∙ c.loop-option.invariant)
+    ∙ (sym (at_drop_more (λ rest. with_rules (app_of c.loop-option.more)
+    (map (λ told. told_rule told.0.now told.1 told.2.now) rest)) c.args.options.now c.loop-option.option-index _
+    c.loop-option-test.true) ∙ c.loop-option.invariant)

@@ -5,7 +5,8 @@ pub returns-clause-kept : goal.returns-clause-kept
 returns-clause-kept c = begin_more
 
 pub returns-clause-begin : goal.returns-clause-begin
-returns-clause-begin c rules input more entries others all = commands_begin rules input more entries others (all_begin rules input entries all)
+returns-clause-begin c rules input more entries others all =
+    commands_begin rules input more entries others (all_begin rules input entries all)
 
 pub returns-clause-closed : goal.returns-clause-closed
 returns-clause-closed c = closed_more

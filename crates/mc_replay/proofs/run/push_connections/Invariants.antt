@@ -9,4 +9,5 @@ use Rattle.mc_replay.proofs.run.push_connections.Given as goal
 abbrev pub invariant-loop-number : goal.invariant-loop-number
 invariant-loop-number l =
     (sizes : Sizes) (w : World) → Stands sizes l.sim w
-    → l.text.items ++ connection_lines sizes w l.number (drop l.number w.links) ≡ l.fn.text.items ++ connection_lines sizes w 0 w.links
+    → l.text.items ++ connection_lines sizes w l.number (drop l.number w.links) ≡ l.fn.text.items
+    ++ connection_lines sizes w 0 w.links

@@ -7,4 +7,5 @@ use Rattle.mc_replay.proofs.schedule.read_events.Given as goal
 
 abbrev pub invariant-loop-line : goal.invariant-loop-line
 invariant-loop-line l =
-    events_in l.sizes (parts_left l.fn.lines) ≡ map Some (map shown l.events.items) ++ events_in l.sizes (parts_left l.line-iterator)
+    events_in l.sizes (parts_left l.fn.lines) ≡ map Some (map shown l.events.items)
+    ++ events_in l.sizes (parts_left l.line-iterator)

@@ -7,8 +7,10 @@ pub returns : goal.returns
 returns g c =
     let front = take c.place_line-end.result c.place_line-end.new.room in
     let line = take c.place-end.result c.place-end.new.room in
-    let item = item-line_block false c.args.key.now c.args.flags 0 c.len.result c.args.value.now front line c.len.ensures.value c.place_line-end.ensures.text c.place-end.ensures.text in
-    writes_same _ _ c.put_block.result (item ∙ ap (λ xs. xs ++ (c.args.value.now ++ codes "\r\n")) (sym c.split_at-2.ensures.front)) c.put_block.ensures
+    let item = item-line_block false c.args.key.now c.args.flags 0 c.len.result c.args.value.now front line
+    c.len.ensures.value c.place_line-end.ensures.text c.place-end.ensures.text in
+    writes_same _ _ c.put_block.result
+    (item ∙ ap (λ xs. xs ++ (c.args.value.now ++ codes "\r\n")) (sym c.split_at-2.ensures.front)) c.put_block.ensures
 
 pub returns-then-len-le-SHORT_VALUE : goal.returns-then-len-le-SHORT_VALUE
 returns-then-len-le-SHORT_VALUE g c =
@@ -17,6 +19,9 @@ returns-then-len-le-SHORT_VALUE g c =
     let line = take c.place-end.result c.place-end.new.room in
     let more = take c.place-end-then-len-le-SHORT_VALUE.result c.place-end-then-len-le-SHORT_VALUE.new.room in
     let whole = take c.place-end-then-len-le-SHORT_VALUE-2.result c.place-end-then-len-le-SHORT_VALUE-2.new.room in
-    let item = item-line_block false c.args.key.now c.args.flags 0 c.len.result value front line c.len.ensures.value c.place_line-end.ensures.text c.place-end.ensures.text in
-    let block = line_block line value more whole (rw c.bytes.ensures.value at c.place-end-then-len-le-SHORT_VALUE.ensures.text) c.place-end-then-len-le-SHORT_VALUE-2.ensures.text in
-    writes_same _ _ c.put_all.result (item ∙ block ∙ sym c.split_at.ensures.front) c.put_all.ensures
+    let item = item-line_block false c.args.key.now c.args.flags 0 c.len.result value front line c.len.ensures.value
+    c.place_line-end.ensures.text c.place-end.ensures.text in
+    let block = line_block line value more whole
+    (rw c.bytes.ensures.value at c.place-end-then-len-le-SHORT_VALUE.ensures.text)
+    c.place-end-then-len-le-SHORT_VALUE-2.ensures.text in
+    writes_same _ _ c.write_all.result (item ∙ block ∙ sym c.split_at.ensures.front) c.write_all.ensures

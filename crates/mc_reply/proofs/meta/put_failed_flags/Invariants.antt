@@ -6,4 +6,6 @@ use Rattle.mc_reply.proofs.meta.put_failed_flags.Given as goal
 
 abbrev pub invariant-loop-flag : goal.invariant-loop-flag
 invariant-loop-flag g l =
-    WroteBut (failed_text l.kind l.flags l.key l.answer) (flat_map (failed_flag l.kind l.flags.profile (flag_text l.flags l.key l.answer)) (drop l.flag-index l.flags.returned)) (g.O.Outlet.sight l.fn.out) (g.O.Outlet.sight l.out)
+    WroteBut (failed_text l.kind l.flags l.key l.answer)
+    (flat_map (failed_flag l.kind l.flags.profile (flag_text l.flags l.key l.answer))
+    (drop l.flag-index l.flags.returned)) (g.O.Sink.sight l.fn.out) (g.O.Sink.sight l.out)

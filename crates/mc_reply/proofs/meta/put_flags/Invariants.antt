@@ -6,4 +6,6 @@ use Rattle.mc_reply.proofs.meta.put_flags.Given as goal
 
 abbrev pub invariant-loop-flag : goal.invariant-loop-flag
 invariant-loop-flag g l =
-    WroteBut (flags_text l.flags l.key l.answer) (flat_map (flag_text l.flags l.key l.answer) (drop l.flag-index l.flags.returned)) (g.O.Outlet.sight l.fn.out) (g.O.Outlet.sight l.out)
+    WroteBut (flags_text l.flags l.key l.answer)
+    (flat_map (flag_text l.flags l.key l.answer) (drop l.flag-index l.flags.returned)) (g.O.Sink.sight l.fn.out)
+    (g.O.Sink.sight l.out)

@@ -7,4 +7,5 @@ use Rattle.mc_reply.proofs.stats.put_sums.Given as goal
 
 abbrev pub invariant-loop-stat : goal.invariant-loop-stat
 invariant-loop-stat g l =
-    WroteBut (sums_text l.slots l.stats) (flat_map (sum_line l.slots) (drop l.stat-index l.stats)) (g.O.Outlet.sight l.fn.out) (g.O.Outlet.sight l.out)
+    WroteBut (sums_text l.slots l.stats) (flat_map (sum_line l.slots) (drop l.stat-index l.stats))
+    (g.O.Sink.sight l.fn.out) (g.O.Sink.sight l.out)

@@ -1,5 +1,9 @@
-use Rattle.mc_ring.proofs.LaneLoops.{JoinsFirst}
+use Rattle.std.proofs.Common.{◌≡◌}
+use Rattle.mc_ring.proofs.ChannelLoops.{JoinsFirst}
 use Rattle.mc_ring.proofs.making.row.Given as goal
 
 abbrev pub invariant-loop-shard : goal.invariant-loop-shard
-invariant-loop-shard l = JoinsFirst l.capacity l.shard-index l.fn.shards.items l.shard-items l.row.items
+invariant-loop-shard g l =
+    JoinsFirst (g.S.Source.name l.fn.source) l.number l.capacity l.shard-index l.fn.shards.items l.shard-items
+    l.row.items
+    × (g.S.Source.name l.source ≡ g.S.Source.name l.fn.source)

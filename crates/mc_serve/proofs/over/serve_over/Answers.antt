@@ -1,4 +1,4 @@
--- What is told of the doors is what is told of the lines.
+-- What is told of the sources is what is told of the lines.
 use Rattle.std.proofs.Common.{◌≡◌, ◌∙◌, ℕ, ap, length, subst, sym}
 use Rattle.std.proofs.lemmas.List.{length-map}
 use Rattle.mc_sizes.specs.Sizes.{MayServe}
@@ -8,23 +8,31 @@ use Rattle.mc_serve.proofs.One.{all_free, over_all}
 use Rattle.mc_serve.proofs.Zipped.{if_ok}
 use denote.Exit.{no}
 use denote.Param.Send.{arg_send, param_send}
-use Rattle.mc_doors.proofs.Sent.{door_send}
+use Rattle.mc_doors.proofs.Sent.{source_send}
 use Rattle.mc_serve.proofs.over.serve_over.Goals as goal
 
 pub serve-requires-clause-free : goal.serve-requires-clause-free
-serve-requires-clause-free g c κs within = all_free (λ door. told_of (λ line. g.L.Outlet.sight line) door) (λ line. g.L.Outlet.sight line) c.in_ok-doors.doors.items c.args.lines.items c.in_ok-doors.ensures
+serve-requires-clause-free g c κs within =
+    all_free (λ source. told_of (λ line. g.L.Sink.sight line) source) (λ line. g.L.Sink.sight line)
+    c.in_ok-sources.sources.items c.args.lines.items c.in_ok-sources.ensures
 
 pub returns-clause-explained : goal.returns-clause-explained
 returns-clause-explained g c =
-    if_ok c.gather.result _ _ (λ report zips. over_all (λ n. record c.args.sizes { seats = n }) (g.K.Clock.may_answer c.args.clock) (λ door. told_of (λ line. g.L.Outlet.sight line) door) (λ one. came_back (g.L.Outlet.sight one.line) one.commands one.broke) (λ line. g.L.Outlet.sight line)
-    c.args.lines.items c.in_ok-doors.doors.items _ report.lines.items c.in_ok-doors.ensures c.in_ok-back.ensures.explained zips) c.gather.ensures.back
+    if_ok c.gather.result _ _
+    (λ report zips. over_all (λ n. record c.args.sizes { seats = n }) (g.K.Clock.may_answer c.args.clock)
+    (λ source. told_of (λ line. g.L.Sink.sight line) source)
+    (λ one. came_back (g.L.Sink.sight one.line) one.commands one.broke) (λ line. g.L.Sink.sight line)
+    c.args.lines.items c.in_ok-sources.sources.items _ report.lines.items
+    c.in_ok-sources.ensures c.in_ok-back.ensures.explained zips) c.gather.ensures.back
 
 pub serve-requires-clause-sizes : goal.serve-requires-clause-sizes
 serve-requires-clause-sizes g c κs within =
-    let same = c.in_ok-doors.ensures in
-    let count : length c.in_ok-doors.doors.items ≡ length c.args.lines.items = sym (length-map c.in_ok-doors.doors.items (λ door. told_of (λ line. g.L.Outlet.sight line) door)) ∙ (ap length same ∙ length-map c.args.lines.items (λ line. waits (g.L.Outlet.sight line))) in
+    let same = c.in_ok-sources.ensures in
+    let count : length c.in_ok-sources.sources.items ≡ length c.args.lines.items =
+    sym (length-map c.in_ok-sources.sources.items (λ source. told_of (λ line. g.L.Sink.sight line) source))
+    ∙ (ap length same ∙ length-map c.args.lines.items (λ line. waits (g.L.Sink.sight line))) in
     let P : ℕ → Type 0 = λ n. MayServe (record c.args.sizes { seats = n }) in
     subst P (sym count) c.requires
 
 pub serve-requires-send-D : goal.serve-requires-send-D
-serve-requires-send-D g c κs within = param_send 1 _ (arg_send _ no _ (door_send _ c.type_bounds.send-L))
+serve-requires-send-D g c κs within = param_send 1 _ (arg_send _ no _ (source_send _ c.type_bounds.send-L))

@@ -1,17 +1,19 @@
--- There are as many seats as doors.
+-- There are as many seats as sources.
 use Rattle.std.proofs.Common.{◌≡◌, ℕ, length, map, rules, subst, sym}
 use Rattle.mc_sizes.specs.Sizes.{MayServe}
-use Rattle.mc_serve.specs.Served.{ServesDoors}
+use Rattle.mc_serve.specs.Served.{ServesSources}
 use Rattle.mc_serve.proofs.serving.serve.Goals as goal
 
 pub serve_all-requires-clause-sizes : goal.serve_all-requires-clause-sizes
 serve_all-requires-clause-sizes g c κs within =
-    let count : c.len-seats.result ≡ length c.args.doors.items = search rules in
+    let count : c.len-seats.result ≡ length c.args.sources.items = search rules in
     let P : ℕ → Type 0 = λ n. MayServe (record c.args.sizes { seats = n }) in
     subst P (sym count) c.requires.sizes
 
 pub returns-in-Ok-clause-explained : goal.returns-in-Ok-clause-explained
 returns-in-Ok-clause-explained g c =
-    let count : c.len-seats.result ≡ length c.args.doors.items = search rules in
-    let P : ℕ → Type 0 = λ n. ServesDoors (record c.args.sizes { seats = n }) (g.K.Clock.may_answer c.args.clock) (map (λ door. g.D.Door.told door) c.args.doors.items) (map (λ door. g.D.Door.told door) c.in-Ok.back.items) in
+    let count : c.len-seats.result ≡ length c.args.sources.items = search rules in
+    let P : ℕ → Type 0 = λ n. ServesSources (record c.args.sizes { seats = n }) (g.K.Clock.may_answer c.args.clock)
+    (map (λ source. g.D.ConnectionSource.told source) c.args.sources.items)
+    (map (λ source. g.D.ConnectionSource.told source) c.in-Ok.back.items) in
     subst P count c.in-Ok.ensures

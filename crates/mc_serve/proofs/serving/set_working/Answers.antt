@@ -7,7 +7,8 @@ use Rattle.mc_serve.proofs.serving.set_working.Goals as goal
 pub loop-worker-preserved : goal.loop-worker-preserved
 loop-worker-preserved g c =
     let same : c.in_ok-working.working.worker ≡ c.in-Some.worker = search rules in
-    order_more (λ one. one.worker) c.loop-worker.all.items _ c.in_ok-working.working c.in-Some.worker _ _ c.in_ok-push.ensures.items same (rw c.in-Some.ensures.steps.0 at c.loop-worker.invariant)
+    order_more (λ one. one.worker) c.loop-worker.all.items _ c.in_ok-working.working c.in-Some.worker _ _
+    c.in_ok-push.ensures.items same (rw c.in-Some.ensures.steps.0 at c.loop-worker.invariant)
 
 pub returns : goal.returns
 returns g c =

@@ -1,4 +1,4 @@
--- One seat more, at last one for each door.
+-- One seat more, at last one for each source.
 use Rattle.std.proofs.Common.{◌≡◌, List, ◌∷◌, length, arith, ap, sym, ◌∙◌}
 use Rattle.std.specs.Vec.Iter.{into_iter_items}
 use Rattle.mc_sizes.specs.Sizes.{rules_of}
@@ -9,54 +9,71 @@ use Rattle.mc_threads.specs.Session.{seat_ends}
 use Rattle.mc_serve.proofs.serving.sit_down.Goals as goal
 
 -- one less of each
-one_less : {A B : Type 0} (xs xs' : List A) (ys ys' : List B) (x : A) (y : B) → xs ≡ x ∷ xs' → ys ≡ y ∷ ys' → length xs ≡ length ys → length xs' ≡ length ys'
+one_less : {A B : Type 0} (xs xs' : List A) (ys ys' : List B) (x : A) (y : B) → xs ≡ x ∷ xs' → ys ≡ y ∷ ys' → length xs
+    ≡ length ys → length xs' ≡ length ys'
 one_less xs xs' ys ys' x y first first' same = omega (arith, ap length first, ap length first', same)
 
 pub loop-ends-preserved : goal.loop-ends-preserved
 loop-ends-preserved g c =
     let was = c.loop-ends.invariant in
     let step = c.in-Some.ensures.steps in
-    let door = c.in-Some-next.ensures.cases in
+    let source = c.in-Some-next.ensures.cases in
     let grown = c.in_ok-push.ensures.items in
-    let made = c.in_ok-sitting.ensures in
-    let free = all_first (λ door. IsFree (g.D.Door.told door)) _ c.in-Some-next.door _ door.0 was.free in
-    let wide = all_first (λ seat. length seat.lanes ≡ c.args.sizes.shards) _ c.in-Some.ends _ step.0 was.width in
+    let made = c.in_ok-slot.ensures in
+    let free = all_first (λ source. IsFree (g.D.ConnectionSource.told source)) _ c.in-Some-next.source _ source.0
+    was.free in
+    let wide = all_first (λ seat. length seat.channels ≡ c.args.sizes.shards) _ c.in-Some.ends _ step.0 was.width in
     record {
-      width = all_rest (λ seat. length seat.lanes ≡ c.args.sizes.shards) _ c.in-Some.ends _ step.0 was.width;
-      as_many = one_less _ _ _ _ _ _ door.0 step.0 was.as_many;
-      free = all_rest (λ door. IsFree (g.D.Door.told door)) _ c.in-Some-next.door _ door.0 was.free;
-      ends = order_more (λ one. seat_ends one.session) c.loop-ends.seats.items _ c.in_ok-sitting.sitting c.in-Some.ends _ _ grown made.ends (rw step.0 at was.ends);
-      doors = order_more (λ one. one.door) c.loop-ends.seats.items _ c.in_ok-sitting.sitting c.in-Some-next.door _ _ grown made.door (rw door.0 at was.doors);
-      begin = all_more (λ one. HasSatDown c.args.sizes.shards (rules_of c.args.sizes) (g.D.Door.told one.door) one.session one.phase) c.loop-ends.seats.items _ c.in_ok-sitting.sitting grown was.begin
-          (record { none = made.free; free = rw made.door free; width = rw made.ends wide; window = c.args.sizes.window; vacant = made.vacant });
+      width = all_rest (λ seat. length seat.channels ≡ c.args.sizes.shards) _ c.in-Some.ends _ step.0 was.width;
+      as_many = one_less _ _ _ _ _ _ source.0 step.0 was.as_many;
+      free = all_rest (λ source. IsFree (g.D.ConnectionSource.told source)) _ c.in-Some-next.source _ source.0 was.free;
+      ends =
+          order_more (λ one. seat_ends one.session) c.loop-ends.seats.items _ c.in_ok-slot.slot c.in-Some.ends _ _ grown
+          made.ends (rw step.0 at was.ends);
+      sources =
+          order_more (λ one. one.source) c.loop-ends.seats.items _ c.in_ok-slot.slot c.in-Some-next.source _ _ grown
+          made.source (rw source.0 at was.sources);
+      begin =
+          all_more (λ one. HasSatDown c.args.sizes.shards (rules_of c.args.sizes) (g.D.ConnectionSource.told one.source)
+          one.session one.slot_state) c.loop-ends.seats.items _ c.in_ok-slot.slot grown was.begin
+          (record {
+            none = made.free;
+            free = rw made.source free;
+            width = rw made.ends wide;
+            window = c.args.sizes.window;
+            vacant = made.vacant;
+          });
     }
 
 pub returns : goal.returns
 returns g c =
     let was = c.loop-ends.invariant in
-    let none : length (into_iter_items c.loop-ends.ends-iterator) ≡ 0 = sym c.loop-ends.ends-iterator.rest.ok.0 ∙ c.in-None.ensures.steps.0 in
+    let none : length (into_iter_items c.loop-ends.ends-iterator) ≡ 0 = sym c.loop-ends.ends-iterator.rest.ok.0
+    ∙ c.in-None.ensures.steps.0 in
     record {
       ends = order_all _ (into_iter_items c.loop-ends.ends-iterator) _ none was.ends;
-      doors = order_all _ (into_iter_items c.loop-ends.doors) _ (was.as_many ∙ none) was.doors;
+      sources = order_all _ (into_iter_items c.loop-ends.sources) _ (was.as_many ∙ none) was.sources;
       begin = was.begin;
     }
 
 pub loop-ends-init : goal.loop-ends-init
 loop-ends-init g c =
-    let doors = c.into_iter-doors.ensures.rest in
+    let sources = c.into_iter-sources.ensures.rest in
     let ends = c.into_iter-ends-iterator.ensures.into_iter_gives.0 in
     let none = c.in_ok-seats.ensures.items in
     record {
       width = rw ends c.requires.width;
-      as_many = rw (doors, ends) c.requires.as_many;
-      free = rw doors c.requires.free;
+      as_many = rw (sources, ends) c.requires.as_many;
+      free = rw sources c.requires.free;
       ends = rw none ends;
-      doors = rw none doors;
+      sources = rw none sources;
       begin = rw none tt;
     }
 
 pub new-requires : goal.new-requires
 new-requires g c = record {
   sizes = c.requires.sizes;
-  width = all_first (λ seat. length seat.lanes ≡ c.args.sizes.shards) _ c.in-Some.ends _ c.in-Some.ensures.steps.0 c.loop-ends.invariant.width;
+  width =
+      all_first (λ seat. length seat.channels ≡ c.args.sizes.shards) _ c.in-Some.ends _ c.in-Some.ensures.steps.0
+      c.loop-ends.invariant.width;
 }

@@ -1,4 +1,4 @@
--- The seats made so far, then the ends and the doors that are left: as many of each.
+-- The seats made so far, then the ends and the sources that are left: as many of each.
 use Rattle.std.proofs.Common.{◌≡◌, ◌++◌, length, map}
 use Rattle.std.specs.List.{AllByRecursion}
 use Rattle.std.specs.Vec.Iter.{into_iter_items}
@@ -10,10 +10,11 @@ use Rattle.mc_serve.proofs.serving.sit_down.Given as goal
 
 abbrev pub invariant-loop-ends : goal.invariant-loop-ends
 invariant-loop-ends g l = record {
-  width : AllByRecursion (λ seat. length seat.lanes ≡ l.fn.sizes.shards) (into_iter_items l.ends-iterator);
-  as_many : length (into_iter_items l.doors) ≡ length (into_iter_items l.ends-iterator);
-  free : AllByRecursion (λ door. IsFree (g.D.Door.told door)) (into_iter_items l.doors);
+  width : AllByRecursion (λ seat. length seat.channels ≡ l.fn.sizes.shards) (into_iter_items l.ends-iterator);
+  as_many : length (into_iter_items l.sources) ≡ length (into_iter_items l.ends-iterator);
+  free : AllByRecursion (λ source. IsFree (g.D.ConnectionSource.told source)) (into_iter_items l.sources);
   ends : map (λ one. seat_ends one.session) l.seats.items ++ into_iter_items l.ends-iterator ≡ l.fn.ends.items;
-  doors : map (λ one. one.door) l.seats.items ++ into_iter_items l.doors ≡ l.fn.doors.items;
-  begin : AllByRecursion (λ one. HasSatDown l.fn.sizes.shards (rules_of l.fn.sizes) (g.D.Door.told one.door) one.session one.phase) l.seats.items;
+  sources : map (λ one. one.source) l.seats.items ++ into_iter_items l.sources ≡ l.fn.sources.items;
+  begin : AllByRecursion (λ one. HasSatDown l.fn.sizes.shards (rules_of l.fn.sizes)
+      (g.D.ConnectionSource.told one.source) one.session one.slot_state) l.seats.items;
 }

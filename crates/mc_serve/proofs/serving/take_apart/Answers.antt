@@ -10,8 +10,12 @@ loop-part-preserved g c =
     let was = c.loop-part.invariant in
     let step = c.in-Some.ensures.steps in
     record {
-      seats = flat_next c.loop-part.seats.items _ c.apart-own.result.0.items (λ part. part.seats.all.items) c.in-Some.part _ _ _ (search rules) (ap (λ all. all.items) c.apart-own.ensures.seats) step.0 was.seats;
-      workers = flat_next c.loop-part.workers.items _ c.apart-own.result.1.items (λ part. part.workers.items) c.in-Some.part _ _ _ (search rules) (ap (λ all. all.items) c.apart-own.ensures.workers) step.0 was.workers;
+      seats =
+          flat_next c.loop-part.seats.items _ c.apart-own.result.0.items (λ part. part.seats.all.items) c.in-Some.part _
+          _ _ (search rules) (ap (λ all. all.items) c.apart-own.ensures.seats) step.0 was.seats;
+      workers =
+          flat_next c.loop-part.workers.items _ c.apart-own.result.1.items (λ part. part.workers.items) c.in-Some.part _
+          _ _ (search rules) (ap (λ all. all.items) c.apart-own.ensures.workers) step.0 was.workers;
     }
 
 pub returns : goal.returns

@@ -6,6 +6,8 @@ use Rattle.mc_serve.proofs.serving.take_apart.Given as goal
 
 abbrev pub invariant-loop-part : goal.invariant-loop-part
 invariant-loop-part g l = record {
-  seats : l.seats.items ++ flat_map (λ part. part.seats.all.items) (into_iter_items l.part-iterator) ≡ flat_map (λ part. part.seats.all.items) l.fn.parts.items;
-  workers : l.workers.items ++ flat_map (λ part. part.workers.items) (into_iter_items l.part-iterator) ≡ flat_map (λ part. part.workers.items) l.fn.parts.items;
+  seats : l.seats.items ++ flat_map (λ part. part.seats.all.items) (into_iter_items l.part-iterator)
+      ≡ flat_map (λ part. part.seats.all.items) l.fn.parts.items;
+  workers : l.workers.items ++ flat_map (λ part. part.workers.items) (into_iter_items l.part-iterator)
+      ≡ flat_map (λ part. part.workers.items) l.fn.parts.items;
 }

@@ -1,34 +1,49 @@
--- What is told of the doors is what is told of the connections.
+-- What is told of the sources is what is told of the connections.
 use Rattle.std.proofs.Common.{ℕ, subst, sym}
 use Rattle.mc_sizes.specs.Sizes.{MayServe}
 use Rattle.mc_serve.proofs.Connections.{all_free, as_many, joined}
-use Rattle.mc_serve.proofs.StreamSent.{line_send, stream_door_send}
+use Rattle.mc_serve.proofs.StreamSent.{line_send, stream_source_send}
 use Rattle.mc_serve.proofs.Zipped.{if_ok}
 use denote.Exit.{no}
 use denote.Param.Send.{arg_send, param_send}
 use Rattle.mc_serve.proofs.streams.serve_streams.Goals as goal
 
 pub serve-requires-clause-free : goal.serve-requires-clause-free
-serve-requires-clause-free g c κs within = all_free (λ one. g.A.Arrivals.coming one) (λ door. g.A.Arrivals.coming door.arrivals) (λ door. door.out) (λ door. door.gone.items) (λ door. door.is_over) c.in_ok-doors.doors.items c.args.arrivals.items c.in_ok-doors.ensures.told
+serve-requires-clause-free g c κs within =
+    all_free (λ one. g.A.Arrivals.coming one) (λ source. g.A.Arrivals.coming source.arrivals) (λ source. source.out)
+    (λ source. source.gone.items) (λ source. source.is_over) c.in_ok-sources.sources.items c.args.arrivals.items
+    c.in_ok-sources.ensures.told
 
 pub serve-requires-clause-sizes : goal.serve-requires-clause-sizes
 serve-requires-clause-sizes g c κs within =
     let P : ℕ → Type 0 = λ n. MayServe (record c.args.sizes { seats = n }) in
-    subst P (sym (as_many (λ one. g.A.Arrivals.coming one) (λ door. g.A.Arrivals.coming door.arrivals) (λ door. door.out) (λ door. door.gone.items) (λ door. door.is_over) c.in_ok-doors.doors.items c.args.arrivals.items c.in_ok-doors.ensures.told)) c.requires
+    subst P (sym (as_many (λ one. g.A.Arrivals.coming one) (λ source. g.A.Arrivals.coming source.arrivals)
+    (λ source. source.out) (λ source. source.gone.items) (λ source. source.is_over) c.in_ok-sources.sources.items
+    c.args.arrivals.items c.in_ok-sources.ensures.told)) c.requires
 
 pub returns-clause-explained : goal.returns-clause-explained
 returns-clause-explained g c =
-    if_ok c.gather.result _ _ (λ served got. (joined (λ one. g.A.Arrivals.coming one) (λ door. g.A.Arrivals.coming door.arrivals) (λ door. door.out) (λ door. door.gone.items) (λ door. door.is_over) c.args.sizes (g.K.Clock.may_answer c.args.clock)
-    c.args.arrivals.items c.in_ok-doors.doors.items c.in_ok-back.back.items served c.in_ok-doors.ensures.told c.in_ok-back.ensures.explained got).explained) c.gather.ensures
+    if_ok c.gather.result _ _
+    (λ served got. (joined (λ one. g.A.Arrivals.coming one) (λ source. g.A.Arrivals.coming source.arrivals)
+    (λ source. source.out) (λ source. source.gone.items) (λ source. source.is_over) c.args.sizes
+    (g.K.Clock.may_answer c.args.clock)
+    c.args.arrivals.items c.in_ok-sources.sources.items c.in_ok-back.back.items served c.in_ok-sources.ensures.told
+    c.in_ok-back.ensures.explained got).explained) c.gather.ensures
 
 pub returns-clause-streams : goal.returns-clause-streams
 returns-clause-streams g c =
-    if_ok c.gather.result _ _ (λ served got. (joined (λ one. g.A.Arrivals.coming one) (λ door. g.A.Arrivals.coming door.arrivals) (λ door. door.out) (λ door. door.gone.items) (λ door. door.is_over) c.args.sizes (g.K.Clock.may_answer c.args.clock)
-    c.args.arrivals.items c.in_ok-doors.doors.items c.in_ok-back.back.items served c.in_ok-doors.ensures.told c.in_ok-back.ensures.explained got).streams) c.gather.ensures
+    if_ok c.gather.result _ _
+    (λ served got. (joined (λ one. g.A.Arrivals.coming one) (λ source. g.A.Arrivals.coming source.arrivals)
+    (λ source. source.out) (λ source. source.gone.items) (λ source. source.is_over) c.args.sizes
+    (g.K.Clock.may_answer c.args.clock)
+    c.args.arrivals.items c.in_ok-sources.sources.items c.in_ok-back.back.items served c.in_ok-sources.ensures.told
+    c.in_ok-back.ensures.explained got).streams) c.gather.ensures
 
 pub serve-requires-send-D : goal.serve-requires-send-D
 serve-requires-send-D g c κs within =
-    param_send 1 _ (arg_send _ no _ (stream_door_send _ _ _ _ _ c.type_bounds.send-R c.type_bounds.send-A c.type_bounds.send-A-Stream))
+    param_send 1 _ (arg_send _ no _
+    (stream_source_send _ _ _ _ _ c.type_bounds.send-R c.type_bounds.send-A c.type_bounds.send-A-Stream))
 
-pub serve-requires-send-D-Line : goal.serve-requires-send-D-Line
-serve-requires-send-D-Line g c κs within = param_send 4 _ (arg_send _ no _ (line_send _ _ c.type_bounds.send-A-Stream))
+pub serve-requires-send-D-Transport : goal.serve-requires-send-D-Transport
+serve-requires-send-D-Transport g c κs within =
+    param_send 4 _ (arg_send _ no _ (line_send _ _ c.type_bounds.send-A-Stream))

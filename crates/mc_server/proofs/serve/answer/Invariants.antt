@@ -9,7 +9,9 @@ use Rattle.mc_server.proofs.Answering.{unsent_count}
 use Rattle.mc_server.proofs.serve.answer.Given as goal
 
 abbrev pub invariant-loop-place : goal.invariant-loop-place
-invariant-loop-place l = (sizes : Sizes) (told : Told) (log : List Entry) → IsConn l.fn.conn told → ShardsAnswered sizes told l.fn.shards.items log → AnswersMore sizes told l.conn l.shards.items
+invariant-loop-place l =
+    (sizes : Sizes) (told : Told) (log : List Entry) → IsConn l.fn.conn told
+    → ShardsAnswered sizes told l.fn.shards.items log → AnswersMore sizes told l.conn l.shards.items
 
 abbrev pub decreases-loop-place : goal.decreases-loop-place
 decreases-loop-place l = unsent_count l.conn

@@ -1,8 +1,9 @@
--- What stands between the turns.
+-- What holds between the turns.
 use Rattle.mc_server.specs.internal.Turns.{Turns}
 use Rattle.mc_server.proofs.serve.serve_one.Given as goal
 
 abbrev pub invariant-loop : goal.invariant-loop
 invariant-loop g l =
     (goal.iterator-loop g).can_next l.iterator' × (goal.iterator-loop g).is_finite l.iterator'
-    × Turns (record l.fn.sizes { seats = 1 }) (g.K.Clock.may_answer l.fn.clock) (g.L.Outlet.sight l.fn.line) (g.L.Outlet.sight l.line) l.service l.shards.items
+    × Turns (record l.fn.sizes { seats = 1 }) (g.K.Clock.may_answer l.fn.clock) (g.L.Sink.sight l.fn.line)
+    (g.L.Sink.sight l.line) l.buffered_conn l.shards.items

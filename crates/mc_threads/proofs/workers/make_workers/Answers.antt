@@ -17,13 +17,15 @@ loop-ends-init g c =
     }
 
 pub start-requires-clause-place : goal.start-requires-clause-place
-start-requires-clause-place g c = (all_first (AreFresh c.args.sizes.shards) _ c.in-Some.ends _ c.in-Some.ensures.steps.0 c.loop-ends.invariant.left).0
+start-requires-clause-place g c =
+    (all_first (AreFresh c.args.sizes.shards) _ c.in-Some.ends _ c.in-Some.ensures.steps.0 c.loop-ends.invariant.left).0
 
 pub start-requires-clause-sizes : goal.start-requires-clause-sizes
 start-requires-clause-sizes g c = c.requires.sizes
 
 pub start-requires-clause-unused : goal.start-requires-clause-unused
-start-requires-clause-unused g c = (all_first (AreFresh c.args.sizes.shards) _ c.in-Some.ends _ c.in-Some.ensures.steps.0 c.loop-ends.invariant.left).1
+start-requires-clause-unused g c =
+    (all_first (AreFresh c.args.sizes.shards) _ c.in-Some.ends _ c.in-Some.ensures.steps.0 c.loop-ends.invariant.left).1
 
 pub loop-ends-smaller : goal.loop-ends-smaller
 loop-ends-smaller g c = omega (arith, c.in-Some.ensures.steps.1)
@@ -36,13 +38,18 @@ loop-ends-preserved g c =
     let was = c.loop-ends.invariant in
     record {
       left = all_rest (AreFresh c.args.sizes.shards) _ c.in-Some.ends _ step.0 was.left;
-      order = order_more ends_of c.loop-ends.workers.items _ c.in_ok-worker.worker c.in-Some.ends _ _ grown made.ends (rw step.0 at was.order);
-      fresh = all_more (IsFresh c.args.sizes) c.loop-ends.workers.items _ c.in_ok-worker.worker grown was.fresh (fresh_by_ends c.args.sizes c.in_ok-worker.worker c.in-Some.ends made.ends made.begins);
+      order =
+          order_more ends_of c.loop-ends.workers.items _ c.in_ok-worker.worker c.in-Some.ends _ _ grown made.ends
+          (rw step.0 at was.order);
+      fresh =
+          all_more (IsFresh c.args.sizes) c.loop-ends.workers.items _ c.in_ok-worker.worker grown was.fresh
+          (fresh_by_ends c.args.sizes c.in_ok-worker.worker c.in-Some.ends made.ends made.begins);
     }
 
 pub returns-clause-ends : goal.returns-clause-ends
 returns-clause-ends g c =
-    order_all (map ends_of c.loop-ends.workers.items) _ _ (sym c.loop-ends.ends-iterator.rest.ok.0 ∙ c.in-None.ensures.steps.0) c.loop-ends.invariant.order
+    order_all (map ends_of c.loop-ends.workers.items) _ _
+    (sym c.loop-ends.ends-iterator.rest.ok.0 ∙ c.in-None.ensures.steps.0) c.loop-ends.invariant.order
 
 pub returns-clause-fresh : goal.returns-clause-fresh
 returns-clause-fresh g c = c.loop-ends.invariant.fresh

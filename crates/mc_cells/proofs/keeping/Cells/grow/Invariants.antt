@@ -1,5 +1,5 @@
 use Rattle.std.proofs.Common.{◌≡◌, ◌+◌, ◌≤◌, List, vec_len}
-use Rattle.mc_cells.specs.declared.TheConstants.{GREATEST_CELLS}
+use Rattle.mc_cells.specs.declared.TheConstants.{MAX_CELLS}
 use Rattle.mc_cells.specs.Kept.{Handle, Keeps, KeepsOn, room_of}
 use Rattle.mc_cells.proofs.keeping.Cells.grow.Given as goal
 
@@ -10,5 +10,5 @@ invariant-loop l = record {
   size : vec_len l.self.all ≡ vec_len l.fn.self.all + l.counter;
   room : vec_len l.fn.self.all + l.lack ≤ room_of l.self;
   more : room_of l.fn.self ≤ room_of l.self;
-  fewer : vec_len l.fn.self.all + l.lack ≤ GREATEST_CELLS;
+  fewer : vec_len l.fn.self.all + l.lack ≤ MAX_CELLS;
 }

@@ -9,7 +9,7 @@ use Rattle.mc_cells.proofs.Chains.{Lies-last}
 use Rattle.mc_cells.proofs.Kept.{Lies-kept, KeepsOn-released}
 use Rattle.mc_cells.proofs.keeping.Cells.release.Goals as goal
 
--- a cell with other links and the same bytes is put at a place
+-- a cell with other links and equal bytes is put at an index
 module _ (cells : List Cell) (at link : ℕ) (bytes : List ℕ) (there : at < length cells)
     (same : bytes ≡ bytes_of cells at) where
   put_bytes : (place : ℕ) → bytes_of (set cells at (record { next = link; bytes = bytes })) place ≡ bytes_of cells place

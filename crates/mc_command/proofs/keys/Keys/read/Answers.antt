@@ -11,13 +11,16 @@ returns-in_err-first c =
 
 pub returns-then-not-are_keys : goal.returns-then-not-are_keys
 returns-then-not-are_keys c other =
-    of_others c.args.first.now c.in_ok-first.first (words_left c.args.others) false c.in_ok-first.ensures (sym c.are_keys.ensures ∙ c.if-not-are_keys.true)
+    of_others c.args.first.now c.in_ok-first.first (words_left c.args.others) false
+    c.in_ok-first.ensures (sym c.are_keys.ensures ∙ c.if-not-are_keys.true)
 
 pub returns : goal.returns
 returns c =
-    let all = of_others c.args.first.now c.in_ok-first.first (words_left c.args.others) true c.in_ok-first.ensures (sym c.are_keys.ensures ∙ c.if-not-are_keys.false) in
+    let all = of_others c.args.first.now c.in_ok-first.first (words_left c.args.others) true
+    c.in_ok-first.ensures (sym c.are_keys.ensures ∙ c.if-not-are_keys.false) in
     rw (c.in_ok-others.ensures.items, c.text-text.ensures) all
 
 pub invariant_of-result : goal.invariant_of-result
 invariant_of-result c =
-    rw (c.in_ok-others.ensures.items, c.text-text.ensures) (each_key (words_left c.args.others) (sym c.are_keys.ensures ∙ c.if-not-are_keys.false))
+    rw (c.in_ok-others.ensures.items, c.text-text.ensures)
+    (each_key (words_left c.args.others) (sym c.are_keys.ensures ∙ c.if-not-are_keys.false))

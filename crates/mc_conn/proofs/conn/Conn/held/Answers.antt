@@ -4,7 +4,8 @@ use Rattle.mc_conn.proofs.conn.Conn.held.Goals as goal
 
 pub returns-clause-skipping : goal.returns-clause-skipping
 unfolding IsConn
-returns-clause-skipping c told h skips = c.held.ensures.skipped told.rules told.fed told.ended h.given h.read (amid_skipped c.args.self.now told h skips)
+returns-clause-skipping c told h skips =
+    c.held.ensures.skipped told.rules told.fed told.ended h.given h.read (amid_skipped c.args.self.now told h skips)
 
 pub returns-clause-unread : goal.returns-clause-unread
 unfolding IsConn

@@ -9,4 +9,5 @@ loop-buf-preserved c =
     let all = c.args.self.now ++ take c.args.count (io_slices_bytes c.args.bufs.now) in
     let bytes = c.as_slice-bytes.result.now in
     let front_is = c.split_at.ensures.front ∙ ap (λ n. take n bytes) c.min.ensures in
-    rw c.add.ensures (adds_next c.args.bufs.now c.loop-buf.buf-index c.loop-buf.left c.loop-buf.self all bytes c.split_at.result.0.now _ c.loop-buf-test.true c.as_slice-bytes.ensures front_is c.loop-buf.invariant)
+    rw c.add.ensures (adds_next c.args.bufs.now c.loop-buf.buf-index c.loop-buf.left c.loop-buf.self all bytes
+    c.split_at.result.0.now _ c.loop-buf-test.true c.as_slice-bytes.ensures front_is c.loop-buf.invariant)

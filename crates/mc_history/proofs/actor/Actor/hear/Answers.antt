@@ -24,5 +24,6 @@ load-requires c =
       c.join_seat.ensures.0 ∙ (ap (λ a. a.name.table) c.self.view_is ∙ (ap (λ n. n.table) c.requires.same ∙ here)),
       c.history.invariant,
       looks_allows table.key table.table_id.slots own.id 0 own.me.0 own.me.1
-          (ap (λ m. m.0.sizes) c.join_seat.ensures.2 ∙ (ap (λ a. a.name.sizes) c.self.view_is ∙ (ap (λ n. n.sizes) c.requires.same ∙ size))),
+          (ap (λ m. m.0.sizes) c.join_seat.ensures.2
+          ∙ (ap (λ a. a.name.sizes) c.self.view_is ∙ (ap (λ n. n.sizes) c.requires.same ∙ size))),
     )

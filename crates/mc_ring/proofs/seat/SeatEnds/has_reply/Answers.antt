@@ -3,4 +3,7 @@ use Rattle.mc_ring.proofs.SameEnds.{same_ends}
 use Rattle.mc_ring.proofs.seat.SeatEnds.has_reply.Goals as goal
 
 pub returns-clause-same : goal.returns-clause-same
-returns-clause-same c = rw (← c.self.view_is) (same_ends c.self.inside.number c.self.inside.lanes.items c.args.shard c.index_mut.result.now c.has_reply.new.self (search rules) c.index_mut.ensures.value (ap (λ past. past.lane) c.has_reply.ensures.looked.past))
+returns-clause-same g c =
+    rw (← c.self.view_is) (same_ends c.self.inside.number c.self.inside.channels.items c.args.shard
+    c.index_mut.result.now c.has_reply.new.self (search rules) c.index_mut.ensures.value
+    (ap (λ past. past.channel) c.has_reply.ensures.looked.past))

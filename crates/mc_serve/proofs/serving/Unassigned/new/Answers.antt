@@ -1,9 +1,9 @@
--- The seats and the workers stand over new lanes.
+-- The seats and the workers stand over new channels.
 use Rattle.std.proofs.Common.{◌≡◌, List, length, map, ap, sym, subst, ◌∙◌}
 use Rattle.mc_model.proofs.Lists.{all_from}
 use Rattle.mc_ring.specs.Ends.{Ends}
-use Rattle.mc_ring.specs.Lane.{Far, Near}
-use Rattle.mc_ring.specs.Made.{AreLanes}
+use Rattle.mc_ring.specs.Channel.{Far, Near}
+use Rattle.mc_ring.specs.Made.{AreChannels}
 use Rattle.mc_threads.specs.Workers.{ends_of}
 use Rattle.mc_threads.proofs.Fresh.{all_fresh}
 use Rattle.mc_threads.specs.Session.{seat_ends}
@@ -20,26 +20,29 @@ make_workers-requires-clause-fresh g c = all_fresh _ _ _ c.in-Ok.near.items c.in
 
 pub sit_down-requires-clause-width : goal.sit_down-requires-clause-width
 sit_down-requires-clause-width g c =
-    let lanes = c.in-Ok.ensures.made in
-    all_from (λ seat. length seat.lanes ≡ c.args.sizes.shards) c.in-Ok.near.items (λ i seat here. (lanes.each_seat i seat here).counted)
+    let channels = c.in-Ok.ensures.made in
+    all_from (λ seat. length seat.channels ≡ c.args.sizes.shards) c.in-Ok.near.items
+    (λ i seat here. (channels.each_seat i seat here).counted)
 
 pub returns : goal.returns
 returns g c =
-    let lanes = c.in-Ok.ensures.made in
+    let channels = c.in-Ok.ensures.made in
     let made = c.in_ok-workers.ensures in
     let set = c.in_ok-workers-2.ensures in
     let sat = c.in_ok-seats.ensures in
     let seats = c.in_ok-seats.seats.items in
     let workers = c.in_ok-workers-2.workers.items in
-    let A : List (Ends Near) → List (Ends Far) → Type 0 = λ near far. AreLanes c.args.sizes.seats c.args.sizes.shards c.args.sizes.ring near far in
+    let A : List (Ends Near) → List (Ends Far) → Type 0 =
+    λ near far. AreChannels c.args.sizes.seats c.args.sizes.shards c.args.sizes.ring near far in
     let far : map ends_of (map (λ one. one.worker) workers) ≡ c.in-Ok.far.items = ap (map ends_of) set ∙ made.ends in
     let all : A (map (λ one. seat_ends one.session) seats) (map ends_of (map (λ one. one.worker) workers)) =
-    subst (λ near. A near (map ends_of (map (λ one. one.worker) workers))) (sym sat.ends) (subst (λ far. A c.in-Ok.near.items far) (sym far) lanes) in
+    subst (λ near. A near (map ends_of (map (λ one. one.worker) workers))) (sym sat.ends)
+    (subst (λ far. A c.in-Ok.near.items far) (sym far) channels) in
     let left = c.into_iter.ensures.rest in
     let left' = c.into_iter-2.ensures.rest in
     record {
-      lanes = rw (left, left') all;
+      channels = rw (left, left') all;
       fresh = rw (left', set) made.fresh;
-      doors = rw left sat.doors;
+      sources = rw left sat.sources;
       begin = rw left sat.begin;
     }

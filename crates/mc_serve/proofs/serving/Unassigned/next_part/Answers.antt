@@ -9,15 +9,21 @@ use Rattle.mc_serve.proofs.serving.Unassigned.next_part.Goals as goal
 
 pub new-requires : goal.new-requires
 new-requires g c =
-    (all_parted c.in_ok-seats.seats.items (into_iter_items c.take_some.new.left) _ (λ one. HasSatDown c.args.sizes.shards (rules_of c.args.sizes) (g.D.Door.told one.door) one.session one.phase) c.in_ok-seats.ensures c.requires.begin).0
+    (all_parted c.in_ok-seats.seats.items (into_iter_items c.take_some.new.left) _
+    (λ one. HasSatDown c.args.sizes.shards (rules_of c.args.sizes) (g.D.ConnectionSource.told one.source) one.session
+    one.slot_state) c.in_ok-seats.ensures c.requires.begin).0
 
 pub returns : goal.returns
 returns g c =
     let made = c.new.ensures in
     record {
       ready = made.ready;
-      seats = if_ok c.new.result (λ part. part.seats.all ≡ c.in_ok-seats.seats) _ (λ part same. rw same c.in_ok-seats.ensures) made.seats;
-      workers = if_ok c.new.result (λ part. part.workers ≡ c.in_ok-workers.workers) _ (λ part same. rw same c.in_ok-workers.ensures) made.workers;
+      seats =
+          if_ok c.new.result (λ part. part.seats.all ≡ c.in_ok-seats.seats) _
+          (λ part same. rw same c.in_ok-seats.ensures) made.seats;
+      workers =
+          if_ok c.new.result (λ part. part.workers ≡ c.in_ok-workers.workers) _
+          (λ part same. rw same c.in_ok-workers.ensures) made.workers;
       sizes = made.sizes;
       clock = made.clock;
     }

@@ -5,13 +5,18 @@ use Rattle.mc_sim.proofs.sim.Sim.cut.Goals as goal
 
 pub returns-then-index : goal.returns-then-index
 returns-then-index c =
-    broken_before _ _ c.args.seat c.in-Some.number _ c.index.result.now (finds_some c.args.self.now c.args.seat c.in-Some.number c.in-Some.ensures.current)
-    (get_index _ _ _ c.in-Some.ensures.kept c.index.ensures) c.if-index.true (record { seats = refl; connections = refl; log = refl; rings = refl })
+    broken_before _ _ c.args.seat c.in-Some.number _ c.index.result.now
+    (finds_some c.args.self.now c.args.seat c.in-Some.number c.in-Some.ensures.current)
+    (get_index _ _ _ c.in-Some.ensures.kept c.index.ensures) c.if-index.true
+    (record { seats = refl; connections = refl; log = refl; rings = refl })
 
 pub returns : goal.returns
 returns c =
-    breaks _ _ c.args.seat c.in-Some.number c.index_mut-2.result.now (record { conn = c.broken.new.self; current = c.index_mut-2.result.now.current }) c.index_mut.result.now
-    (finds_at c.args.self.now c.args.seat c.in-Some.number _ c.in-Some.ensures.seat c.index_mut-2.ensures.value c.in-Some.ensures.current)
+    breaks _ _ c.args.seat c.in-Some.number c.index_mut-2.result.now
+    (record { conn = c.broken.new.self; current = c.index_mut-2.result.now.current }) c.index_mut.result.now
+    (finds_at c.args.self.now c.args.seat c.in-Some.number _ c.in-Some.ensures.seat c.index_mut-2.ensures.value
+    c.in-Some.ensures.current)
     (get_index _ _ _ c.in-Some.ensures.kept c.index_mut.ensures.value)
-    (ap (λ (kept : Connection). kept.broken) (same_index _ _ _ _ c.in-Some.ensures.kept c.index_mut.ensures.value c.index.ensures) ∙ c.if-index.false)
+    (ap (λ (kept : Connection). kept.broken)
+    (same_index _ _ _ _ c.in-Some.ensures.kept c.index_mut.ensures.value c.index.ensures) ∙ c.if-index.false)
     c.broken.ensures refl (record { seats = refl; log = refl; rings = refl }) refl

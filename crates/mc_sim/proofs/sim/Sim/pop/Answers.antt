@@ -10,7 +10,8 @@ returns-then-not-waits c =
 
 pub returns-then-is_err : goal.returns-then-is_err
 returns-then-is_err c =
-    pops_unkept _ _ c.args.seat c.in-Some.connection c.args.shard c.in-Some.ensures.current (λ sizes wires wired. c.if-not-waits.ensures sizes wires wired) refl refl c.reserve.ensures.items
+    pops_unkept _ _ c.args.seat c.in-Some.connection c.args.shard c.in-Some.ensures.current
+    (λ sizes wires wired. c.if-not-waits.ensures sizes wires wired) refl refl c.reserve.ensures.items
 
 pub returns-in_default-pop : goal.returns-in_default-pop
 returns-in_default-pop c =
@@ -24,4 +25,11 @@ returns c =
     pops _ _ c.args.seat c.in-Some.connection c.args.shard c.in-Some-pop.ran c.in-Some.ensures.current
     (λ sizes wires wired. c.in-Some-pop.ensures.ran sizes wires (c.waits.ensures sizes wires wired).now) refl refl
     (c.push_reserved.ensures.items
-    ∙ ap (λ (xs : List LogEntry). xs ++ record { shard = c.args.shard; connection = c.in-Some.connection; ticket = c.in-Some-pop.ran.ticket; part = c.in-Some-pop.ran.part; moment = c.in-Some-pop.ran.moment } ∷ []) c.reserve.ensures.items)
+    ∙ ap (λ (xs : List LogEntry). xs
+    ++ record {
+      shard = c.args.shard;
+      connection = c.in-Some.connection;
+      ticket = c.in-Some-pop.ran.ticket;
+      part = c.in-Some-pop.ran.part;
+      moment = c.in-Some-pop.ran.moment;
+    } ∷ []) c.reserve.ensures.items)

@@ -15,7 +15,9 @@ loop-at-preserved c =
     record {
       whole = omega (arith, c.loop-at.invariant.whole);
       within = omega (arith, c.loop-at-test.true);
-      so_far = rw (more, c.folded-value-in-loop-at.ensures.value, c.read_u64.ensures, ← c.loop-at.invariant.so_far, ← whole) refl;
+      so_far =
+          rw (more, c.folded-value-in-loop-at.ensures.value, c.read_u64.ensures, ← c.loop-at.invariant.so_far, ← whole)
+          refl;
       room = c.folded-value-in-loop-at.ensures.room;
     }
 
@@ -24,6 +26,14 @@ unfolding write
 returns c =
     let n : ℕ = length c.args.bytes.now in
     let at : ℕ = c.loop-at.at in
-    let count : (n - 1) / 7 ≡ at / 7 = omega (arith, c.loop-at.invariant.whole, c.loop-at.invariant.within, c.loop-at-test.false) in
+    let count : (n - 1) / 7 ≡ at / 7 =
+    omega (arith, c.loop-at.invariant.whole, c.loop-at.invariant.within, c.loop-at-test.false) in
     let whole : 7 * (at / 7) ≡ at = omega (arith, c.loop-at.invariant.whole) in
-    rw (count, whole, c.loop-at.invariant.so_far, c.last_coefficient.ensures.value, c.split_at.ensures.back, c.folded-value.ensures.value)
+    rw (
+      count,
+      whole,
+      c.loop-at.invariant.so_far,
+      c.last_coefficient.ensures.value,
+      c.split_at.ensures.back,
+      c.folded-value.ensures.value,
+    )

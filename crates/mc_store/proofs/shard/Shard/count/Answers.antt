@@ -38,7 +38,8 @@ returns-in_default-number-clause-does c = λ reply state h.
 
 pub returns-in_default-of_number-clause-does : goal.returns-in_default-of_number-clause-does
 unfolding IsShard
-returns-in_default-of_number-clause-does c = λ reply state h. lacks_as (held_of c.args.self.now) state c.args.asked.key c.in-Some.item.now _ h c.in-Some.ensures
+returns-in_default-of_number-clause-does c =
+    λ reply state h. lacks_as (held_of c.args.self.now) state c.args.asked.key c.in-Some.item.now _ h c.in-Some.ensures
 
 pub returns-clause-does : goal.returns-clause-does
 unfolding IsShard
@@ -46,10 +47,12 @@ returns-clause-does c = λ reply state h.
     let item = c.in-Some.item.now in
     let number = c.counted-number.result in
     let new_item : Item = record item { value = c.in-Ok.value; expiry = c.expiry_from.result } in
-    let made : new_item ≡ counted_item item number c.args.asked.exptime c.args.self.now.time item.unique = rw (c.in-Ok.ensures.text, c.expiry_from.ensures) in
+    let made : new_item ≡ counted_item item number c.args.asked.exptime c.args.self.now.time item.unique =
+    rw (c.in-Ok.ensures.text, c.expiry_from.ensures) in
     counted_by (held_of c.args.self.now) state item c.args.asked reply c.in-Some-number.number number new_item
     (answered reply c.write_done.result) (held_of c.write_done.new.self) h c.in-Some.ensures
-    (sym c.if-is_other.ensures) c.in-Some-number.ensures c.counted-number.ensures made (c.write_done.ensures.does reply state h)
+    (sym c.if-is_other.ensures) c.in-Some-number.ensures c.counted-number.ensures made
+    (c.write_done.ensures.does reply state h)
 
 pub returns-in_default-clause-refused : goal.returns-in_default-clause-refused
 returns-in_default-clause-refused c = λ _. c.count_absent.ensures.refused
@@ -58,7 +61,8 @@ pub returns-in_default-clause-meta_refused : goal.returns-in_default-clause-meta
 returns-in_default-clause-meta_refused c = c.count_absent.ensures.meta_refused
 
 pub returns-then-is_other-clause-refused : goal.returns-then-is_other-clause-refused
-returns-then-is_other-clause-refused c = λ none. absurd (none_other c.args.asked.compare c.in-Some.item.now.unique c.if-is_other.ensures none)
+returns-then-is_other-clause-refused c =
+    λ none. absurd (none_other c.args.asked.compare c.in-Some.item.now.unique c.if-is_other.ensures none)
 
 pub returns-then-is_other-clause-meta_refused : goal.returns-then-is_other-clause-meta_refused
 unfolding is_lawful

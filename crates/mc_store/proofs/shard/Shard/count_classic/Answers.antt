@@ -8,8 +8,12 @@ use Rattle.mc_store.proofs.shard.Shard.count_classic.Goals as goal
 
 pub returns-in-Ok-clause-acts : goal.returns-in-Ok-clause-acts
 unfolding IsShard key_of
-returns-in-Ok-clause-acts c = λ state h. classic_count (without_dead state (Some c.args.key)) c.args.key c.args.direction c.args.amount (Number c.in-Ok.done.number) (held_of c.count.new.self) (c.in-Ok.ensures.does (λ done. Number done.number) state h)
+returns-in-Ok-clause-acts c =
+    λ state h. classic_count (without_dead state (Some c.args.key)) c.args.key c.args.direction c.args.amount
+    (Number c.in-Ok.done.number) (held_of c.count.new.self) (c.in-Ok.ensures.does (λ done. Number done.number) state h)
 
 pub returns-in-Err-clause-acts : goal.returns-in-Err-clause-acts
 unfolding IsShard key_of
-returns-in-Err-clause-acts c = λ state h. classic_count (without_dead state (Some c.args.key)) c.args.key c.args.direction c.args.amount c.in-Err.answer (held_of c.count.new.self) (c.in-Err.ensures.does (λ done. Number done.number) state h)
+returns-in-Err-clause-acts c =
+    λ state h. classic_count (without_dead state (Some c.args.key)) c.args.key c.args.direction c.args.amount
+    c.in-Err.answer (held_of c.count.new.self) (c.in-Err.ensures.does (λ done. Number done.number) state h)

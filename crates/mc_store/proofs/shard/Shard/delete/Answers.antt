@@ -9,14 +9,20 @@ use Rattle.mc_store.proofs.Changes.{none_of}
 pub returns-in_default-clause-acts : goal.returns-in_default-clause-acts
 unfolding IsShard key_of
 returns-in_default-clause-acts c = λ state h.
-    rw c.remove.ensures.left (delete_miss (held_of c.args.self.now) state c.args.key.now h (none_of c.args.self.now.time _ c.in_default.ensures.item))
+    rw c.remove.ensures.left
+    (delete_miss (held_of c.args.self.now) state c.args.key.now h
+    (none_of c.args.self.now.time _ c.in_default.ensures.item))
 
 pub returns-then-is_dead-clause-acts : goal.returns-then-is_dead-clause-acts
 unfolding IsShard key_of
 returns-then-is_dead-clause-acts c = λ state h.
-    rw c.remove.ensures.left (delete_miss (held_of c.args.self.now) state c.args.key.now h (dead_of c.args.self.now.time _ c.in-Some.item c.in-Some.ensures.item (sym c.if-is_dead.ensures)))
+    rw c.remove.ensures.left
+    (delete_miss (held_of c.args.self.now) state c.args.key.now h
+    (dead_of c.args.self.now.time _ c.in-Some.item c.in-Some.ensures.item (sym c.if-is_dead.ensures)))
 
 pub returns-clause-acts : goal.returns-clause-acts
 unfolding IsShard key_of
 returns-clause-acts c = λ state h.
-    rw c.remove.ensures.left (delete_hit (held_of c.args.self.now) state c.args.key.now c.in-Some.item h (live_of c.args.self.now.time _ c.in-Some.item c.in-Some.ensures.item (sym c.if-is_dead.ensures)))
+    rw c.remove.ensures.left
+    (delete_hit (held_of c.args.self.now) state c.args.key.now c.in-Some.item h
+    (live_of c.args.self.now.time _ c.in-Some.item c.in-Some.ensures.item (sym c.if-is_dead.ensures)))

@@ -16,11 +16,16 @@ returns-in_default-clause-acts c = λ state h.
 pub returns-in-None-clause-acts : goal.returns-in-None-clause-acts
 unfolding IsShard key_of
 returns-in-None-clause-acts c = λ state h.
-    let none : None ≡ live c.args.self.now.time (lookup (same_key c.args.key.now) c.args.self.now.items.entries) = sym c.in-None.is ∙ rw c.access-access.ensures at c.in-Ok.ensures.item in
-    rw (c.in-Ok.ensures.read, c.access-access.ensures, ← none) (fetch_miss (held_of c.args.self.now) state c.args.key.now c.args.touch h none)
+    let none : None ≡ live c.args.self.now.time (lookup (same_key c.args.key.now) c.args.self.now.items.entries) =
+    sym c.in-None.is ∙ rw c.access-access.ensures at c.in-Ok.ensures.item in
+    rw (c.in-Ok.ensures.read, c.access-access.ensures, ← none)
+    (fetch_miss (held_of c.args.self.now) state c.args.key.now c.args.touch h none)
 
 pub returns-in-Some-clause-acts : goal.returns-in-Some-clause-acts
 unfolding IsShard key_of
 returns-in-Some-clause-acts c = λ state h.
-    let there : Some c.in-Some.item ≡ live c.args.self.now.time (lookup (same_key c.args.key.now) c.args.self.now.items.entries) = sym c.in-Some.is ∙ rw c.access-access.ensures at c.in-Ok.ensures.item in
-    rw (c.fetched.ensures, c.in-Ok.ensures.read, c.access-access.ensures, ← there) (fetch_hit (held_of c.args.self.now) state c.args.key.now c.args.touch c.in-Some.item h there)
+    let there : Some c.in-Some.item
+    ≡ live c.args.self.now.time (lookup (same_key c.args.key.now) c.args.self.now.items.entries) =
+    sym c.in-Some.is ∙ rw c.access-access.ensures at c.in-Ok.ensures.item in
+    rw (c.fetched.ensures, c.in-Ok.ensures.read, c.access-access.ensures, ← there)
+    (fetch_hit (held_of c.args.self.now) state c.args.key.now c.args.touch c.in-Some.item h there)

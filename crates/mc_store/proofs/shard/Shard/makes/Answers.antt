@@ -7,4 +7,5 @@ returns-in-MetaGet c = λ state h. rw (c.in-MetaGet.is, ← c.is_some.ensures) (
 
 pub returns-in-MetaCount : goal.returns-in-MetaCount
 unfolding key_of
-returns-in-MetaCount c = λ state h. rw (c.in-MetaCount.is, ← c.is_some-in-MetaCount.ensures) (c.fills-in-MetaCount.ensures state h)
+returns-in-MetaCount c =
+    λ state h. rw (c.in-MetaCount.is, ← c.is_some-in-MetaCount.ensures) (c.fills-in-MetaCount.ensures state h)

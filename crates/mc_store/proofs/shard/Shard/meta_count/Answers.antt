@@ -8,8 +8,12 @@ use Rattle.mc_store.proofs.shard.Shard.meta_count.Goals as goal
 
 pub returns-in-Ok-clause-acts : goal.returns-in-Ok-clause-acts
 unfolding IsShard key_of
-returns-in-Ok-clause-acts c = λ state h. meta_count (without_dead state (Some c.args.asked.key)) c.args.asked (MetaDone c.in-Ok.done) (held_of c.count.new.self) (c.in-Ok.ensures.does (λ done. MetaDone done) state h)
+returns-in-Ok-clause-acts c =
+    λ state h. meta_count (without_dead state (Some c.args.asked.key)) c.args.asked (MetaDone c.in-Ok.done)
+    (held_of c.count.new.self) (c.in-Ok.ensures.does (λ done. MetaDone done) state h)
 
 pub returns-in-Err-clause-acts : goal.returns-in-Err-clause-acts
 unfolding IsShard key_of
-returns-in-Err-clause-acts c = λ state h. meta_count (without_dead state (Some c.args.asked.key)) c.args.asked c.in-Err.answer (held_of c.count.new.self) (c.in-Err.ensures.does (λ done. MetaDone done) state h)
+returns-in-Err-clause-acts c =
+    λ state h. meta_count (without_dead state (Some c.args.asked.key)) c.args.asked c.in-Err.answer
+    (held_of c.count.new.self) (c.in-Err.ensures.does (λ done. MetaDone done) state h)

@@ -13,19 +13,23 @@ returns-in_default-clause-acts c = λ state h.
 pub returns-then-is_other-clause-acts : goal.returns-then-is_other-clause-acts
 unfolding IsShard key_of
 returns-then-is_other-clause-acts c = λ state h.
-    meta_delete_exists (held_of c.args.self.now) state c.args.asked.now c.in-Some.item.now h c.in-Some.ensures (sym c.if-is_other.ensures)
+    meta_delete_exists (held_of c.args.self.now) state c.args.asked.now c.in-Some.item.now h
+    c.in-Some.ensures (sym c.if-is_other.ensures)
 
 pub returns-then-not-asked-clause-acts : goal.returns-then-not-asked-clause-acts
 unfolding IsShard key_of
 returns-then-not-asked-clause-acts c = λ state h.
     let no_mark : c.args.asked.now.invalidate ≡ false = c.if-not-asked.true in
-    rw c.remove-then-not-asked.ensures.left (meta_delete_hit (held_of c.args.self.now) state c.args.asked.now c.in-Some.item.now h c.in-Some.ensures (sym c.if-is_other.ensures) no_mark)
+    rw c.remove-then-not-asked.ensures.left
+    (meta_delete_hit (held_of c.args.self.now) state c.args.asked.now c.in-Some.item.now h
+    c.in-Some.ensures (sym c.if-is_other.ensures) no_mark)
 
 pub returns-in_default-unique_for-clause-acts : goal.returns-in_default-unique_for-clause-acts
 unfolding IsShard key_of
 returns-in_default-unique_for-clause-acts c = λ state h.
     let mark : c.args.asked.now.invalidate ≡ true = c.if-not-asked.false in
-    stale_refused (held_of c.args.self.now) state c.args.asked.now c.in-Some.item.now h c.in-Some.ensures (sym c.if-is_other.ensures) mark c.in_default-unique_for.ensures.unique
+    stale_refused (held_of c.args.self.now) state c.args.asked.now c.in-Some.item.now h
+    c.in-Some.ensures (sym c.if-is_other.ensures) mark c.in_default-unique_for.ensures.unique
 
 pub returns-clause-acts : goal.returns-clause-acts
 unfolding IsShard key_of
@@ -33,4 +37,5 @@ returns-clause-acts c = λ state h.
     let mark : c.args.asked.now.invalidate ≡ true = c.if-not-asked.false in
     let there = (live_item c.args.self.now.time _ c.in-Some.item.now c.in-Some.ensures).0 in
     rw (c.count_given.ensures.held, c.mark_stale.ensures c.in-Some.item.now there, c.expiry_from-expiry.ensures)
-    (stale_done (held_of c.args.self.now) state c.args.asked.now c.in-Some.item.now c.in-Some-unique_for.unique h c.in-Some.ensures (sym c.if-is_other.ensures) mark c.in-Some-unique_for.ensures.unique)
+    (stale_done (held_of c.args.self.now) state c.args.asked.now c.in-Some.item.now c.in-Some-unique_for.unique h
+    c.in-Some.ensures (sym c.if-is_other.ensures) mark c.in-Some-unique_for.ensures.unique)

@@ -18,13 +18,20 @@ returns-in_default-clause-acts c = λ state h.
 pub returns-in-None-clause-acts : goal.returns-in-None-clause-acts
 unfolding IsShard key_of
 returns-in-None-clause-acts c = λ state h.
-    let none : None ≡ live c.args.self.now.time (lookup (same_key c.args.asked.key) c.args.self.now.items.entries) = sym c.in-None.is ∙ rw c.access-access.ensures at c.in-Ok.ensures.item in
+    let none : None ≡ live c.args.self.now.time (lookup (same_key c.args.asked.key) c.args.self.now.items.entries) =
+    sym c.in-None.is ∙ rw c.access-access.ensures at c.in-Ok.ensures.item in
     let settled = without_dead state (Some c.args.asked.key) in
-    meta_get_absent (held_of c.args.self.now) state c.args.asked c.meta_get_absent.result (held_of c.meta_get_absent.new.self) h none
-    (c.meta_get_absent.ensures.does settled (rw (c.in-Ok.ensures.read, c.access-access.ensures, ← none) (settled_gone (held_of c.args.self.now) state c.args.asked.key h none)))
+    meta_get_absent (held_of c.args.self.now) state c.args.asked c.meta_get_absent.result
+    (held_of c.meta_get_absent.new.self) h none
+    (c.meta_get_absent.ensures.does settled
+    (rw (c.in-Ok.ensures.read, c.access-access.ensures, ← none)
+    (settled_gone (held_of c.args.self.now) state c.args.asked.key h none)))
 
 pub returns-in-Some-clause-acts : goal.returns-in-Some-clause-acts
 unfolding IsShard key_of
 returns-in-Some-clause-acts c = λ state h.
-    let there : Some c.in-Some.item ≡ live c.args.self.now.time (lookup (same_key c.args.asked.key) c.args.self.now.items.entries) = sym c.in-Some.is ∙ rw c.access-access.ensures at c.in-Ok.ensures.item in
-    rw (c.shown.ensures, c.in-Ok.ensures.read, c.access-access.ensures, ← there) (meta_get_hit (held_of c.args.self.now) state c.args.asked c.in-Some.item c.if-asked.false h there)
+    let there : Some c.in-Some.item
+    ≡ live c.args.self.now.time (lookup (same_key c.args.asked.key) c.args.self.now.items.entries) =
+    sym c.in-Some.is ∙ rw c.access-access.ensures at c.in-Ok.ensures.item in
+    rw (c.shown.ensures, c.in-Ok.ensures.read, c.access-access.ensures, ← there)
+    (meta_get_hit (held_of c.args.self.now) state c.args.asked c.in-Some.item c.if-asked.false h there)

@@ -24,14 +24,19 @@ returns-in-Ok-clause-does c = λ state h.
     let time = c.args.self.now.time in
     let item = c.empty_item-item.result in
     let said : ℕ → Answer = λ unique. MetaHit (made_hit (record item { unique = unique }) time) in
-    let expiry : c.from_exptime.result ≡ expiry_of c.in-Some.exptime time = rw (to_z-of_z w64 c.in-Some.exptime (search rules)) at c.from_exptime.ensures in
+    let expiry : c.from_exptime.result ≡ expiry_of c.in-Some.exptime time =
+    rw (to_z-of_z w64 c.in-Some.exptime (search rules)) at c.from_exptime.ensures in
     let is : item ≡ empty_item (expiry_of c.in-Some.exptime time) 0 = rw (← expiry) c.empty_item-item.ensures in
     let hit : made_hit (record item { unique = c.in-Ok.unique }) time ≡ c.made_hit.result =
-    made_hit_is item c.from_exptime.result c.in-Ok.unique time c.seconds_left-left.result c.empty_item-item.ensures c.seconds_left-left.ensures ∙
+    made_hit_is item c.from_exptime.result c.in-Ok.unique time c.seconds_left-left.result
+    c.empty_item-item.ensures c.seconds_left-left.ensures ∙
     sym c.made_hit.ensures in
-    as_answer settled (absent_meta_get settled c.args.key c.args.vivify) (said c.in-Ok.unique) (MetaHit c.made_hit.result) (held_of c.write.new.self) (ap (λ m. MetaHit m) hit)
-    (vivified_as settled c.args.key c.args.vivify c.in-Some.exptime (said c.in-Ok.unique) (held_of c.write.new.self) c.in-Some.is
-    (vivified_item_as (held_of c.args.self.now) state c.args.key c.in-Some.exptime item (said c.in-Ok.unique) (held_of c.write.new.self) h is (c.in-Ok.ensures.does said state h)))
+    as_answer settled (absent_meta_get settled c.args.key c.args.vivify) (said c.in-Ok.unique)
+    (MetaHit c.made_hit.result) (held_of c.write.new.self) (ap (λ m. MetaHit m) hit)
+    (vivified_as settled c.args.key c.args.vivify c.in-Some.exptime (said c.in-Ok.unique) (held_of c.write.new.self)
+    c.in-Some.is
+    (vivified_item_as (held_of c.args.self.now) state c.args.key c.in-Some.exptime item (said c.in-Ok.unique)
+    (held_of c.write.new.self) h is (c.in-Ok.ensures.does said state h)))
 
 pub returns-in-Err-clause-does : goal.returns-in-Err-clause-does
 unfolding IsShard
@@ -40,7 +45,10 @@ returns-in-Err-clause-does c = λ state h.
     let time = c.args.self.now.time in
     let item = c.empty_item-item.result in
     let said : ℕ → Answer = λ unique. MetaHit (made_hit (record item { unique = unique }) time) in
-    let expiry : c.from_exptime.result ≡ expiry_of c.in-Some.exptime time = rw (to_z-of_z w64 c.in-Some.exptime (search rules)) at c.from_exptime.ensures in
+    let expiry : c.from_exptime.result ≡ expiry_of c.in-Some.exptime time =
+    rw (to_z-of_z w64 c.in-Some.exptime (search rules)) at c.from_exptime.ensures in
     let is : item ≡ empty_item (expiry_of c.in-Some.exptime time) 0 = rw (← expiry) c.empty_item-item.ensures in
-    vivified_as settled c.args.key c.args.vivify c.in-Some.exptime c.in-Err.answer (held_of c.write.new.self) c.in-Some.is
-    (vivified_item_as (held_of c.args.self.now) state c.args.key c.in-Some.exptime item c.in-Err.answer (held_of c.write.new.self) h is (c.in-Err.ensures.does said state h))
+    vivified_as settled c.args.key c.args.vivify c.in-Some.exptime c.in-Err.answer (held_of c.write.new.self)
+    c.in-Some.is
+    (vivified_item_as (held_of c.args.self.now) state c.args.key c.in-Some.exptime item c.in-Err.answer
+    (held_of c.write.new.self) h is (c.in-Err.ensures.does said state h))

@@ -9,7 +9,8 @@ use Rattle.mc_store.proofs.shard.Shard.meta_store.Goals as goal
 pub returns-in-Ok-clause-acts : goal.returns-in-Ok-clause-acts
 unfolding IsShard key_of
 returns-in-Ok-clause-acts c = λ state h.
-    meta_store (without_dead state (Some c.args.asked.key)) c.args.asked (MetaDone c.in-Ok.done) (held_of c.store.new.self)
+    meta_store (without_dead state (Some c.args.asked.key)) c.args.asked (MetaDone c.in-Ok.done)
+    (held_of c.store.new.self)
     (c.in-Ok.ensures.does (λ done. MetaDone done) state h)
 
 pub returns-in-Err-clause-acts : goal.returns-in-Err-clause-acts

@@ -10,7 +10,8 @@ returns-in_default c = λ state h. settled_absent (held_of c.args.self.now) stat
 pub returns-then-is_dead : goal.returns-then-is_dead
 unfolding IsShard
 returns-then-is_dead c = λ state h.
-    let none = dead_none c.args.self.now.time c.in-Some.item.now _ c.in-Some.ensures (sym c.is_dead.ensures ∙ c.if-is_dead.true) in
+    let none = dead_none c.args.self.now.time c.in-Some.item.now _
+    c.in-Some.ensures (sym c.is_dead.ensures ∙ c.if-is_dead.true) in
     rw c.remove.ensures.left (settled_gone (held_of c.args.self.now) state c.args.key.now h none)
 
 pub returns-else-is_dead : goal.returns-else-is_dead

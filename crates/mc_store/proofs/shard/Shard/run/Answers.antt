@@ -1,7 +1,7 @@
 use Rattle.std.specs.Prelude.{◌==◌}
 use Rattle.std.proofs.Common.{◌≡◌, refl}
 use Rattle.mc_item.specs.Kind.{key_of}
-use Rattle.mc_item.specs.Tally.{counting_of}
+use Rattle.mc_item.specs.OpStats.{counting_of}
 use Rattle.mc_store.specs.State.{arrived, settle}
 use Rattle.mc_store.specs.Step.{IsStep, makes, noted_in}
 use Rattle.mc_store.specs.Shard.{IsShard, held_of}
@@ -15,12 +15,14 @@ returns-clause-step c = λ state h.
     let there = c.arrive.ensures state h in
     let settled = settle state (key_of c.args.op) c.args.moment in
     let done = c.answer-answer.ensures.acts now there in
-    let first : (settled.index == 0) ≡ (c.arrive.new.self.index == 0) = rw (settled_index now (key_of c.args.op), there.index) refl in
+    let first : (settled.index == 0) ≡ (c.arrive.new.self.index == 0) =
+    rw (settled_index now (key_of c.args.op), there.index) refl in
     let counting : c.of-counting.result ≡ counting_of (settled.index == 0) (makes settled c.args.op) c.args.op =
     rw (first, ← c.makes.ensures now there) c.of-counting.ensures in
     let after = noted_in settled done.0 c.args.op c.answer-answer.result in (
       after,
       (done.0, done.1, refl),
       rw (c.count_in.ensures, c.of.ensures)
-          (noted_keeps (held_of c.answer-answer.new.self) settled done.0 c.args.op c.answer-answer.result c.of-counting.result counting done.2),
+          (noted_keeps (held_of c.answer-answer.new.self) settled done.0 c.args.op c.answer-answer.result
+          c.of-counting.result counting done.2),
     )

@@ -14,26 +14,41 @@ pub returns-then-is_too_large-clause-does : goal.returns-then-is_too_large-claus
 unfolding IsShard
 returns-then-is_too_large-clause-does c = λ state h.
     let settled = without_dead state (Some c.args.asked.key) in
-    let large : is_too_large settled c.args.asked.key c.args.asked.value ≡ true = large_there (held_of c.args.self.now) state c.args.asked.key c.args.asked.value c.len.result true h (sym c.len.ensures.value) (sym c.is_too_large.ensures ∙ c.if-is_too_large.true) in
-    too_large settled c.args.asked.key c.args.asked.unique c.args.asked.value (stored_item c.args.asked.value c.args.asked.flags c.args.asked.exptime settled.time) (λ _. Stored) (held_of c.remove_dead.new.self) large (c.remove_dead.ensures state h)
+    let large : is_too_large settled c.args.asked.key c.args.asked.value ≡ true =
+    large_there (held_of c.args.self.now) state c.args.asked.key c.args.asked.value c.len.result true h
+    (sym c.len.ensures.value) (sym c.is_too_large.ensures ∙ c.if-is_too_large.true) in
+    too_large settled c.args.asked.key c.args.asked.unique c.args.asked.value
+    (stored_item c.args.asked.value c.args.asked.flags c.args.asked.exptime settled.time) (λ _. Stored)
+    (held_of c.remove_dead.new.self) large (c.remove_dead.ensures state h)
 
 pub write-requires : goal.write-requires
 write-requires c =
-    let both = fits_both c.args.self.now.limit c.len.result c.args.self.now.items.budget (length c.args.asked.key + c.len.result + item_overhead) (sym c.is_too_large.ensures ∙ c.if-is_too_large.false) in
+    let both = fits_both c.args.self.now.limit c.len.result c.args.self.now.items.budget
+    (length c.args.asked.key + c.len.result + item_overhead) (sym c.is_too_large.ensures ∙ c.if-is_too_large.false) in
     record { fits = inr (rw (c.fresh_item-item.ensures, ← c.len.ensures.value) both.1) }
 
 pub returns-in-Ok-clause-does : goal.returns-in-Ok-clause-does
 unfolding IsShard
 returns-in-Ok-clause-does c = λ state h.
-    let expiry : c.from_exptime-expiry.result ≡ expiry_of c.args.asked.exptime c.args.self.now.time = rw (to_z-of_z w64 c.args.asked.exptime (search rules)) at c.from_exptime-expiry.ensures in
-    let made : c.fresh_item-item.result ≡ fresh_of c.args.asked.value c.args.asked.flags (expiry_of c.args.asked.exptime c.args.self.now.time) = rw (← expiry) c.fresh_item-item.ensures in
-    let small = large_there (held_of c.args.self.now) state c.args.asked.key c.args.asked.value c.len.result false h (sym c.len.ensures.value) (sym c.is_too_large.ensures ∙ c.if-is_too_large.false) in
-    set_stored (held_of c.args.self.now) state c.args.asked c.fresh_item-item.result Stored (held_of c.write.new.self) h made small (c.in-Ok.ensures.does (λ _. Stored) state h)
+    let expiry : c.from_exptime-expiry.result ≡ expiry_of c.args.asked.exptime c.args.self.now.time =
+    rw (to_z-of_z w64 c.args.asked.exptime (search rules)) at c.from_exptime-expiry.ensures in
+    let made : c.fresh_item-item.result
+    ≡ fresh_of c.args.asked.value c.args.asked.flags (expiry_of c.args.asked.exptime c.args.self.now.time) =
+    rw (← expiry) c.fresh_item-item.ensures in
+    let small = large_there (held_of c.args.self.now) state c.args.asked.key c.args.asked.value c.len.result false h
+    (sym c.len.ensures.value) (sym c.is_too_large.ensures ∙ c.if-is_too_large.false) in
+    set_stored (held_of c.args.self.now) state c.args.asked c.fresh_item-item.result Stored (held_of c.write.new.self) h
+    made small (c.in-Ok.ensures.does (λ _. Stored) state h)
 
 pub returns-in-Err-clause-does : goal.returns-in-Err-clause-does
 unfolding IsShard
 returns-in-Err-clause-does c = λ state h.
-    let expiry : c.from_exptime-expiry.result ≡ expiry_of c.args.asked.exptime c.args.self.now.time = rw (to_z-of_z w64 c.args.asked.exptime (search rules)) at c.from_exptime-expiry.ensures in
-    let made : c.fresh_item-item.result ≡ fresh_of c.args.asked.value c.args.asked.flags (expiry_of c.args.asked.exptime c.args.self.now.time) = rw (← expiry) c.fresh_item-item.ensures in
-    let small = large_there (held_of c.args.self.now) state c.args.asked.key c.args.asked.value c.len.result false h (sym c.len.ensures.value) (sym c.is_too_large.ensures ∙ c.if-is_too_large.false) in
-    set_stored (held_of c.args.self.now) state c.args.asked c.fresh_item-item.result c.in-Err.answer (held_of c.write.new.self) h made small (c.in-Err.ensures.does (λ _. Stored) state h)
+    let expiry : c.from_exptime-expiry.result ≡ expiry_of c.args.asked.exptime c.args.self.now.time =
+    rw (to_z-of_z w64 c.args.asked.exptime (search rules)) at c.from_exptime-expiry.ensures in
+    let made : c.fresh_item-item.result
+    ≡ fresh_of c.args.asked.value c.args.asked.flags (expiry_of c.args.asked.exptime c.args.self.now.time) =
+    rw (← expiry) c.fresh_item-item.ensures in
+    let small = large_there (held_of c.args.self.now) state c.args.asked.key c.args.asked.value c.len.result false h
+    (sym c.len.ensures.value) (sym c.is_too_large.ensures ∙ c.if-is_too_large.false) in
+    set_stored (held_of c.args.self.now) state c.args.asked c.fresh_item-item.result c.in-Err.answer
+    (held_of c.write.new.self) h made small (c.in-Err.ensures.does (λ _. Stored) state h)

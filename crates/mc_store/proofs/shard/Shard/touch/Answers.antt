@@ -9,11 +9,15 @@ use Rattle.mc_store.proofs.shard.Shard.touch.Goals as goal
 
 pub returns-in_default-clause-acts : goal.returns-in_default-clause-acts
 unfolding IsShard key_of
-returns-in_default-clause-acts c = λ state h. rw c.remove.ensures.left (touch_miss (held_of c.args.self.now) state c.args.key.now c.args.exptime h c.in_default.ensures)
+returns-in_default-clause-acts c =
+    λ state h. rw c.remove.ensures.left
+    (touch_miss (held_of c.args.self.now) state c.args.key.now c.args.exptime h c.in_default.ensures)
 
 pub returns-clause-acts : goal.returns-clause-acts
 unfolding IsShard key_of
 returns-clause-acts c = λ state h.
     let there = (live_item c.args.self.now.time _ c.in-Some.item.now c.in-Some.ensures).0 in
-    let expiry : c.from_exptime.result ≡ expiry_of c.args.exptime c.args.self.now.time = rw (to_z-of_z w64 c.args.exptime c.ranges.exptime) at c.from_exptime.ensures in
-    rw (c.make_first.ensures c.in-Some.item.now there, expiry) (touch_hit (held_of c.args.self.now) state c.args.key.now c.args.exptime c.in-Some.item.now h c.in-Some.ensures)
+    let expiry : c.from_exptime.result ≡ expiry_of c.args.exptime c.args.self.now.time =
+    rw (to_z-of_z w64 c.args.exptime c.ranges.exptime) at c.from_exptime.ensures in
+    rw (c.promote.ensures c.in-Some.item.now there, expiry)
+    (touch_hit (held_of c.args.self.now) state c.args.key.now c.args.exptime c.in-Some.item.now h c.in-Some.ensures)

@@ -1,4 +1,5 @@
--- What is written has the unique that was asked for or is next, where the items took it; else nothing but a dead item goes.
+-- What is written has the unique that was asked for or is next, where the items took it; else nothing but a dead item
+-- goes.
 use Rattle.std.proofs.Common.{Some, refl, inl, inr}
 use Rattle.std.proofs.lemmas.Bool.{false≢true}
 use Rattle.mc_store.specs.State.{first, evicting, without_dead, entered}
@@ -10,7 +11,11 @@ use Rattle.mc_store.proofs.shard.Shard.write.Goals as goal
 
 pub returns-in_default-clause-does : goal.returns-in_default-clause-does
 unfolding IsShard
-returns-in_default-clause-does c = λ reply state h. write_refused (held_of c.args.self.now) state c.args.key (held_of c.remove_dead.new.self) c.args.token (λ unique after. (reply unique, entered after c.args.token c.args.key (record c.args.item { unique = unique }))) h c.in_default.ensures.unique (c.remove_dead.ensures state h)
+returns-in_default-clause-does c =
+    λ reply state h. write_refused (held_of c.args.self.now) state c.args.key (held_of c.remove_dead.new.self)
+    c.args.token (λ unique after.
+    (reply unique, entered after c.args.token c.args.key (record c.args.item { unique = unique }))) h
+    c.in_default.ensures.unique (c.remove_dead.ensures state h)
 
 pub returns-clause-does : goal.returns-clause-does
 unfolding IsShard
@@ -18,22 +23,30 @@ returns-clause-does c = λ reply state h.
     let held = held_of c.args.self.now in
     let item = record c.args.item { unique = c.in-Some.unique } in
     let put = evicting (first (giving c.args.token state) c.args.key item) c.args.key in
-    let placed = write_placed held state c.args.key c.args.item c.args.token c.in-Some.unique h c.in-Ok-put.ensures.small in
-    let shown : Keeps (held_of c.count_given.new.self) put = rw (c.count_given.ensures.held, c.in-Ok-put.ensures.put, c.in-Ok.ensures.turns) placed in
-    write_done held state c.args.key c.args.item c.args.token c.in-Some.unique reply (held_of c.take_turns.new.self) h c.in-Some.ensures.unique
+    let placed = write_placed held state c.args.key c.args.item c.args.token c.in-Some.unique h
+    c.in-Ok-put.ensures.small in
+    let shown : Keeps (held_of c.count_given.new.self) put =
+    rw (c.count_given.ensures.held, c.in-Ok-put.ensures.put, c.in-Ok.ensures.turns) placed in
+    write_done held state c.args.key c.args.item c.args.token c.in-Some.unique reply (held_of c.take_turns.new.self) h
+    c.in-Some.ensures.unique
     (c.take_turns.ensures put c.args.token c.args.key item shown c.in-Ok.ensures.turn refl)
 
 pub returns-in_default-make_turn-clause-does : goal.returns-in_default-make_turn-clause-does
 unfolding IsShard
 returns-in_default-make_turn-clause-does c = λ reply state h.
-    write_refused_memory (without_dead state (Some c.args.key)) (numbered _ c.args.token (λ unique after. (reply unique, entered after c.args.token c.args.key (record c.args.item { unique = unique })))) (held_of c.remove_dead-in_default-make_turn.new.self)
+    write_refused_memory (without_dead state (Some c.args.key))
+    (numbered _ c.args.token
+    (λ unique after. (reply unique, entered after c.args.token c.args.key (record c.args.item { unique = unique }))))
+    (held_of c.remove_dead-in_default-make_turn.new.self)
     (c.remove_dead-in_default-make_turn.ensures state (rw c.in_default-make_turn.ensures.turns h))
 
 pub returns-in_default-put-clause-does : goal.returns-in_default-put-clause-does
 unfolding IsShard
 returns-in_default-put-clause-does c = λ reply state h.
     rw (c.in_default-put.ensures.err, c.in-Ok.ensures.turns)
-    (write_failed (held_of c.args.self.now) state c.args.key (numbered _ c.args.token (λ unique after. (reply unique, entered after c.args.token c.args.key (record c.args.item { unique = unique })))) h
+    (write_failed (held_of c.args.self.now) state c.args.key
+    (numbered _ c.args.token
+    (λ unique after. (reply unique, entered after c.args.token c.args.key (record c.args.item { unique = unique })))) h
     (λ there. false≢true (c.in_default-put.ensures.succeeds there)))
 
 pub returns-in_default-clause-refused : goal.returns-in_default-clause-refused
@@ -43,7 +56,8 @@ pub put-requires : goal.put-requires
 put-requires c = c.requires
 
 pub invariant_of-self : goal.invariant_of-self
-invariant_of-self c = record { limited = c.args.self.now.limited; timely = c.args.self.now.timely; place = c.args.self.now.place }
+invariant_of-self c =
+    record { limited = c.args.self.now.limited; timely = c.args.self.now.timely; place = c.args.self.now.place }
 
 pub returns-in_default-put-clause-refused : goal.returns-in_default-put-clause-refused
 returns-in_default-put-clause-refused c = inr refl

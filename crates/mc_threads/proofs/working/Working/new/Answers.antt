@@ -11,4 +11,5 @@ none_marked (suc count) zero marked = absurd (let bad : false ≡ true = same_So
 none_marked (suc count) (suc seat) marked = none_marked count seat marked
 
 pub invariant_of-result-clause-none_left : goal.invariant_of-result-clause-none_left
-invariant_of-result-clause-none_left g c = rw (c.in_ok-given.ensures.items_if_clones_equal (λ y same. same)) (none_marked c.seats-count.result)
+invariant_of-result-clause-none_left g c =
+    rw (c.in_ok-given.ensures.items_if_clones_equal (λ y same. same)) (none_marked c.seats-count.result)

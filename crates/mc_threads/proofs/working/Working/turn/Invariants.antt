@@ -1,4 +1,4 @@
-use Rattle.mc_worker.specs.Desk.{Goes}
+use Rattle.mc_worker.specs.WorkerState.{Goes}
 use Rattle.mc_threads.proofs.working.Working.turn.Given as goal
 
 abbrev pub invariant-loop-seat : goal.invariant-loop-seat

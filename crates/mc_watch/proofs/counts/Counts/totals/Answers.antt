@@ -7,5 +7,8 @@ use Rattle.mc_watch.proofs.counts.Counts.totals.Goals as goal
 
 pub loop-thread-preserved : goal.loop-thread-preserved
 loop-thread-preserved g c =
-    folds_shared (AddsThread g.C.Count.has_told) no_totals c.deref-thread-items.result.now c.loop-thread.thread-index c.loop-thread.totals c.thread-item.result c.add.new.self c.loop-thread-test.true c.thread-item.is c.loop-thread.invariant
-    (subst (λ thread. AddsThread g.C.Count.has_told c.loop-thread.totals thread c.add.new.self) (c.deref-in-loop-thread.ensures ∙ ap padded_value c.deref.ensures) c.add.ensures)
+    folds_shared (AddsThread g.C.Count.has_told) no_totals c.deref-thread-items.result.now c.loop-thread.thread-index
+    c.loop-thread.totals c.thread-item.result c.add.new.self c.loop-thread-test.true c.thread-item.is
+    c.loop-thread.invariant
+    (subst (λ thread. AddsThread g.C.Count.has_told c.loop-thread.totals thread c.add.new.self)
+    (c.deref-in-loop-thread.ensures ∙ ap padded_value c.deref.ensures) c.add.ensures)

@@ -5,4 +5,5 @@ use Rattle.mc_watch.specs.Counts.{AddsThread, no_totals, shared_values}
 use Rattle.mc_watch.proofs.counts.Counts.totals.Given as goal
 
 abbrev pub invariant-loop-thread : goal.invariant-loop-thread
-invariant-loop-thread g l = FoldsTo (AddsThread g.C.Count.has_told) no_totals (shared_values (take l.thread-index l.thread-items)) l.totals
+invariant-loop-thread g l =
+    FoldsTo (AddsThread g.C.Count.has_told) no_totals (shared_values (take l.thread-index l.thread-items)) l.totals

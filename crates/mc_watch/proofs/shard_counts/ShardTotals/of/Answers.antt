@@ -7,4 +7,5 @@ use Rattle.mc_watch.proofs.shard_counts.ShardTotals.of.Goals as goal
 pub returns : goal.returns
 returns c = λ state is.
     c.with_out_of_memory.ensures
-    ∙ ap with_out_of_memory (c.counted.ensures ∙ same_totals (c.len-items.ensures state is) (c.cost-bytes.ensures.cost state is) (c.evicted.ensures state is) (c.tally.ensures state is))
+    ∙ ap with_out_of_memory (c.counted.ensures ∙ same_totals (c.len-items.ensures state is)
+    (c.cost-bytes.ensures.cost state is) (c.evicted.ensures state is) (c.op_stats.ensures state is))

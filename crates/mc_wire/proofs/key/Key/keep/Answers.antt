@@ -10,14 +10,17 @@ in_front bytes written rest is = take_at written rest (length bytes) (ap length 
 
 -- and is as long
 as_long : (bytes written rest : List ℕ) → written ≡ bytes → 0 < length bytes → length bytes ≤ KEY_LIMIT
-    → (0 < length (take (length bytes) (written ++ rest))) × (length (take (length bytes) (written ++ rest)) ≤ KEY_LIMIT)
+    → (0 < length (take (length bytes) (written ++ rest)))
+    × (length (take (length bytes) (written ++ rest)) ≤ KEY_LIMIT)
 as_long bytes written rest is some short = rw (in_front bytes written rest is) (some, short)
 
 pub invariant_of-result-2 : goal.invariant_of-result-2
 invariant_of-result-2 c = (
   omega (arith, c.if-bytes-gt-SHORT_KEY.false),
-  (as_long c.args.bytes.now c.copy_from_slice.new.self _ c.copy_from_slice.ensures.after c.requires.some c.requires.short).0,
-  (as_long c.args.bytes.now c.copy_from_slice.new.self _ c.copy_from_slice.ensures.after c.requires.some c.requires.short).1,
+  (as_long c.args.bytes.now c.copy_from_slice.new.self _ c.copy_from_slice.ensures.after c.requires.some
+      c.requires.short).0,
+  (as_long c.args.bytes.now c.copy_from_slice.new.self _ c.copy_from_slice.ensures.after c.requires.some
+      c.requires.short).1,
 )
 
 pub returns : goal.returns

@@ -1,7 +1,28 @@
 use Rattle.std.proofs.Common.{refl}
+use Rattle.std.specs.Option.{option_map}
+use Rattle.mc_ring.specs.Reply.{shown}
+use Rattle.mc_store.specs.Shard.{held_of}
+use Rattle.mc_worker.specs.declared.worker.Hand.{Hand}
+use Rattle.mc_worker.specs.WorkerState.{WorkerState}
+use Rattle.mc_worker.proofs.Scribing.{marked_still, recorded_kept}
 use Rattle.mc_worker.proofs.Turning.{past_same}
 use Rattle.mc_ring.specs.Ends.{Looks}
 use Rattle.mc_worker.proofs.worker.Worker.beside.Goals as goal
 
 pub returns-clause-ran : goal.returns-clause-ran
-returns-clause-ran c = rw (← c.self.view_is) (past_same Looks _ _ _ (λ x y says. says.past) c.beside.ensures.looked.far refl)
+returns-clause-ran g c =
+    rw (← c.self.view_is) (past_same Looks _ _ _ (λ x y says. says.past) c.beside.ensures.looked.far refl)
+
+pub invariant_of-self : goal.invariant_of-self
+invariant_of-self g c =
+    let old : WorkerState = record {
+      shard = held_of c.self.inside.shard;
+      ends = c.self.inside.ends;
+      hand = option_map (λ (hand : Hand). (hand.seat, shown hand.reply)) c.self.inside.hand;
+      live = c.self.inside.live.items;
+    } in
+    let new : WorkerState = record old { ends = c.beside.new.shard } in (
+      marked_still old new c.beside.ensures.shard c.self.invariant.0 refl refl,
+      λ keeps. recorded_kept _ _ _ old new c.beside.ensures.shard
+          (past_same Looks _ _ _ (λ x y says. says.past) c.beside.ensures.looked.far refl) (c.self.invariant.1 keeps),
+    )

@@ -2,10 +2,11 @@ use Rattle.std.proofs.Common.{sym, ap}
 use Rattle.std.specs.Option.{option_map}
 use Rattle.mc_ring.specs.Reply.{shown}
 use Rattle.mc_worker.specs.declared.worker.Hand.{Hand}
-use Rattle.mc_worker.proofs.Desks.{held_within}
+use Rattle.mc_worker.proofs.WorkerStates.{held_within}
 use Rattle.mc_worker.proofs.worker.Worker.holder.Goals as goal
 
 pub returns-clause-within : goal.returns-clause-within
-returns-clause-within c =
+returns-clause-within g c =
     let held = c.in_ok-hand.hand.now in
-    rw (← c.self.view_is) (held_within _ held.seat (shown held.reply) c.self.invariant (ap (option_map (λ (hand : Hand). (hand.seat, shown hand.reply))) (sym c.in_ok-hand.ensures.value)))
+    rw (← c.self.view_is) (held_within _ held.seat (shown held.reply) c.self.invariant.0
+    (ap (option_map (λ (hand : Hand). (hand.seat, shown hand.reply))) (sym c.in_ok-hand.ensures.value)))

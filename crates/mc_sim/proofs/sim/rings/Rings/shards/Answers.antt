@@ -5,7 +5,12 @@ use Rattle.mc_sim.proofs.sim.rings.Rings.shards.Goals as goal
 
 pub returns : goal.returns
 returns c =
-    let mid : Laid = record { seats = c.self.inside.seats.items; workers = c.self.inside.workers.items; places = c.self.inside.places } in
+    let mid : Laid = record {
+      seats = c.self.inside.seats.items;
+      workers = c.self.inside.workers.items;
+      places = c.self.inside.places;
+    } in
     let long : vec_len c.self.inside.workers ≡ length c.self.inside.workers.items = search rules in
     let told = c.len.ensures in
-    rw (← c.self.view_is) (λ sizes wires was. let counted = shards_counted sizes mid wires was in omega (arith, long, told, counted))
+    rw (← c.self.view_is) (λ sizes wires was. let counted = shards_counted sizes mid wires was in
+    omega (arith, long, told, counted))

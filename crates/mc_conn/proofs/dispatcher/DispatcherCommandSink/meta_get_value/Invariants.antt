@@ -1,0 +1,7 @@
+use Rattle.mc_plain.specs.FastCommand.{meta_get_of}
+use Rattle.mc_reply.specs.Server.{no_server}
+use Rattle.mc_conn.specs.History.{carrying_out}
+use Rattle.mc_conn.proofs.dispatcher.DispatcherCommandSink.meta_get_value.Given as goal
+
+abbrev pub ghost-and : goal.ghost-and
+ghost-and a = carrying_out a.about.now.0 no_server (meta_get_of a.about.now.1 a.about.now.2.now)

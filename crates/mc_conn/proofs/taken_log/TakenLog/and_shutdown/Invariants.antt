@@ -1,0 +1,4 @@
+use Rattle.mc_conn.proofs.taken_log.TakenLog.and_shutdown.Given as goal
+
+abbrev pub ghost-and : goal.ghost-and
+ghost-and g a = g.one

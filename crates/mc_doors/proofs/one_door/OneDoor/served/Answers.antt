@@ -1,6 +1,0 @@
--- The line that came back, as it was when it came in.
-use Rattle.mc_doors.proofs.one_door.OneDoor.served.Goals as goal
-use Rattle.std.proofs.Common.{refl}
-
-pub returns-in-Some : goal.returns-in-Some
-returns-in-Some g c = (g.L.Outlet.sight c.in-Some.returned.begin.value, c.args.self.over, rw (c.in-Some.is, c.into_served.ensures) refl)

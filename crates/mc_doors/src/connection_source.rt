@@ -1,0 +1,42 @@
+//! The source of a slot's lines, one at a time, to which they are returned.
+ghost use Rattle.std.specs.Prelude.{◌≡◌};
+ghost use Rattle.mc_doors.specs.Told.{Arrives, SourceTold, took_back};
+
+use mc_seat::Transport;
+
+/// The result of `ConnectionSource::accept`.
+#[derive(Drop)]
+pub enum Accept<L> {
+    /// A new line.
+    Came(L),
+    /// No line yet.
+    NotYet,
+    /// No more lines will come.
+    Over,
+}
+
+/// Accepts the lines of a slot, one at a time, and takes them back after they were served.
+pub trait ConnectionSource {
+    /// The type of the lines.
+    type Transport: Transport + Drop;
+
+    /// Its history, for contracts.
+    ghost told: { Self → SourceTold };
+
+    /// Returns the next line, if there is one. Never blocks.
+    fn accept(&mut self) -> Accept<Self::Transport>
+        ensures { Arrives (λ line. Self.Transport.sight line) result (told self.old)
+            (told self.new) };
+
+    /// Ends the output of the line that is out, since memory to serve it is refused. Nothing is
+    /// read or written. Returns whether the slot is woken again after a pause, so that it may wait.
+    /// See docs/DECISIONS.md, N5.
+    fn give_up(&mut self, line: &mut Self::Transport) -> bool
+        ensures told { told self.new ≡ told self.old }
+        ensures line { Self.Transport.sight line.new ≡ Self.Transport.sight line.old };
+
+    /// Takes back the line that was served: the number of commands, and whether it failed.
+    fn give_back(&mut self, line: Self::Transport, commands: u64, broke: bool)
+        ensures { told self.new ≡
+            took_back (Self.Transport.sight line) commands broke (told self.old) };
+}

@@ -1,0 +1,4 @@
+pub mod Recording
+pub mod Clerking
+pub mod Owing
+pub mod Opened

@@ -1,0 +1,3 @@
+pub mod Recorder
+pub mod Clerk
+pub mod Opening

@@ -1,6 +1,0 @@
--- As many empty slots as rounds.
-use Rattle.std.proofs.Common.{◌≡◌, replicate, None}
-use Rattle.mc_reply.proofs.form.Slots.empty.Given as goal
-
-abbrev pub invariant-loop : goal.invariant-loop
-invariant-loop l = l.answers.items ≡ replicate l.counter None

@@ -1,5 +1,0 @@
-use Rattle.mc_ring.proofs.LaneLoops.{NewShards}
-use Rattle.mc_ring.proofs.making.shards_without_lanes.Given as goal
-
-abbrev pub invariant-loop-number : goal.invariant-loop-number
-invariant-loop-number l = NewShards l.number l.far.items

@@ -1,6 +1,0 @@
-use Rattle.std.proofs.Common.{rules}
-use Rattle.mc_ring.proofs.SameEnds.{same_ends}
-use Rattle.mc_ring.proofs.seat.SeatEnds.receive.Goals as goal
-
-pub returns-clause-same : goal.returns-clause-same
-returns-clause-same c = rw (← c.self.view_is) (same_ends c.self.inside.number c.self.inside.lanes.items c.args.shard c.index_mut.result.now c.receive.new.self (search rules) c.index_mut.ensures.value (c.receive.ensures.lane))

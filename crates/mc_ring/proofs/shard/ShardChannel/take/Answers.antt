@@ -1,0 +1,34 @@
+use Rattle.std.proofs.Common.{◌∙◌, refl, sym}
+use Rattle.rtrb.specs.Ring.{received}
+use Rattle.mc_ring.specs.declared.request.Request.{Request}
+use Rattle.mc_ring.specs.Stamps.{item_seen}
+use Rattle.mc_ring.proofs.Prefixes.{map_longer}
+use Rattle.mc_ring.proofs.Sides.{channel_is, one_begun, one_behind, one_route, popped, ring_out-same}
+use Rattle.mc_ring.proofs.shard.ShardChannel.take.Goals as goal
+
+pub invariant_of-self-2 : goal.invariant_of-self-2
+invariant_of-self-2 g c =
+    let r = c.self.inside.requests in
+    let was = c.self.invariant in
+    let x = c.pop_known.result in
+    let begun = one_begun (λ (request : Request). request) g.T.Token.name (received r) (received c.is_empty.new.self)
+    (received c.pop_known.new.self) x was.2 c.is_empty.ensures.looked.1 c.pop_known.ensures.received.0 in
+    let route = one_route (λ (request : Request). request) g.T.Token.name (received r) (received c.is_empty.new.self)
+    (received c.pop_known.new.self) x was.2 c.is_empty.ensures.looked.1 c.pop_known.ensures.received.0 in
+    (was.0, was.1, begun, was.3 ∙ sym route)
+
+pub returns-clause-receives : goal.returns-clause-receives
+returns-clause-receives g c =
+    let r = c.self.inside.requests in
+    let was = c.self.invariant in
+    let x = c.pop_known.result in
+    let got = one_behind (λ (request : Request). request) g.T.Token.name (received r) (received c.is_empty.new.self)
+    (received c.pop_known.new.self) x was.2 c.is_empty.ensures.looked.1 c.pop_known.ensures.received.0 x.item refl in
+    let route = one_route (λ (request : Request). request) g.T.Token.name (received r) (received c.is_empty.new.self)
+    (received c.pop_known.new.self) x was.2 c.is_empty.ensures.looked.1 c.pop_known.ensures.received.0 in
+    let ring = ring_out-same c.is_empty.new.self c.pop_known.new.self c.pop_known.ensures.ring
+    ∙ ring_out-same r c.is_empty.new.self c.is_empty.ensures.looked.0 in
+    let first = rw c.pop_known.ensures.received.1
+    at (map_longer (item_seen (λ (request : Request). request)) _ _ c.is_empty.ensures.looked.2) in
+    rw (← c.self.view_is, c.open.ensures.0)
+    (popped (λ got. got.0) (x.item, c.open.result.1) _ _ (channel_is _ _ ring refl refl route) refl got first refl)

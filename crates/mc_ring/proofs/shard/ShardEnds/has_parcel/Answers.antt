@@ -1,6 +1,0 @@
-use Rattle.std.proofs.Common.{ap, rules}
-use Rattle.mc_ring.proofs.SameEnds.{same_ends}
-use Rattle.mc_ring.proofs.shard.ShardEnds.has_parcel.Goals as goal
-
-pub returns-clause-same : goal.returns-clause-same
-returns-clause-same c = rw (← c.self.view_is) (same_ends c.self.inside.number c.self.inside.lanes.items c.args.seat c.index_mut.result.now c.has_parcel.new.self (search rules) c.index_mut.ensures.value (ap (λ past. past.lane) c.has_parcel.ensures.looked.past))

@@ -1,0 +1,45 @@
+-- What a seat's clerk records, and when its record fits a connection.
+use Rattle.std.specs.Prelude.{ℕ, ◌≡◌, ◌<◌, List, ◌++◌, length, map, Some}
+use Rattle.std.specs.List.{slice_get}
+use Rattle.mc_ring.specs.declared.request.Request.{Request}
+use Rattle.mc_ring.specs.declared.request.Request.TheVariants as request
+use Rattle.mc_ring.specs.Ends.{Ends, received_on, sent_on}
+use Rattle.mc_ring.specs.Channel.{Near}
+use Rattle.mc_ring.specs.Reply.{Shown}
+use Rattle.mc_split.specs.declared.plan.Piece.{Piece}
+use Rattle.mc_conn.specs.Due.{due}
+use Rattle.mc_conn.specs.Fits.{Fits, KeysFit}
+use Rattle.mc_conn.specs.History.{Taken, carried_out}
+use Rattle.mc_conn.specs.Told.{Told}
+use Rattle.mc_model.specs.Grows.{Lengthens}
+
+-- The request is the piece that is due in this place, or the End.
+abbrev pub IsDueAt : List Piece → ℕ → Request → Type 0
+IsDueAt work place request.End = Unit {0}
+IsDueAt work place (request.Piece piece) = slice_get work place ≡ Some piece
+
+-- Where first these commands were taken and then those, the pieces that became due at a shard are behind the work
+-- there.
+pub record AddsWork (shards shard : ℕ) (taken later : List Taken) (work more : List Piece) : Type 0 where
+  pub added : List Piece
+  pub due_is : due shards shard later ≡ due shards shard taken ++ added
+  pub work_is : more ≡ work ++ added
+
+-- The record is of a connection that was told this, since the ends were as before: its commands are recorded, but for
+-- the last ones; on each channel the work is what was sent before and what is due for them, and the replies received
+-- are answers of the record; and each is the answer to the piece in its place.
+pub record IsKept (work : ℕ → List Piece) (taken : List Taken) (answers : ℕ → List Shown) (before : Ends Near)
+    (told : Told) (received : ℕ → List Shown) : Type 0 where
+  pub begins : Lengthens taken (map carried_out told.taken)
+  pub settled : (shard : ℕ) → shard < told.shards → length (received_on before shard) ≡ length (sent_on before shard)
+  pub work_is : (shard : ℕ) → shard < told.shards → map request.Piece (work shard) ≡ sent_on before shard
+      ++ map request.Piece (due told.shards shard taken)
+  pub came : (shard : ℕ) → shard < told.shards → Lengthens (received_on before shard ++ received shard) (answers shard)
+  pub keys : KeysFit told.shards told.taken received
+  pub fits : Fits told.shards told.taken told.accepted received
+
+-- The piece that the next reply of a shard answers: the next that is due there, and in its place in the work.
+pub record IsAnsweredNext (work : List Piece) (told : Told) (shard : ℕ) (received came : List Shown) : Type 0 where
+  pub piece : Piece
+  pub due_is : slice_get (due told.shards shard told.taken) (length received) ≡ Some piece
+  pub work_is : slice_get work (length came) ≡ Some piece

@@ -1,0 +1,200 @@
+//! Serves one line: once the commands taken are answered, their replies are written, more is read,
+//! and more commands are taken.
+ghost use Rattle.std.specs.Prelude.{◌≡◌, ◌↔◌, IfOk, IsTrue};
+ghost use Rattle.mc_sizes.specs.Sizes.{SuitLines, rules_of};
+
+use crate::buffer_pool::BufferPool;
+use crate::read_side::{AfterTurn, ReadSide};
+use crate::transport::{Clock, Taking, Transport};
+use crate::write_buffer::WriteBuffer;
+use mc_conn::{Conn, Taken};
+use mc_sizes::Sizes;
+use std::alloc::{AllocError, Global};
+
+/// What became of a line.
+#[derive(Clone, Copy)]
+pub struct Served {
+    /// How many commands it took.
+    pub commands: u64,
+    /// Whether it has failed.
+    pub broke: bool,
+}
+
+/// What a step did.
+#[derive(Clone, Copy)]
+pub enum LineStep {
+    /// Something: the next step may follow at once.
+    Did,
+    /// Nothing: replies of a shard or bytes of the line have to come first, or the line has to take
+    /// replies that wait.
+    Waits,
+    /// The line was served.
+    Ended(Served),
+}
+
+/// What one line is served by, and how far it is with the line.
+pub struct BufferedConn {
+    alloc: Global,
+    /// Whoever has the shards, or channels to them, takes its pieces and has them answered there.
+    pub conn: Conn,
+    seat: ReadSide,
+    /// Replies that were handed out, and which the line didn't take yet.
+    unwritten: WriteBuffer,
+    /// How many commands of the line were taken.
+    commands: u64,
+    /// Why no further command was.
+    stop: Taken,
+}
+
+impl Drop for BufferedConn {
+    /// By hand, so that to let one go is one call for whoever holds it (docs/DECISIONS.md).
+    fn drop(self) {
+        let BufferedConn {
+            alloc: _alloc,
+            conn: _conn,
+            seat: _seat,
+            unwritten: _unwritten,
+            commands: _commands,
+            stop: _stop,
+        } = self;
+    }
+}
+
+impl BufferedConn {
+    ghost use Rattle.mc_conn.specs.Conn.{IfConn};
+    ghost use Rattle.mc_conn.specs.Shutdown.{asks_shutdown};
+    ghost use Rattle.mc_conn.specs.Told.{IsAtRest, IsOver};
+    ghost use Rattle.mc_seat.specs.BufferedConn.{GoOnSays, IsNew, TakesFor, WaitsForLine};
+    ghost use Rattle.mc_seat.specs.internal.Reading.{ReadingSays};
+
+    /// Of a line of which nothing was taken yet.
+    pub fn new(alloc: Global, sizes: Sizes) -> Result<BufferedConn, AllocError>
+        requires { SuitLines sizes }
+        ensures { IfOk result
+            (λ buffered_conn. IsNew sizes.shards (rules_of sizes) sizes.window buffered_conn) }
+    {
+        let unwritten = WriteBuffer::with_room(alloc)?;
+        let Ok(conn) = Conn::under(alloc, sizes.shards, sizes.rules(), sizes.window) else {
+            return Err(AllocError);
+        };
+        Ok(BufferedConn {
+            alloc,
+            conn,
+            seat: ReadSide::new(alloc),
+            unwritten,
+            commands: 0,
+            stop: Taken::NeedMore,
+        })
+    }
+
+    /// Takes commands of the line as long as there are any, and the window has room for them.
+    pub fn take_all<K: Clock>(&mut self, clock: &K)
+        ensures { TakesFor (K.may_answer clock.now) self.old self.new }
+    {
+        for _ in 0..u64::MAX {
+            match self.conn.take(self.alloc, clock.now(), clock) {
+                Taken::Opened(ticket) => self.commands = ticket.0.saturating_add(1),
+                stop => {
+                    self.stop = stop;
+                    return;
+                }
+            }
+        }
+        self.stop = Taken::Full;
+    }
+
+    /// Goes on once all commands taken are answered: hands their replies out, and once the line
+    /// took them all, reads on and takes commands. Nothing waits here, where the line doesn't.
+    /// Where memory for replies that the line doesn't take at once is refused, the line is given
+    /// up: nothing more is read of it or written to it. The rooms are those of the thread, to read
+    /// into.
+    pub fn go_on<L: Transport, K: Clock>(
+        &mut self,
+        line: &mut L,
+        clock: &K,
+        pool: &mut BufferPool,
+    ) -> LineStep
+        ensures says { GoOnSays result (K.may_answer clock.now) self.old (L.sight line.old) self.new
+            (L.sight line.new) }
+        ensures waits { result ≡ LineStep.Waits → WaitsForLine self.new }
+    {
+        self.unwritten.borrow_room(pool);
+        if let Err(_refused) = self.conn.hand(&mut self.unwritten) {
+            return self.ended(true);
+        }
+        match self.unwritten.flush(line) {
+            Ok(true) => {
+                self.unwritten.return_room(pool);
+                self.go_on_reading(line, clock, pool)
+            }
+            Ok(false) if self.unwritten.waits() => LineStep::Waits,
+            Ok(false) => LineStep::Did,
+            Err(_fault) => {
+                self.conn.broken();
+                self.ended(true)
+            }
+        }
+    }
+
+    /// The same, once the line took all replies.
+    fn go_on_reading<L: Transport, K: Clock>(
+        &mut self,
+        line: &mut L,
+        clock: &K,
+        pool: &mut BufferPool,
+    ) -> LineStep
+        ensures says { ReadingSays result (K.may_answer clock.now) self.old (L.sight line.old)
+            self.new (L.sight line.new) }
+        ensures waits { result ≡ LineStep.Waits → self.new.stop ≡ Taken.NeedMore }
+    {
+        match self.seat.go_on(&mut self.conn, line, self.stop, pool) {
+            AfterTurn::Continues => {
+                self.take_all(clock);
+                line.note_taken(self.commands, self.taking());
+                LineStep::Did
+            }
+            AfterTurn::Waits => LineStep::Waits,
+            AfterTurn::Ended => self.ended(false),
+            AfterTurn::Failed => self.ended(true),
+        }
+    }
+
+    /// Whether more commands of the line are taken. After `shutdown` none is, and the server is to
+    /// end.
+    fn taking(&self) -> Taking
+        ensures { IfConn self.now.conn (λ told.
+            (result ≡ Taking.Shutdown) ↔ IsTrue (asks_shutdown told.taken)) }
+    {
+        if self.conn.asks_shutdown() {
+            return Taking::Shutdown;
+        }
+        match self.stop {
+            Taken::Closed => Taking::Over,
+            Taken::Opened(_) | Taken::Full | Taken::NeedMore => Taking::Continues,
+        }
+    }
+
+    /// What became of the line.
+    fn ended(&self, broke: bool) -> LineStep
+        ensures { result ≡ LineStep.Ended (record { commands = self.now.commands; broke = broke }) }
+    {
+        LineStep::Ended(Served {
+            commands: self.commands,
+            broke,
+        })
+    }
+
+    /// Resets it for the next line if the last one has ended and nothing is under way, and returns
+    /// whether it did. The memory is kept.
+    pub fn renew(&mut self) -> bool
+        ensures when { IfConn self.old.conn
+            (λ told. IsTrue result ↔ (IsAtRest told × IsOver told)) }
+        ensures new { IsTrue result →
+            IfConn self.old.conn (λ told. IsNew told.shards told.rules told.window self.new) }
+    {
+        self.seat.renew();
+        self.unwritten.clear();
+        self.commands = 0;
+        self.conn.renew()
+    }
+}

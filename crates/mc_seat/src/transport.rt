@@ -1,0 +1,118 @@
+//! The source of commands, which takes the replies, and the clock.
+ghost use Rattle.std.specs.Prelude.{◌≡◌, ◌<◌, ◌≤◌, ℕ, IfOk, IfSome, OnErr, length, take};
+ghost use Rattle.std.specs.Io.{StartsWith};
+ghost use Rattle.std.specs.Io.Slices.{io_slices_bytes};
+ghost use Rattle.mc_wire.specs.Sink.{ReadsIntoRoom, broke, took};
+ghost use Rattle.mc_seat.specs.Lines.{ReadsIfReady};
+
+use mc_conn::StatsSource;
+use mc_wire::{Sink, SinkError};
+use std::io::IoSlice;
+use thiserror::Error;
+
+/// A line gives no more bytes: it has failed.
+#[derive(Clone, Copy, Debug, Error)]
+#[error("the line has failed: it gives no more bytes")]
+pub struct TransportError;
+
+/// What came for a line that had nothing to give, or took nothing.
+#[derive(Clone, Copy)]
+pub enum Ready {
+    /// It may give bytes, or take some.
+    Open,
+    /// The same, and its input is at its end, or it has failed: from now on there is always
+    /// something to read.
+    Closing,
+}
+
+/// Whether more commands of a line are taken.
+#[derive(Clone, Copy, Debug, PartialEq, Eq)]
+pub enum Taking {
+    /// They are.
+    Continues,
+    /// None is taken any more.
+    Over,
+    /// None is taken any more, and the last one asks for the server's end.
+    Shutdown,
+}
+
+/// The bytes of the first buffer that isn't empty.
+fn first_filled<'a>(bufs: &[IoSlice<'a>]) -> &'a [u8]
+    ensures { StartsWith (io_slices_bytes bufs.now) result.now }
+{
+    for buf in bufs {
+        let bytes = buf.as_slice();
+        if !bytes.is_empty() {
+            return bytes;
+        }
+    }
+    &[]
+}
+
+/// A line of bytes in both directions, over memory, a stream or a socket. Its sight as a sink shows
+/// what it gave and took, if it lists its bytes.
+pub trait Transport: Sink {
+    /// Reads some bytes into the front of the room, and gives how many: none only at the end of the
+    /// input. At a fault it gives none, and has failed.
+    fn read(&mut self, room: &mut [u8]) -> Result<usize, TransportError>
+        requires { 0 < length room.old }
+        ensures within { IfOk result (λ count. count ≤ length room.old) }
+        ensures read { ReadsIntoRoom room.new result (Self.sight self.old) (Self.sight self.new) };
+
+    /// The same, of a line that may have nothing to give yet: then it gives `None`, and is as it
+    /// was. Where it isn't told how else, a line waits until there is something.
+    fn read_if_ready(&mut self, room: &mut [u8]) -> Result<Option<usize>, TransportError>
+        requires { 0 < length room.old }
+        ensures within { IfOk result (λ given. IfSome given (λ count. count ≤ length room.old)) }
+        ensures read { ReadsIfReady room.new result (Self.sight self.old) (Self.sight self.new) }
+    {
+        let count = self.read(room)?;
+        Ok(Some(count))
+    }
+
+    /// Takes a beginning of the bytes, as far as it can without waiting, and gives how many bytes
+    /// it took: none where it takes nothing now. At a fault it takes none, and has failed. Where it
+    /// isn't told how else, a line waits until it takes some.
+    fn write_if_ready(&mut self, bytes: &[u8]) -> Result<usize, SinkError>
+        ensures within { IfOk result (λ count. count ≤ length bytes.now) }
+        ensures ok { IfOk result
+            (λ count. Self.sight self.new ≡ took (take count bytes.now) (Self.sight self.old)) }
+        ensures err { OnErr result (Self.sight self.new ≡ broke (Self.sight self.old)) }
+    {
+        self.write(bytes)
+    }
+
+    /// The same of the bytes of all the buffers, one after another. Where it isn't told how else, a
+    /// line is offered the first of them that isn't empty.
+    fn write_vectored_if_ready(&mut self, bufs: &[IoSlice<'_>]) -> Result<usize, SinkError>
+        ensures within { IfOk result (λ count. count ≤ length (io_slices_bytes bufs.now)) }
+        ensures ok { IfOk result (λ count.
+            Self.sight self.new ≡
+            took (take count (io_slices_bytes bufs.now)) (Self.sight self.old)) }
+        ensures err { OnErr result (Self.sight self.new ≡ broke (Self.sight self.old)) }
+    {
+        self.write_if_ready(first_filled(bufs))
+    }
+
+    /// Notes how many of its commands were taken so far, and whether more are. Nothing that is seen
+    /// of it changes.
+    fn note_taken(&mut self, _commands: u64, _taking: Taking)
+        ensures { Self.sight self.new ≡ Self.sight self.old }
+    {}
+
+    /// Tells the line that it may give bytes or take some again. Nothing that is seen of it
+    /// changes.
+    fn rouse(&mut self, _ready: Ready)
+        ensures { Self.sight self.new ≡ Self.sight self.old }
+    {}
+}
+
+/// Tells the time in seconds since 1970, and to `stats` what it shows of the server then.
+pub trait Clock: StatsSource {
+    /// The moments that it may answer.
+    ghost may_answer: { Self → ℕ → Type 0 };
+
+    /// The moment at which it is asked.
+    fn now(&self) -> u64
+        ensures { may_answer self.now result };
+}

@@ -1,0 +1,191 @@
+-- The ends of channels may go to another thread, and so may what holds them.
+use denote.RattleType.{RattleType}
+use denote.Builtin.{unit}
+use denote.Param.Send.{IsSend, IsSync, sendable, view_send}
+use denote.Param.SendFields.{as_row_send, declared_send}
+use denote.Struct.Field.{row_field}
+use Rattle.std.specs.contracts.alloc.Global as heap
+use Rattle.std.specs.contracts.impls.GlobalAllocator.TheImpl.{ghosts as in_heap}
+use Rattle.std.proofs.Crossing.{crosses, frees, send}
+use Rattle.std.proofs.option.Option.TheSendSync as option
+use Rattle.std.proofs.vec.Vec.TheSendSync as vec
+use Rattle.std.specs.contracts.vec.Vec as list
+use Rattle.rtrb.specs.declared.Protocol.{Ghosts as ProtocolGhosts}
+use Rattle.rtrb.specs.contracts.producer.Producer as producer
+use Rattle.rtrb.specs.contracts.consumer.Consumer as consumer
+use Rattle.rtrb.proofs.end.End.TheSendSync as end_sent
+use Rattle.mc_wake.proofs.doorbell.Doorbell.TheSendSync as caller
+use Rattle.mc_wake.proofs.wakers.Wakers.TheSendSync as wakers
+use Rattle.mc_sizes.specs.contracts.sizes.Sizes as sizes
+use Rattle.mc_store.proofs.shard.Shard.TheSendSync as shard
+use Rattle.mc_ring.specs.declared.token.Token.{Ghosts as TokenGhosts}
+use Rattle.mc_ring.specs.contracts.token.UnitToken.TheImpl.{ghosts as no_token}
+use Rattle.mc_ring.specs.contracts.request.Request as request
+use Rattle.mc_ring.specs.contracts.reply.Reply as reply
+use Rattle.mc_ring.specs.contracts.stamped.Stamped as stamped
+use Rattle.mc_ring.specs.contracts.seat.SeatChannel as seat_channel
+use Rattle.mc_ring.specs.contracts.seat.SeatChannel.TheInside as in_seat_channel
+use Rattle.mc_ring.specs.contracts.seat.SeatEnds as seat_ends
+use Rattle.mc_ring.specs.contracts.seat.SeatEnds.TheInside as in_seat_ends
+use Rattle.mc_ring.specs.contracts.shard.ShardChannel as shard_channel
+use Rattle.mc_ring.specs.contracts.shard.ShardChannel.TheInside as in_shard_channel
+use Rattle.mc_ring.specs.contracts.shard.ShardEnds as shard_ends
+use Rattle.mc_ring.specs.contracts.shard.ShardEnds.TheInside as in_shard_ends
+use Rattle.mc_ring.proofs.request.Request.TheSendSync as request_sent
+use Rattle.mc_ring.proofs.reply.Reply.TheSendSync as reply_sent
+use Rattle.mc_seat.specs.declared.clerk.Clerk.{Ghosts as ClerkGhosts}
+use Rattle.mc_seat.specs.contracts.clerk.UnitClerk.TheImpl.{ghosts as no_clerk}
+use Rattle.mc_seat.specs.contracts.buffered_conn.BufferedConn as buffered_conn
+use Rattle.mc_seat.proofs.buffered_conn.BufferedConn.TheSendSync as buffered_conn_sent
+use Rattle.mc_worker.specs.declared.scribe.Scribe.{Ghosts as ScribeGhosts}
+use Rattle.mc_worker.specs.contracts.scribe.UnitScribe.TheImpl.{ghosts as no_scribe}
+use Rattle.mc_worker.specs.contracts.worker.Hand as held
+use Rattle.mc_worker.proofs.worker.Hand.TheSendSync as hand
+use Rattle.mc_worker.specs.contracts.worker.Worker as worker
+use Rattle.mc_worker.specs.contracts.worker.Worker.TheInside as in_worker
+use Rattle.mc_seat.proofs.buffer_pool.BufferPool.TheSendSync as pool
+use Rattle.mc_wake.proofs.poller.Poller.TheSendSync as poller
+use Rattle.mc_threads.specs.contracts.shard_link.ShardLink as shard_link
+use Rattle.mc_threads.specs.contracts.session.Session as session
+use Rattle.mc_threads.specs.contracts.working.Working as working
+use Rattle.mc_serve.specs.contracts.connection_slot.ConnectionSlot as slot
+use Rattle.mc_serve.proofs.connection_slot.SlotState.TheSendSync as slot_state
+use Rattle.mc_serve.specs.contracts.slot_table.SlotTable as seats
+use Rattle.mc_serve.specs.contracts.reactor.Reactor as part
+
+-- a vector on the heap, where its elements may
+vec_send : (T : RattleType) → IsSend T → IsSend (list.the_row T heap.the_row in_heap)
+vec_send T sent = vec.the_send T heap.the_row in_heap sent send frees
+
+-- ---- the ends of a ring
+module _ (I P : RattleType) (allows : ProtocolGhosts P.Denot I.Denot) (item : IsSend I) where
+  producer_send : IsSend (producer.the_row I heap.the_row P in_heap allows)
+  producer_send =
+      declared_send (producer.the_type I heap.the_row P in_heap allows) (
+        end_sent.the_send I heap.the_row P in_heap allows item send frees,
+        (as_row_send (row_field heap.the_row) send, search sendable),
+      )
+
+  consumer_send : IsSend (consumer.the_row I heap.the_row P in_heap allows)
+  consumer_send =
+      declared_send (consumer.the_type I heap.the_row P in_heap allows) (
+        end_sent.the_send I heap.the_row P in_heap allows item send frees,
+        (as_row_send (row_field heap.the_row) send, search sendable),
+      )
+
+-- ---- the ends of channels
+stamped_send : (I T : RattleType) → IsSend I → IsSend T → IsSend (stamped.the_row I T)
+stamped_send I T item token =
+    declared_send (stamped.the_type I T)
+    (as_row_send (row_field I) item, (as_row_send (row_field T) token, (search (sendable, crosses) depth 20, tt)))
+
+module _ (T : RattleType) (tokens : TokenGhosts T.Denot) (token : IsSend T) where
+  requests : IsSend (stamped.the_row request.the_row T)
+  requests = stamped_send request.the_row T request_sent.the_send token
+
+  replies : IsSend (stamped.the_row reply.the_row T)
+  replies = stamped_send reply.the_row T reply_sent.the_send token
+
+  seat_channel_send : IsSend (seat_channel.the_row T tokens)
+  seat_channel_send =
+      view_send _ _ _ _ _ (declared_send (in_seat_channel.the_type T tokens)
+      (producer_send _ _ _ requests, (consumer_send _ _ _ replies, tt)))
+
+  shard_channel_send : IsSend (shard_channel.the_row T tokens)
+  shard_channel_send =
+      view_send _ _ _ _ _ (declared_send (in_shard_channel.the_type T tokens)
+      (consumer_send _ _ _ requests, (producer_send _ _ _ replies, tt)))
+
+  pub seat_ends_send : IsSend (seat_ends.the_row T tokens)
+  seat_ends_send =
+      view_send _ _ _ _ _ (declared_send (in_seat_ends.the_type T tokens)
+      (search sendable, (vec_send (seat_channel.the_row T tokens) seat_channel_send, tt)))
+
+  pub shard_ends_send : IsSend (shard_ends.the_row T tokens)
+  shard_ends_send =
+      view_send _ _ _ _ _ (declared_send (in_shard_ends.the_type T tokens)
+      (search sendable, (vec_send (shard_channel.the_row T tokens) shard_channel_send, tt)))
+
+-- ---- what holds them
+no_send : IsSend unit
+no_send = search sendable
+
+sizes_send : IsSend sizes.the_row
+sizes_send = search (sendable, crosses) depth 20
+
+-- what a seat holds, where its tokens and its clerk may go
+module _ (T C : RattleType) (tokens : TokenGhosts T.Denot) (clerk : ClerkGhosts C.Denot T.Denot) (token : IsSend T)
+    (own : IsSend C) where
+  shard_link_send : IsSend (shard_link.the_row T C clerk tokens)
+  shard_link_send =
+      declared_send (shard_link.the_type T C clerk tokens) (
+        seat_ends_send T tokens token,
+        (
+          as_row_send (row_field C) own,
+          (
+            search (sendable, crosses) depth 20,
+            (search sendable, (search sendable, (search sendable, (caller.the_send, tt)))),
+          ),
+        ),
+      )
+
+  pub session_send : IsSend (session.the_row T C clerk tokens)
+  session_send =
+      declared_send (session.the_type T C clerk tokens) (
+        search (sendable, crosses) depth 20,
+        (shard_link_send, (sizes_send, (option.the_send buffered_conn.the_row buffered_conn_sent.the_send, tt))),
+      )
+
+-- A worker may go to another thread where its tokens and its scribe may.
+module _ (T S : RattleType) (tokens : TokenGhosts T.Denot) (scribe : ScribeGhosts S.Denot T.Denot) (token : IsSend T)
+    (own : IsSend S) where
+  worker_send : IsSend (worker.the_row T S tokens scribe)
+  worker_send =
+      view_send _ _ _ _ _
+      (declared_send (in_worker.the_type T S tokens scribe) (
+        shard.the_send,
+        (
+          shard_ends_send T tokens token,
+          (
+            option.the_send held.the_row hand.the_send,
+            (search (sendable, crosses) depth 20, (as_row_send (row_field S) own, tt)),
+          ),
+        ),
+      ))
+
+  -- With its gate it may where the gate may, and may be shared.
+  pub working_send : (G : RattleType) → IsSend G → IsSync G → IsSend (working.the_row G T S scribe tokens)
+  working_send G gate shared =
+      declared_send (working.the_type G T S scribe tokens) (
+        worker_send,
+        (
+          search (gate, shared, sendable, crosses) depth 20,
+          (wakers.the_send, (search (sendable, crosses) depth 20, (search (sendable, crosses) depth 20, tt))),
+        ),
+      )
+
+slot_send : (D L : RattleType) → IsSend D → IsSend L → IsSend (slot.the_row D unit unit L no_clerk no_token)
+slot_send D L source line =
+    declared_send (slot.the_type D unit unit L no_clerk no_token) (
+      session_send unit unit no_token no_clerk no_send no_send,
+      (slot_state.the_send L line, (as_row_send (row_field D) source, tt)),
+    )
+
+seats_send : (D L : RattleType) → IsSend D → IsSend L → IsSend (seats.the_row D unit unit L no_clerk no_token)
+seats_send D L source line =
+    declared_send (seats.the_type D unit unit L no_clerk no_token)
+    (vec_send (slot.the_row D unit unit L no_clerk no_token) (slot_send D L source line), (search sendable, tt))
+
+-- What one thread serves may go to it where its sources, their lines, the clock and the gate may, and the gate may be
+-- shared.
+pub part_send : (D G K L : RattleType) → IsSend D → IsSend G → IsSync G → IsSend K → IsSend L
+    → IsSend (part.the_row D G K unit unit L no_clerk no_token)
+part_send D G K L source gate shared clock line =
+    declared_send (part.the_type D G K unit unit L no_clerk no_token) (
+      seats_send D L source line,
+      (
+        vec_send (working.the_row G unit unit no_scribe no_token)
+            (working_send unit unit no_token no_scribe no_send no_send G gate shared),
+        (poller.the_send, (pool.the_send, (sizes_send, (as_row_send (row_field K) clock, tt)))),
+      ),
+    )

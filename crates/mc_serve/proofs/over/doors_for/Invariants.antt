@@ -1,8 +1,0 @@
--- The doors made so far, then the lines that are left.
-use Rattle.std.proofs.Common.{◌≡◌, ◌++◌, map}
-use Rattle.std.specs.Vec.Iter.{into_iter_items}
-use Rattle.mc_doors.specs.One.{told_of, waits}
-use Rattle.mc_serve.proofs.over.doors_for.Given as goal
-
-abbrev pub invariant-loop-line : goal.invariant-loop-line
-invariant-loop-line g l = map (λ door. told_of (λ line. g.L.Outlet.sight line) door) l.doors.items ++ map (λ line. waits (g.L.Outlet.sight line)) (into_iter_items l.line-iterator) ≡ map (λ line. waits (g.L.Outlet.sight line)) l.fn.lines.items

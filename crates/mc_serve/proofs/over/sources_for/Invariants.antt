@@ -1,0 +1,11 @@
+-- The sources made so far, then the lines that are left.
+use Rattle.std.proofs.Common.{◌≡◌, ◌++◌, map}
+use Rattle.std.specs.Vec.Iter.{into_iter_items}
+use Rattle.mc_doors.specs.One.{told_of, waits}
+use Rattle.mc_serve.proofs.over.sources_for.Given as goal
+
+abbrev pub invariant-loop-line : goal.invariant-loop-line
+invariant-loop-line g l =
+    map (λ source. told_of (λ line. g.L.Sink.sight line) source) l.sources.items
+    ++ map (λ line. waits (g.L.Sink.sight line)) (into_iter_items l.line-iterator)
+    ≡ map (λ line. waits (g.L.Sink.sight line)) l.fn.lines.items

@@ -1,8 +1,0 @@
--- The workers served the words so far.
-use Rattle.std.proofs.Common.{List, map}
-use Rattle.mc_worker.specs.Desk.{Desk, Goes}
-use Rattle.mc_wake.specs.Zips.{Zips}
-use Rattle.mc_serve.proofs.part.serve_callers.Given as goal
-
-abbrev pub invariant-loop-word : goal.invariant-loop-word
-invariant-loop-word g l = (begun : List Desk) → Zips Goes begun (map (λ one. one.worker) l.fn.workers.items) → Zips Goes begun (map (λ one. one.worker) l.workers.items)

@@ -1,0 +1,62 @@
+//! Why a server doesn't serve.
+use mc_ring::RingError;
+use mc_wake::ThreadGroupError;
+use std::alloc::AllocError;
+use thiserror::Error;
+
+/// Why lines were not served. Of `Memory` and `Thread` nothing was read of any line nor written to
+/// it.
+#[derive(Clone, Copy, Debug, Error)]
+pub enum ServeError {
+    /// There is no memory for the shards, the connections or the rings, or the system gives no
+    /// random bytes for a hash.
+    #[error("out of memory for the shards, the connections or the rings, or no random bytes from the system")]
+    Memory,
+    /// A thread could not be started.
+    #[error("a thread can't be started: fewer shards, or a higher limit of threads")]
+    Thread,
+    /// The listener can't be made, or accepts no more connections.
+    #[error("the address can't be listened on, or its listener accepts no more connections")]
+    Bind,
+}
+
+impl From<AllocError> for ServeError {
+    ghost use Rattle.std.specs.Prelude.{◌≡◌};
+    ghost use Rattle.mc_serve.specs.declared.error.ServeError.TheVariants.{Memory};
+
+    ghost from_gives = { λ _ refusal. refusal ≡ Memory };
+
+    fn from(_error: AllocError) -> ServeError {
+        ServeError::Memory
+    }
+}
+
+impl From<ThreadGroupError> for ServeError {
+    ghost use Rattle.std.specs.Prelude.{◌≡◌, ◌≢◌};
+    ghost use Rattle.mc_wake.specs.declared.thread_group.ThreadGroupError.TheVariants as thread_group;
+    ghost use Rattle.mc_serve.specs.declared.error.ServeError.TheVariants.{Bind, Memory, Thread};
+
+    ghost from_gives = { λ why refusal.
+        (why ≡ thread_group.Memory → refusal ≡ Memory) ×
+        (why ≡ thread_group.Thread → refusal ≡ Thread) ×
+        (refusal ≢ Bind) };
+
+    fn from(refusal: ThreadGroupError) -> ServeError {
+        match refusal {
+            ThreadGroupError::Memory => ServeError::Memory,
+            ThreadGroupError::Thread => ServeError::Thread,
+        }
+    }
+}
+
+impl From<RingError> for ServeError {
+    ghost use Rattle.std.specs.Prelude.{◌≡◌};
+    ghost use Rattle.mc_serve.specs.declared.error.ServeError.TheVariants.{Memory};
+
+    ghost from_gives = { λ _ refusal. refusal ≡ Memory };
+
+    fn from(_refusal: RingError) -> ServeError {
+        // The caller hands sizes within the limits, so no ring is refused for its size.
+        ServeError::Memory
+    }
+}

@@ -1,0 +1,225 @@
+//! What one thread serves.
+ghost use Rattle.mc_sizes.specs.Sizes.{rules_of};
+ghost use Rattle.std.specs.Prelude.{◌≡◌, List, IfOk, IsTrue, map};
+ghost use Rattle.std.specs.List.{AllByRecursion};
+ghost use Rattle.mc_threads.specs.Session.{seat_ends};
+ghost use Rattle.mc_worker.specs.WorkerState.{WorkerState, Goes};
+ghost use Rattle.mc_wake.specs.Zips.{Zips};
+ghost use Rattle.mc_threads.specs.Working.{Finishes};
+ghost use Rattle.mc_serve.specs.Seats.{HasSatDown, SeatServes, seat_at};
+ghost use Rattle.mc_serve.specs.declared.connection_slot.SlotState.TheVariants as slot_state;
+
+use crate::connection_slot::ConnectionSlot;
+use crate::slot_table::SlotTable;
+use mc_doors::ConnectionSource;
+use mc_ring::Token;
+use mc_seat::{BufferPool, Clerk, Clock};
+use mc_sizes::Sizes;
+use mc_threads::Working;
+use mc_wake::{Poller, Task};
+use mc_worker::Gate;
+use std::alloc::{AllocError, Global};
+use std::sync::Wait;
+
+/// Any number of seats and any number of workers, which one thread serves. In each turn the seats
+/// come first: what they send is on the channels before a worker waits at its gate. They come once
+/// more behind the workers, for the replies given in this turn.
+pub struct Reactor<D: ConnectionSource, G, K, T: Token = (), C: Clerk<T> = ()> {
+    pub(crate) seats: SlotTable<D, T, C>,
+    pub(crate) workers: Vec<Working<G>>,
+    poller: Poller,
+    pool: BufferPool,
+    sizes: Sizes,
+    clock: K,
+}
+
+impl<D: ConnectionSource + Drop, G: Drop, K: Drop, T: Token + Drop, C: Clerk<T> + Drop> Drop
+    for Reactor<D, G, K, T, C> {
+    /// By hand, so that to let one go is one call for whoever holds it (docs/DECISIONS.md).
+    fn drop(self) {
+        let Reactor {
+            seats: _seats,
+            workers: _workers,
+            poller: _poller,
+            pool: _pool,
+            sizes: _sizes,
+            clock: _clock,
+        } = self;
+    }
+}
+
+impl<
+    D: ConnectionSource + Drop,
+    G: Gate + Drop,
+    K: Clock + Drop,
+    T: Token + Drop,
+    C: Clerk<T> + Drop,
+> Reactor<D, G, K, T, C> {
+    /// The part that serves these seats and these workers, which any seat of the server may call.
+    /// The poller is its thread's.
+    pub(crate) fn new(
+        alloc: Global,
+        seats: Vec<ConnectionSlot<D, T, C>>,
+        workers: Vec<Working<G>>,
+        poller: Poller,
+        sizes: Sizes,
+        clock: K,
+    ) -> Result<Reactor<D, G, K, T, C>, AllocError>
+        requires { AllByRecursion (λ one.
+            HasSatDown sizes.shards (rules_of sizes) (D.told one.source) one.session one.slot_state)
+            seats.items }
+        ensures ready { IfOk result (λ part.
+            AllByRecursion (λ one.
+            HasSatDown part.sizes.shards (rules_of part.sizes) (D.told one.source) one.session
+            one.slot_state) part.seats.all.items) }
+        ensures seats { IfOk result (λ part. part.seats.all ≡ seats) }
+        ensures workers { IfOk result (λ part. part.workers ≡ workers) }
+        ensures sizes { IfOk result (λ part. part.sizes ≡ sizes) }
+        ensures clock { IfOk result (λ part. part.clock ≡ clock) }
+    {
+        Ok(Reactor {
+            seats: SlotTable::new(seats),
+            workers,
+            poller,
+            pool: BufferPool::new(alloc)?,
+            sizes,
+            clock,
+        })
+    }
+
+    /// Serves by turns until each seat has closed its channels and each worker has ended.
+    fn run<R: Wait>(&mut self, rt: &R)
+        requires { AllByRecursion (λ one.
+            HasSatDown self.old.sizes.shards (rules_of self.old.sizes) (D.told one.source)
+            one.session
+            one.slot_state) self.old.seats.all.items }
+        ensures seats { Zips
+            (SeatServes self.old.sizes.shards (rules_of self.old.sizes)
+            (K.may_answer self.old.clock))
+            (map (λ one. seat_at (D.told one.source) (seat_ends one.session))
+            self.old.seats.all.items)
+            (map (λ one. seat_at (D.told one.source) (seat_ends one.session))
+            self.new.seats.all.items) }
+        ensures workers { Zips Finishes (map (λ one. one.worker) self.old.workers.items)
+            (map (λ one. one.worker) self.new.workers.items) }
+    {
+        for _ in rt.forever() {
+            let stepped = self
+                .seats
+                .step(&mut self.poller, &self.clock, &mut self.pool);
+            let served = serve_callers(&mut self.workers, &self.poller);
+            let answered = self
+                .seats
+                .step(&mut self.poller, &self.clock, &mut self.pool);
+            if stepped || served || answered {
+                self.poller.found();
+            } else if self.is_done() {
+                return;
+            } else {
+                self.poller.wait(rt);
+            }
+        }
+        unreachable!()
+    }
+
+    /// Whether each seat has closed its channels and each worker has ended.
+    fn is_done(&self) -> bool
+        ensures over { IsTrue result →
+            AllByRecursion (λ one. one.slot_state ≡ slot_state.Over) self.now.seats.all.items }
+        ensures ended { IsTrue result →
+            AllByRecursion
+            (λ one. (begun : WorkerState) → Goes begun one.worker → Finishes begun one.worker)
+            self.now.workers.items }
+    {
+        if !self.seats.are_over() {
+            return false;
+        }
+        have_ended(&self.workers)
+    }
+
+    /// The seats and the workers, once they were served.
+    pub(crate) fn apart(self) -> (Vec<ConnectionSlot<D, T, C>>, Vec<Working<G>>)
+        ensures seats { result.0 ≡ self.seats.all }
+        ensures workers { result.1 ≡ self.workers }
+    {
+        let Reactor {
+            seats,
+            workers,
+            poller: _poller,
+            pool: _pool,
+            sizes: _sizes,
+            clock: _clock,
+        } = self;
+        (seats.into_all(), workers)
+    }
+}
+
+/// Has each worker serve the seats that called. Whether one had called.
+fn serve_callers<G: Gate + Drop>(workers: &mut Vec<Working<G>>, poller: &Poller) -> bool
+    ensures { (begun : List WorkerState) →
+        Zips Goes begun (map (λ one. one.worker) workers.old.items) →
+        Zips Goes begun (map (λ one. one.worker) workers.new.items) }
+{
+    let (first, end) = poller.called_words();
+    for word in first..end {
+        let more = serve_word(workers, word, poller.callers_in(word));
+        poller.call_again(word, more);
+    }
+    first < end
+}
+
+/// Has each worker serve those of the 64 seats of a word that have a bit. It gives those that may
+/// have more for one of them.
+fn serve_word<G: Gate + Drop>(workers: &mut Vec<Working<G>>, word: usize, called: u64) -> u64
+    ensures { (begun : List WorkerState) →
+        Zips Goes begun (map (λ one. one.worker) workers.old.items) →
+        Zips Goes begun (map (λ one. one.worker) workers.new.items) }
+{
+    let mut more = 0;
+    for place in 0..workers.len() {
+        let working = &mut workers[place];
+        more |= working.turn(word, called);
+    }
+    more
+}
+
+/// Whether each worker has ended.
+fn have_ended<G: Gate + Drop>(workers: &Vec<Working<G>>) -> bool
+    ensures { IsTrue result →
+        AllByRecursion (λ one. (begun : WorkerState) → Goes begun one.worker →
+        Finishes begun one.worker)
+        workers.now.items }
+{
+    for place in 0..workers.len() {
+        if !workers[place].ended() {
+            return false;
+        }
+    }
+    true
+}
+
+impl<
+    D: ConnectionSource + Drop,
+    G: Gate + Drop,
+    K: Clock + Drop,
+    T: Token + Drop,
+    C: Clerk<T> + Drop,
+> Task for Reactor<D, G, K, T, C> {
+    ghost is_ready = { λ part.
+        AllByRecursion (λ one.
+        HasSatDown part.sizes.shards (rules_of part.sizes) (D.told one.source) one.session
+        one.slot_state) part.seats.all.items };
+
+    ghost does = { λ sat rose.
+        Zips (SeatServes sat.sizes.shards (rules_of sat.sizes) (K.may_answer sat.clock))
+        (map (λ one. seat_at (D.told one.source) (seat_ends one.session)) sat.seats.all.items)
+        (map (λ one. seat_at (D.told one.source) (seat_ends one.session)) rose.seats.all.items) ×
+        Zips Finishes (map (λ one. one.worker) sat.workers.items)
+        (map (λ one. one.worker) rose.workers.items) };
+
+    fn work<R: Wait>(self, rt: &R) -> Reactor<D, G, K, T, C> {
+        let mut part = self;
+        part.run(rt);
+        part
+    }
+}

@@ -1,0 +1,9 @@
+use Rattle.std.proofs.Common.{refl}
+use Rattle.mc_item.specs.Kind.{kind_of}
+use Rattle.mc_split.specs.Pieces.{pieces_of}
+use Rattle.mc_reply.specs.ReplyKind.{reply_kind_of}
+use Rattle.mc_split.proofs.planner.Planner.pending_reply_of_meta_get_value.Goals as goal
+
+pub returns : goal.returns
+unfolding pieces_of reply_kind_of kind_of
+returns c = λ shards key. rw (c.pending_reply_of_one.ensures, c.new.ensures, c.empty.ensures) refl

@@ -1,0 +1,5 @@
+use Rattle.mc_store.proofs.Accesses.{seen_absent}
+use Rattle.mc_store.proofs.items.Items.get_without_touch.Goals as goal
+
+pub returns-in_default-clause-seen : goal.returns-in_default-clause-seen
+returns-in_default-clause-seen c = seen_absent c.args.access c.args.key.now c.args.self.now c.in_default.ensures

@@ -1,7 +1,0 @@
-use Rattle.std.proofs.Common.{sym}
-use Rattle.mc_store.specs.Shard.{IsShard}
-use Rattle.mc_store.proofs.shard.Shard.tally.Goals as goal
-
-pub returns : goal.returns
-unfolding IsShard
-returns c = λ state h. sym h.tally

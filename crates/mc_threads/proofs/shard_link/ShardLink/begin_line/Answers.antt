@@ -1,0 +1,13 @@
+-- The clerk has opened a connection, of which nothing is recorded.
+use Rattle.mc_threads.proofs.Recording.{line_begins, routes_still}
+use Rattle.mc_ring.specs.EndsLaws.{same_ends-refl}
+use Rattle.mc_threads.proofs.shard_link.ShardLink.begin_line.Goals as goal
+
+pub returns-clause-begins : goal.returns-clause-begins
+returns-clause-begins g c before told none nothing width past =
+    line_begins g.C.Clerk c.args.self.now.clerk c.«open».new.self before told none nothing width c.«open».ensures.opened
+    c.«open».ensures.taken c.«open».ensures.work c.«open».ensures.answers past
+
+pub invariant_of-self-clause-routed : goal.invariant_of-self-clause-routed
+invariant_of-self-clause-routed g c keeps =
+    routes_still _ _ _ _ c.«open».ensures.route (same_ends-refl c.args.self.now.ends) (c.args.self.now.routed keeps)

@@ -1,0 +1,61 @@
+-- It carries on; and once all is settled, it goes on with the line.
+use Rattle.std.proofs.Common.{inl, inr, sym}
+use Rattle.mc_threads.proofs.Carrying.{may_still}
+use Rattle.mc_threads.proofs.Serving.{all_zero, may_carry, records_line, serves_carried, settled_complete, settled_says}
+use Rattle.mc_threads.proofs.Serving.{settles}
+use Rattle.mc_threads.proofs.shard_link.ShardLink.step.Goals as goal
+
+pub receive_all-requires : goal.receive_all-requires
+receive_all-requires g c =
+    may_carry c.args.self.now c.note_taken.new.self _ c.note_taken.ensures.ends c.note_taken.ensures.under_way
+    c.note_taken.ensures.records c.requires
+
+pub send_all-requires : goal.send_all-requires
+send_all-requires g c =
+    may_still _ _ _ _ _ _ _ _ _
+    (may_carry c.args.self.now c.note_taken.new.self _ c.note_taken.ensures.ends c.note_taken.ensures.under_way
+    c.note_taken.ensures.records c.requires) c.receive_all.ensures.goes
+
+pub returns-then-not-is_idle-clause-says : goal.returns-then-not-is_idle-clause-says
+returns-then-not-is_idle-clause-says g c shards rules begin before serves =
+    let noted = c.note_taken.ensures in
+    let recorded = records_line shards rules _ begin _ before c.args.self.now c.note_taken.new.self _ noted.ends
+    noted.under_way noted.records serves in
+    let received = serves_carried _ shards rules _ begin _ before _ c.receive_all.new.self _ _
+    c.receive_all.ensures.goes recorded in
+    (serves_carried _ shards rules _ begin _ before _ c.send_all.new.self _ _ c.send_all.ensures.goes received).serves
+
+pub returns-then-not-is_idle-clause-called : goal.returns-then-not-is_idle-clause-called
+returns-then-not-is_idle-clause-called g c waits = c.send_all.new.self.all_called c.send_all.ensures.called
+
+pub returns-then-not-is_idle-clause-waits : goal.returns-then-not-is_idle-clause-waits
+returns-then-not-is_idle-clause-waits g c waits = inl (sym c.if-not-is_idle.ensures)
+
+pub returns-then-self-clause-says : goal.returns-then-self-clause-says
+returns-then-self-clause-says g c shards rules begin before serves =
+    let noted = c.note_taken.ensures in
+    let recorded = records_line shards rules _ begin _ before c.args.self.now c.note_taken.new.self _ noted.ends
+    noted.under_way noted.records serves in
+    let received = serves_carried _ shards rules _ begin _ before _ c.receive_all.new.self _ _
+    c.receive_all.ensures.goes recorded in
+    (serves_carried _ shards rules _ begin _ before _ c.send_all.new.self _ _ c.send_all.ensures.goes received).serves
+
+pub returns-clause-says : goal.returns-clause-says
+returns-clause-says g c shards rules begin before serves =
+    let noted = c.note_taken.ensures in
+    let recorded = records_line shards rules _ begin _ before c.args.self.now c.note_taken.new.self _ noted.ends
+    noted.under_way noted.records serves in
+    let received = serves_carried _ shards rules _ begin _ before _ c.receive_all.new.self _ _
+    c.receive_all.ensures.goes recorded in
+    let idle = all_zero c.send_all.new.self.under_way.items (sym c.if-not-is_idle.ensures) in
+    let settled = settles _ shards rules _ begin _ before _ c.send_all.new.self _ _ c.send_all.ensures.goes
+    c.if-self.false idle received in
+    let says = c.go_on.ensures.says settled.serves.received begin settled.serves.told settled.serves.stopped
+    (settled_complete _ _ _ _ _ _ _ _ settled) in
+    settled_says c.go_on.result shards rules _ begin _ _ before _ _ c.go_on.new.self settled says
+
+pub returns-clause-called : goal.returns-clause-called
+returns-clause-called g c waits = c.send_all.new.self.all_called c.send_all.ensures.called
+
+pub returns-clause-waits : goal.returns-clause-waits
+returns-clause-waits g c waits = inr (c.go_on.ensures.waits waits)

@@ -1,0 +1,38 @@
+-- What a clerk has recorded of the line that a shard link serves. A clerk that keeps no record has nothing to say.
+use Rattle.std.specs.Prelude.{ℕ, ◌≡◌, List, map}
+use Rattle.mc_ring.specs.Ends.{Ends}
+use Rattle.mc_ring.specs.Channel.{Near}
+use Rattle.mc_ring.specs.Reply.{Shown}
+use Rattle.mc_conn.specs.History.{carried_out}
+use Rattle.mc_conn.specs.Told.{Told}
+use Rattle.mc_seat.specs.Clerk.{IsKept}
+use Rattle.mc_seat.specs.declared.clerk.Clerk.{Ghosts}
+use Rattle.mc_threads.specs.Routes.{IsUpToDate}
+use Rattle.mc_threads.specs.declared.shard_link.ShardLink.{ShardLink}
+
+module _ {T C : Type 0} (g : Ghosts C T) where
+  -- A connection is opened, and the record is of the one that was told this, since the ends were as before.
+  abbrev pub RecordsLine : C → Ends Near → Told → (ℕ → List Shown) → Type 0
+  RecordsLine clerk before told received =
+      g.keeps → g.opened clerk × IsKept (g.work clerk) (g.taken clerk) (g.answers clerk) before told received
+
+  -- And all that the connection took is recorded.
+  abbrev pub RecordsAll : C → Ends Near → Told → (ℕ → List Shown) → Type 0
+  RecordsAll clerk before told received =
+      g.keeps → (g.opened clerk × IsKept (g.work clerk) (g.taken clerk) (g.answers clerk) before told received)
+      × (g.taken clerk ≡ map carried_out told.taken)
+
+  -- No line is served, and the record is of what has passed on the ends.
+  abbrev pub RecordsPast : C → Ends Near → Type 0
+  RecordsPast clerk ends = g.keeps → IsUpToDate (g.work clerk) (g.answers clerk) ends
+
+module _ {T C : Type 0} {g : Ghosts C T} where
+  -- the same of a shard link's clerk
+  abbrev pub RecordsLineOf : ShardLink T C g → Ends Near → Told → (ℕ → List Shown) → Type 0
+  RecordsLineOf shard_link = RecordsLine g shard_link.clerk
+
+  abbrev pub RecordsAllOf : ShardLink T C g → Ends Near → Told → (ℕ → List Shown) → Type 0
+  RecordsAllOf shard_link = RecordsAll g shard_link.clerk
+
+  abbrev pub RecordsPastOf : ShardLink T C g → Ends Near → Type 0
+  RecordsPastOf shard_link = RecordsPast g shard_link.clerk
