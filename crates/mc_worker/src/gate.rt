@@ -1,19 +1,19 @@
-//! A gate that a worker passes before each piece.
+//! Gate: a hook that a worker calls before and after it runs pieces.
 use mc_reply::Ticket;
 use mc_store::Shard;
 
-/// Is called before a shard runs a piece. Whoever wants to hold workers up, or to see what they
-/// run, gives one of their own.
+/// A hook of a worker. Tests use one to stop workers or to observe what they run; the server uses
+/// one to publish counters.
 pub trait Gate {
-    /// The shard of this number is about to run a piece of the command of this ticket.
+    /// Called before the shard of this number runs a piece of the command of this ticket.
     fn before(&self, shard: usize, ticket: Ticket);
 
-    /// The shard of this number has run all that was there for it: what it holds and what it has
-    /// counted may be looked at. Nothing is done where a gate doesn't say otherwise.
+    /// Called after the shard of this number has run all pieces that were there, to read its
+    /// contents and counts. Does nothing by default.
     fn after(&self, _number: usize, _shard: &Shard) {}
 }
 
-/// A gate that lets every piece through at once.
+/// A gate that does nothing.
 #[derive(Clone, Copy)]
 pub struct OpenGate;
 

@@ -1,5 +1,5 @@
-//! The worker of a shard, which takes pieces from the channels of the seats, runs them and gives
-//! the replies, and the gate that it passes before each piece.
+//! The worker of a shard: it takes pieces from the channels of the seats, runs them and sends the
+//! replies. A gate is called before each piece, and a scribe may record what was run.
 #![tactic(auto)]
 
 mod gate;

@@ -4,8 +4,8 @@ use mc_ring::Token;
 use mc_split::Piece;
 use std::snapshot::Snapshot;
 
-/// Keeps the record of what a shard runs, and makes the tokens that go with its replies. The record
-/// has of each entry the seat that the piece came from.
+/// Records what a shard runs, and makes the tokens of its replies. Each entry of the record has the
+/// seat that the piece came from.
 pub trait Scribe<T: Token> {
     ghost use Rattle.std.specs.Prelude.{ℕ, ◌≡◌, ◌++◌, ◌∷◌, [], List, Some, length, map};
     ghost use Rattle.std.specs.List.{slice_get};
@@ -26,11 +26,11 @@ pub trait Scribe<T: Token> {
     // The shard's state before the record.
     ghost begin: { Self → State };
 
-    // What was run since.
+    // The record: what was run since then.
     ghost log: { Self → List Entry };
 
-    /// Takes up the token of a piece that came from this seat, and records that it was run with
-    /// this answer.
+    /// Consumes the token of a piece that came from this seat, and records that the piece was run
+    /// with this answer.
     fn runs(&mut self, seat: usize, token: T, piece: Snapshot<Piece>, answer: &Answer)
         requires may { Self.keeps self.old → T.may_send (Self.route self.old seat)
             (map request.Piece (pieces_in (of_asker seat (Self.log self.old))))
@@ -47,7 +47,7 @@ pub trait Scribe<T: Token> {
         ensures route { Self.route self.new ≡ Self.route self.old }
         ensures begin { Self.begin self.new ≡ Self.begin self.old };
 
-    /// A token for the next reply to a seat.
+    /// Makes the token of the next reply to a seat.
     fn token(&mut self) -> T
         ensures shows { (seat : ℕ) (route : Route) (before : List Shown) (reply : Shown) →
             (Self.keeps self.old → (route ≡ Self.route self.old seat)
@@ -60,7 +60,7 @@ pub trait Scribe<T: Token> {
         ensures begin { Self.begin self.new ≡ Self.begin self.old };
 }
 
-/// Keeps no record.
+/// The scribe that keeps no record; its tokens are empty.
 impl Scribe<()> for () {
     ghost use Rattle.std.specs.Prelude.{[]};
     ghost use Rattle.mc_ring.specs.Route.{no_history};

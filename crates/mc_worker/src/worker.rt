@@ -1,4 +1,4 @@
-//! The worker of one shard: it takes pieces from the seats' channels, runs them and gives the
+//! The worker of one shard: it takes pieces from the seats' channels, runs them and sends the
 //! replies.
 ghost use Rattle.std.specs.Prelude.{◌≡◌, ◌≢◌, ◌<◌, ◌↔◌, IsTrue, None, true, length, [], IfOk, IfSome};
 ghost use Rattle.std.specs.Bool.{OnTrue};
@@ -27,23 +27,23 @@ use std::marker::Model;
 use std::random::RandomSource;
 use std::snapshot::Snapshot;
 
-/// Turns that are made for one seat before the worker looks at the next. A piece takes two: it is
-/// run, and its reply is given.
+/// Maximum number of turns for one seat before the worker serves the next one. A piece takes two: it
+/// is run, and its reply is sent.
 const CHANNEL_TURNS: usize = 64;
 
-/// What a turn of a worker did.
+/// The outcome of a turn.
 #[derive(Clone, Copy, Debug, PartialEq, Eq)]
 pub enum Turn {
-    /// The reply in its hand went out.
+    /// The pending reply was sent.
     Gave,
-    /// The reply stays in its hand, since the ring was full.
+    /// The pending reply was not sent, since the ring was full.
     Blocked,
-    /// No request of the seat was there, or its End has come before.
+    /// No request of the seat was there, or its `End` was received before.
     Nothing,
-    /// The seat's End has come.
+    /// The seat's `End` was received.
     Ended,
-    /// A piece of the seat was run, and the reply is in its hand. The moment is in seconds since
-    /// 1970.
+    /// A piece of the seat was run, and its reply is pending. `moment` is the time of the piece, in
+    /// seconds since 1970.
     Ran {
         ticket: Ticket,
         part: usize,
@@ -51,37 +51,37 @@ pub enum Turn {
     },
 }
 
-/// What a worker found for a seat, and what it left there.
+/// The outcome of serving a seat.
 #[derive(Clone, Copy, Debug, PartialEq, Eq)]
 pub enum Served {
-    /// Nothing was on the channel, and no reply waited to be given.
+    /// The channel was empty, and no reply was pending.
     Nothing,
-    /// Something was done, until nothing was left.
+    /// Some turns were made, and the channel is empty.
     All,
-    /// Something was done, and there may be more.
+    /// Some turns were made, and there may be more to do.
     Part,
 }
 
-/// A reply that is not given yet, with its seat.
+/// A reply that is not sent yet, with its seat.
 #[derive(Drop)]
 struct Hand {
     seat: usize,
     reply: Reply,
 }
 
-/// The worker of one shard. A scribe records what it runs, and its replies go with the scribe's
-/// tokens.
+/// The worker of one shard. It holds at most one reply that is not sent yet. A scribe records what
+/// it runs, and makes the tokens of its replies.
 pub struct Worker<T: Token = (), S: Scribe<T> = ()> {
     shard: Shard,
     ends: ShardEnds<T>,
     hand: Option<Hand>,
-    /// Of each channel, whether its End is still to come.
+    /// Whether the `End` of each channel is still to come.
     live: Vec<bool>,
     scribe: S,
 }
 
 impl<T: Token + Drop, S: Scribe<T> + Drop> Drop for Worker<T, S> {
-    /// By hand, so that to let one go is one call for whoever holds it (docs/DECISIONS.md).
+    /// Written by hand, so that its owners drop it by a single call (docs/DECISIONS.md, F20).
     fn drop(self) {
         let Worker {
             shard: _shard,
@@ -125,7 +125,8 @@ impl<T: Token, S: Scribe<T>> Model for Worker<T, S> {
 }
 
 impl Worker<(), ()> {
-    /// The worker of a shard, over ends on which nothing has passed. Nothing is recorded.
+    /// A worker of this shard over unused ends of its channels. It keeps no record. Fails if memory
+    /// is refused.
     pub fn new(alloc: Global, shard: Shard, ends: ShardEnds) -> Result<Worker, AllocError>
         requires { AllByRecursion IsUnused ends.channels }
         ensures ends { IfOk result (λ worker. worker.ends ≡ ends) }
@@ -133,14 +134,15 @@ impl Worker<(), ()> {
         ensures live { IfOk result (λ worker. AllByRecursion (λ live. live ≡ true) worker.live) }
         ensures marked { IfOk result (λ worker. length worker.live ≡ length worker.ends.channels) }
 
-        // It has run nothing.
+        // Nothing was run yet.
         ensures begins { IfOk result
             (λ worker. (begin : State) → IsShard shard begin → HasRun begin worker []) }
     {
         Worker::recorded(alloc, shard, ends, ())
     }
 
-    /// The worker of an empty shard of a server of these sizes. Nothing is recorded.
+    /// A worker of an empty shard of a server of these sizes, over unused ends. It keeps no record.
+    /// Fails if memory is refused.
     pub fn start<R: RandomSource>(
         rt: &R,
         alloc: Global,
@@ -155,7 +157,7 @@ impl Worker<(), ()> {
         ensures live { IfOk result (λ worker. AllByRecursion (λ live. live ≡ true) worker.live) }
         ensures marked { IfOk result (λ worker. length worker.live ≡ length worker.ends.channels) }
 
-        // It has run nothing.
+        // Nothing was run yet.
         ensures begins { IfOk result (λ worker. HasRun (empty_shard sizes ends.number) worker []) }
     {
         Worker::start_recorded(rt, alloc, ends, sizes, ())
@@ -163,8 +165,8 @@ impl Worker<(), ()> {
 }
 
 impl<T: Token + Drop, S: Scribe<T> + Drop> Worker<T, S> {
-    /// The worker of a shard, over ends on which nothing has passed, with a scribe that has
-    /// recorded nothing.
+    /// A worker of this shard over unused ends of its channels, with a scribe whose record is
+    /// empty. Fails if memory is refused.
     pub fn recorded(
         alloc: Global,
         shard: Shard,
@@ -180,7 +182,7 @@ impl<T: Token + Drop, S: Scribe<T> + Drop> Worker<T, S> {
         ensures live { IfOk result (λ worker. AllByRecursion (λ live. live ≡ true) worker.live) }
         ensures marked { IfOk result (λ worker. length worker.live ≡ length worker.ends.channels) }
 
-        // It has run nothing.
+        // Nothing was run yet.
         ensures begins { IfOk result
             (λ worker. (begin : State) → IsShard shard begin → HasRun begin worker []) }
     {
@@ -194,8 +196,8 @@ impl<T: Token + Drop, S: Scribe<T> + Drop> Worker<T, S> {
         })
     }
 
-    /// The worker of an empty shard of a server of these sizes, with a scribe that has recorded
-    /// nothing.
+    /// A worker of an empty shard of a server of these sizes, over unused ends, with a scribe whose
+    /// record is empty. Fails if memory is refused.
     pub fn start_recorded<R: RandomSource>(
         rt: &R,
         alloc: Global,
@@ -214,7 +216,7 @@ impl<T: Token + Drop, S: Scribe<T> + Drop> Worker<T, S> {
         ensures live { IfOk result (λ worker. AllByRecursion (λ live. live ≡ true) worker.live) }
         ensures marked { IfOk result (λ worker. length worker.live ≡ length worker.ends.channels) }
 
-        // It has run nothing.
+        // Nothing was run yet.
         ensures begins { IfOk result (λ worker. HasRun (empty_shard sizes ends.number) worker []) }
     {
         let number = ends.number();
@@ -224,19 +226,19 @@ impl<T: Token + Drop, S: Scribe<T> + Drop> Worker<T, S> {
         }
     }
 
-    /// Shows its shard to the gate.
+    /// Calls the gate's `after` with the shard.
     pub fn show<G: Gate>(&self, gate: &G) {
         gate.after(self.ends.number(), &self.shard);
     }
 
-    /// How many seats it serves.
+    /// Number of seats that it serves.
     pub fn seats(&self) -> usize
         ensures { result ≡ length self.now.ends.channels }
     {
         self.ends.seats()
     }
 
-    /// Whether the End of every channel has come. Every reply is given then. No memory is taken.
+    /// Whether the `End` of every channel was received; no reply is pending then. Allocates nothing.
     pub fn ended(&self) -> bool
         ensures ended { IsTrue result ↔ HasEnded self.now }
         ensures given { OnTrue result (self.now.hand ≡ None) }
@@ -245,9 +247,9 @@ impl<T: Token + Drop, S: Scribe<T> + Drop> Worker<T, S> {
         !self.live.contains(&true)
     }
 
-    /// One step: one push or one pop on one ring, and the work that goes with it. With a reply in
-    /// its hand the worker tries to give that; else it takes what waits on the seat's channel, and
-    /// a piece is run at once, after the gate was called.
+    /// One step: one push or one pop on one ring. If a reply is pending, tries to send it, whatever
+    /// seat it is for. Otherwise takes the next request of the seat; a piece is run at once, after
+    /// the gate was called.
     pub fn turn<G: Gate>(&mut self, alloc: Global, seat: usize, gate: &G) -> Turn
         requires { seat < length self.old.ends.channels }
         ensures turned { Turned self.old seat result self.new }
@@ -259,8 +261,8 @@ impl<T: Token + Drop, S: Scribe<T> + Drop> Worker<T, S> {
         self.step(alloc, seat, gate)
     }
 
-    /// How many requests and how many replies wait on its channel of a seat, whose ends must be of
-    /// the same call of `channels`. No memory is taken.
+    /// Number of requests and of replies that wait on the channel of a seat, whose ends must be of
+    /// one call of `channels`. Allocates nothing.
     pub fn beside(&mut self, seat: &mut SeatEnds<T>) -> (usize, usize)
         requires { IsChannel seat.old self.old.ends }
         ensures looked { LooksAtBoth seat.old seat.new self.old.ends self.new.ends result.0
@@ -273,9 +275,8 @@ impl<T: Token + Drop, S: Scribe<T> + Drop> Worker<T, S> {
         beside(seat, &mut self.ends)
     }
 
-    /// Turns for one seat as long as its channel brings something, but no more than
-    /// `CHANNEL_TURNS`. It marks the seats that a reply was given to, so that their threads can be
-    /// woken.
+    /// Makes turns for one seat while its channel has requests, at most `CHANNEL_TURNS`. Sets
+    /// `given` for each seat that a reply was sent to, so that its thread can be woken.
     pub fn serve<G: Gate>(
         &mut self,
         alloc: Global,
@@ -290,7 +291,7 @@ impl<T: Token + Drop, S: Scribe<T> + Drop> Worker<T, S> {
         ensures others { MarksNoOther self.old seat given.old given.new }
         ensures serves { result ≢ Served.Nothing → ServesSeat self.old seat self.new }
         ensures rests { result ≡ Served.Nothing → FindsNothing self.old seat self.new }
-        // Its channel is left with nothing on it.
+        // The seat's channel is empty.
         ensures all { result ≡ Served.All → LeavesNothing self.old seat self.new }
     {
         let _ = &self.shard;
@@ -312,7 +313,7 @@ impl<T: Token + Drop, S: Scribe<T> + Drop> Worker<T, S> {
         Served::Part
     }
 
-    /// The seat that the reply in its hand is for.
+    /// The seat of the pending reply, if there is one.
     pub fn holder(&self) -> Option<usize>
         ensures held { result ≡ option_map (λ held. held.0) self.now.hand }
         ensures within { IfSome result (λ seat. seat < length self.now.ends.channels) }
@@ -321,7 +322,7 @@ impl<T: Token + Drop, S: Scribe<T> + Drop> Worker<T, S> {
         Some(hand.seat)
     }
 
-    /// A turn, without what it leaves of the log.
+    /// A turn; its contract leaves the log out.
     fn step<G: Gate>(&mut self, alloc: Global, seat: usize, gate: &G) -> Turn
         requires { seat < length self.old.ends.channels }
         ensures { Turned self.old seat result self.new }
@@ -339,7 +340,7 @@ impl<T: Token + Drop, S: Scribe<T> + Drop> Worker<T, S> {
         }
     }
 
-    /// Takes what waits on the seat's channel, and runs it where it is a piece.
+    /// Takes the next request of the seat, if there is one, and runs it if it is a piece.
     fn take_from<G: Gate>(&mut self, alloc: Global, seat: usize, gate: &G) -> Turn
         requires seat { seat < length self.old.ends.channels }
         requires free { self.old.hand ≡ None }
