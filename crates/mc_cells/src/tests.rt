@@ -1,4 +1,4 @@
-//! Texts that are stored and removed, beside a plain list of them.
+//! Stores and removes texts, and compares them with a plain list.
 ghost use Rattle.std.specs.Prelude.{◌≡◌, length, IfOk};
 
 mod shelf;

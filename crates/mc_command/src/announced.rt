@@ -1,4 +1,4 @@
-//! The bytes behind a line that belong to it, computed from the length of its block alone.
+//! The bytes after a line that belong to it, computed from the length of its block alone.
 ghost use Rattle.std.specs.Prelude.{ℕ, ◌≡◌};
 ghost use Rattle.std.specs.Option.{option_and_then, option_copied};
 ghost use Rattle.std.specs.List.{slice_get};
@@ -16,7 +16,7 @@ use crate::name::{CommandName, read_name};
 use crate::rules::Rules;
 use mc_wire::{WordWalk, words};
 
-/// Number of bytes behind a line that belong to it, under the native rules; see
+/// Number of bytes after a line that belong to it, under the native rules; see
 /// `announced_bytes_with_rules`. It doesn't depend on the value limit.
 pub fn announced_bytes(line: &[u8]) -> u64
     ensures { (limit : ℕ) → result ≡ bytes_behind (line_of (own limit) (words_of line.now)) }
@@ -24,8 +24,8 @@ pub fn announced_bytes(line: &[u8]) -> u64
     announced_bytes_with_rules(line, Rules::own(0))
 }
 
-/// Number of bytes behind a line that belong to it: its data block with the line end, or what is
-/// skipped behind a refused line; 0 if there is nothing (protocol.txt, "Storage commands"). Parses
+/// Number of bytes after a line that belong to it: its data block with the line end, or what is
+/// skipped after a refused line; 0 if there is nothing (protocol.txt, "Storage commands"). Parses
 /// the line as `read_line_with_rules` does; the result doesn't depend on the value limit. Allocates
 /// nothing.
 #[tactic(auto, unfolding(crate::specs::Table::line_of), using(crate::proofs::Behind::behind_shown))]
@@ -50,7 +50,7 @@ fn block_bytes(count: Option<u32>) -> u64
     }
 }
 
-/// The length of the block announced by a command of this name, from the words behind the name.
+/// The length of the block announced by a command of this name, from the words after the name.
 fn announced_behind(rules: Rules, name: CommandName, walk: WordWalk<'_>) -> Option<u32>
     ensures { result ≡ count_named rules name (words_left walk.entry) }
 {
@@ -62,7 +62,7 @@ fn announced_behind(rules: Rules, name: CommandName, walk: WordWalk<'_>) -> Opti
     }
 }
 
-/// The length of the block announced by `cas`, from the words behind the name.
+/// The length of the block announced by `cas`, from the words after the name.
 fn announced_behind_cas(rules: Rules, mut walk: WordWalk<'_>) -> Option<u32>
     ensures { result ≡ cas_count_in rules (words_left walk.entry) }
 {
@@ -73,7 +73,7 @@ fn announced_behind_cas(rules: Rules, mut walk: WordWalk<'_>) -> Option<u32>
     announced_by_cas(rules, count, walk.next())
 }
 
-/// The length of the block announced by `cas`, from its word and the unique behind it. By
+/// The length of the block announced by `cas`, from its word and the unique after it. By
 /// memcached's rules there is no block if the unique is missing.
 pub(crate) fn announced_by_cas(
     rules: Rules,

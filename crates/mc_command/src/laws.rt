@@ -16,7 +16,7 @@ pub fn data_can_be_given_up()
 
 /// The order of a meta line's flags determines only the order in which they are returned. With its
 /// flags in another order, the line is the same command but for that, or it is refused too, with as
-/// many bytes skipped behind it.
+/// many bytes skipped after it.
 #[tactic(auto, using(crate::proofs::FlagOrder::flags_reordered))]
 pub fn flags_in_any_order()
     ensures { FlagsInAnyOrder }

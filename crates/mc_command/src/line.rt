@@ -30,7 +30,7 @@ pub enum Line {
     Whole(Command),
     /// A storage command with a placeholder as its block, and the block's length.
     Data(Command, u32),
-    /// A refused line; nothing behind it is skipped.
+    /// A refused line; nothing after it is skipped.
     Refused(CommandError),
     /// A refused line, and the number of bytes to skip behind it: its block and line end. If there
     /// is a key, its item is deleted: by memcached's rules a value that is too large leaves no old
@@ -69,7 +69,7 @@ pub fn read_line_with_rules(alloc: Global, line: &[u8], rules: Rules) -> Line
     read
 }
 
-/// Parses the words behind a command's name.
+/// Parses the words after a command's name.
 #[tactic(auto, using(crate::proofs::GivingUp::says_whole, crate::proofs::Lines::get_may, crate::proofs::Lines::gat_may, crate::proofs::Lines::delete_may, crate::proofs::Lines::count_may, crate::proofs::Lines::touch_may, crate::proofs::Lines::flush_may, crate::proofs::Told::verbosity_told, crate::proofs::Told::stats_told, crate::proofs::Told::shutdown_told, crate::proofs::Told::says_told))]
 fn read_named(alloc: Global, name: CommandName, walk: WordWalk<'_>, rules: Rules) -> Line
     ensures says { Says (line_named rules name (words_left walk.entry)) result }

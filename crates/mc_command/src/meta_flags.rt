@@ -82,11 +82,11 @@ enum Flag {
     Initial(u64),
     /// `F`.
     ClientFlags(u32),
-    /// A flag that only asks to be returned.
+    /// A flag that is only returned.
     Bare,
 }
 
-/// Parses the flags of a line: the words behind the key and the length. The first invalid flag
+/// Parses the flags of a line: the words after the key and the length. The first invalid flag
 /// determines the refusal.
 pub(crate) fn read_flags(
     rules: Rules,

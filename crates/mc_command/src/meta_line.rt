@@ -1,4 +1,4 @@
-//! Parsing of meta commands from the words behind the name (protocol.txt, "Meta Commands").
+//! Parsing of meta commands from the words after the name (protocol.txt, "Meta Commands").
 ghost use Rattle.std.specs.Prelude.{◌≡◌};
 ghost use Rattle.mc_wire.specs.Words.{words_left};
 ghost use Rattle.mc_command.specs.Line.{Says};
@@ -21,7 +21,7 @@ use crate::rules::Rules;
 use mc_wire::{Key, WordWalk};
 use std::alloc::Global;
 
-/// Parses a meta command from the words behind its name.
+/// Parses a meta command from the words after its name.
 #[tactic(auto, unfolding(crate::specs::Meta::meta_line_of))]
 pub(crate) fn read_meta(alloc: Global, name: MetaKind, walk: WordWalk<'_>, rules: Rules) -> Line
     ensures { Says (meta_line_of rules name (words_left walk.entry)) result }
@@ -62,7 +62,7 @@ fn read_with_block(alloc: Global, mut walk: WordWalk<'_>, rules: Rules) -> Line
     )
 }
 
-/// Parses the key and the flags behind it.
+/// Parses the key and the flags after it.
 fn read_command(
     alloc: Global,
     rules: Rules,

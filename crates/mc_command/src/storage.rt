@@ -1,4 +1,4 @@
-//! Classic storage commands, with the length of the block behind the line.
+//! Classic storage commands, with the length of the block after the line.
 ghost use Rattle.std.specs.Prelude.{◌≡◌};
 ghost use Rattle.std.specs.Option.{option_copied};
 ghost use Rattle.mc_wire.specs.Words.{words_left};

@@ -133,7 +133,7 @@ fn word_at(line: &str, place: usize) -> &str
     words.nth(place).unwrap_or("")
 }
 
-/// The hexadecimal number behind the first colon of a word, if there is one.
+/// The hexadecimal number after the first colon of a word, if there is one.
 fn behind_colon(word: &str) -> Option<u64>
     ensures { result ≡ behind_colon word.now }
 {

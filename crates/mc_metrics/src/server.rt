@@ -195,8 +195,8 @@ impl MetricsServer {
     }
 
     /// Accepts pending clients, a limited number per turn. Returns whether there may be more. If no
-    /// file is left, a client is dropped for the next one, if another has come or nobody asked
-    /// since the last turn.
+    /// file is left, a client is dropped for the next one, if another has come or no request has
+    /// come since the last turn.
     fn let_in<R: RandomSource>(&mut self, rt: &R, asked: bool) -> bool {
         for place in 0..COMERS {
             match self.entry.accept() {
@@ -218,7 +218,7 @@ impl MetricsServer {
         if self.visitors.len() >= MAX_VISITORS {
             self.dismiss_one();
         }
-        // There is room for all who stay.
+        // There is room for all that are kept.
         let _ = self.visitors.push(Visitor::new(self.alloc, keys, stream));
     }
 

@@ -106,7 +106,7 @@ impl Buffer {
         }
     }
 
-    /// Appends as much of the piece as fits behind the bytes without moving any, and returns the
+    /// Appends as much of the piece as fits after the bytes without moving any, and returns the
     /// number of bytes.
     pub(crate) fn push(&mut self, piece: &[u8]) -> usize
         ensures within { result ≤ length piece.now }

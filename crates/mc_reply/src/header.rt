@@ -6,7 +6,7 @@ ghost use Rattle.std.specs.List.{concat};
 use crate::number::{DIGIT_LIMIT, place_number};
 
 /// Buffer size for the longest header: `VALUE`, key, client flags, size and cas unique, with a
-/// short value behind it.
+/// short value after it.
 pub const HEADER_LIMIT: usize = 512;
 
 /// Buffer size that suffices for a short key. A buffer is zeroed before use, so a smaller one is
@@ -22,7 +22,7 @@ pub const LINE_BESIDE_KEY: usize = 48;
 /// Maximum size of a value that is written together with its header.
 pub const SHORT_VALUE: usize = 120;
 
-/// Copies a part to index `at` of the buffer, and returns the index behind it.
+/// Copies a part to index `at` of the buffer, and returns the index after it.
 #[inline(always)]
 pub fn place(room: &mut [u8], at: usize, part: &[u8]) -> usize
     requires { at + length part.now ≤ length room.old }
@@ -52,7 +52,7 @@ pub fn place_line(room: &mut [u8], key: &[u8], flags: u32, size: usize) -> usize
     place_number(room, end, size as u64)
 }
 
-/// Copies a cas unique and the line end to index `at`, and returns the index behind them.
+/// Copies a cas unique and the line end to index `at`, and returns the index after them.
 #[inline(always)]
 pub fn place_unique(room: &mut [u8], at: usize, unique: u64) -> usize
     requires { at + DIGIT_LIMIT + 3 ≤ length room.old }

@@ -6,7 +6,7 @@ pub fn quiet_replies_are_empty_or_loud()
     ensures { IsEmptyOrLoud }
 {}
 
-/// Only the reply to `stats` depends on what is known of the server.
+/// Only the reply to `stats` depends on the server's statistics.
 pub fn only_stats_shows_the_server()
     ensures { ShowsServerByStats }
 {}

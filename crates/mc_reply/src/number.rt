@@ -7,7 +7,7 @@ use itoa::Buffer;
 /// Maximum number of digits.
 pub const DIGIT_LIMIT: usize = 20;
 
-/// Writes a number to index `at` of the buffer, and returns the index behind it. Numbers of up to
+/// Writes a number to index `at` of the buffer, and returns the index after it. Numbers of up to
 /// three digits, as most client flags and sizes are, are written directly, others through a
 /// temporary buffer.
 #[inline(always)]

@@ -1,4 +1,4 @@
-//! Pending replies: what is known of a reply before the answers come, and a slot for each answer.
+//! Pending replies: what a reply depends on besides its answers, and a slot for each answer.
 ghost use Rattle.std.specs.Prelude.{◌≡◌, ◌<◌, ◌↔◌, ◌∷◌, [], Some, None, IsTrue, IfOk, length, replicate, slice_set};
 ghost use Rattle.mc_reply.specs.Server.{pending_reply_of_server};
 ghost use Rattle.mc_reply.specs.Slots.{missing_in};
@@ -28,7 +28,7 @@ pub enum ReplyKind {
         keys: Keys,
         with_unique: bool,
     },
-    /// The counts of all shards together, and what is known of the server.
+    /// The sums over all shards, and the server's statistics.
     Stats(ServerStats),
     /// The reply of a meta command.
     Meta {
@@ -191,8 +191,7 @@ impl Drop for PendingReply {
 }
 
 impl PendingReply {
-    /// The pending reply of the same reply, of this server: that of `stats` shows it, and any other
-    /// stays as it is.
+    /// Sets the server's statistics of a pending reply to `stats`; any other is returned unchanged.
     pub fn of_server(self, server: ServerStats) -> PendingReply
         ensures { result ≡ pending_reply_of_server server self }
     {

@@ -1,14 +1,15 @@
-//! What `stats` shows beside the counts of the shards (protocol.txt, "General-purpose statistics").
+//! What `stats` shows besides the counts of the shards (protocol.txt, "General-purpose
+//! statistics").
 ghost use Rattle.std.specs.Prelude.{◌≡◌};
 ghost use Rattle.mc_reply.specs.Server.{no_server};
 
-/// A server's process, connections and traffic when a `stats` was taken. No shard has them: whoever
-/// takes the command hands them in.
+/// A server's process, connections and traffic when a `stats` was taken. No shard has them; the
+/// caller that takes the command passes them in.
 #[derive(Clone, Copy)]
 pub struct ServerStats {
     /// The id of the process.
     pub pid: u64,
-    /// For how many seconds the server has run.
+    /// Uptime of the server in seconds.
     pub uptime: u64,
     /// The time, in seconds since 1970.
     pub time: u64,
@@ -16,13 +17,13 @@ pub struct ServerStats {
     pub user_time: u64,
     /// CPU time of the kernel for the process, in hundredths of a second.
     pub system_time: u64,
-    /// How many connections are served at a time at most.
+    /// Maximum number of connections served at a time.
     pub max_connections: u64,
-    /// How many are served.
+    /// Number of connections served.
     pub curr_connections: u64,
-    /// How many were accepted.
+    /// Number of connections accepted.
     pub total_connections: u64,
-    /// How many were refused, since all seats were taken.
+    /// Number of connections refused because all seats were taken.
     pub rejected_connections: u64,
     /// Bytes read from all connections.
     pub bytes_read: u64,
@@ -31,7 +32,7 @@ pub struct ServerStats {
 }
 
 impl ServerStats {
-    /// Zeros, where nothing is known.
+    /// All zero, if nothing is known.
     pub fn none() -> ServerStats
         ensures { result ≡ no_server }
     {

@@ -13,11 +13,10 @@ use mc_wire::{Sink, SinkError, put_parts, write_all};
 /// The memcached release that is reported with `--drop-in`.
 const RELEASE: &[u8] = b"1.6.18";
 
-/// How many numbers of the shards are of commands, and come before the traffic.
+/// Number of the shards' statistics that count commands; they come before the traffic.
 const COMMANDS: usize = 18;
 
-/// Writes what is known of the server, and the counts of all shards together, each of which has its
-/// slot.
+/// Writes the server's statistics, and the sums over all shards, each of which has a slot.
 pub fn put_stats<O: Sink>(
     out: &mut O,
     server: &ServerStats,
@@ -32,7 +31,7 @@ pub fn put_stats<O: Sink>(
     write_all(out, b"END\r\n")
 }
 
-/// Writes what is known of the process and of the connections.
+/// Writes the statistics of the process and of the connections.
 fn put_server<O: Sink>(out: &mut O, server: &ServerStats) -> Result<(), SinkError>
     ensures { Writes (server_text server.now) result (O.sight out.old) (O.sight out.new) }
 {
@@ -42,7 +41,7 @@ fn put_server<O: Sink>(out: &mut O, server: &ServerStats) -> Result<(), SinkErro
     put_connections(out, server)
 }
 
-/// Writes what the process is, and how long it has run.
+/// Writes the id of the process, its uptime and the time.
 fn put_process<O: Sink>(out: &mut O, server: &ServerStats) -> Result<(), SinkError>
     ensures { Writes (process_text server.now) result (O.sight out.old) (O.sight out.new) }
 {
@@ -56,7 +55,7 @@ fn put_process<O: Sink>(out: &mut O, server: &ServerStats) -> Result<(), SinkErr
     )
 }
 
-/// Writes its CPU time.
+/// Writes the CPU time of the process.
 fn put_times<O: Sink>(out: &mut O, server: &ServerStats) -> Result<(), SinkError>
     ensures { Writes (times_text server.now) result (O.sight out.old) (O.sight out.new) }
 {
@@ -81,7 +80,7 @@ fn put_times<O: Sink>(out: &mut O, server: &ServerStats) -> Result<(), SinkError
     )
 }
 
-/// Writes how many connections there are and were.
+/// Writes the numbers of connections.
 fn put_connections<O: Sink>(out: &mut O, server: &ServerStats) -> Result<(), SinkError>
     ensures { Writes (connections_text server.now) result (O.sight out.old) (O.sight out.new) }
 {
@@ -96,7 +95,7 @@ fn put_connections<O: Sink>(out: &mut O, server: &ServerStats) -> Result<(), Sin
     )
 }
 
-/// Writes the traffic, what the items may cost, and how many shards there are, each of which has a
+/// Writes the traffic, the limit of the items' cost, and the number of shards, each of which has a
 /// thread.
 fn put_traffic<O: Sink>(
     out: &mut O,
@@ -119,7 +118,7 @@ fn put_traffic<O: Sink>(
     )
 }
 
-/// Writes what the shards were asked.
+/// Writes the counts of commands.
 fn put_commands<O: Sink>(out: &mut O, slots: &[Option<Answer>]) -> Result<(), SinkError>
     ensures { Writes (sums_text slots.now command_stats) result (O.sight out.old)
         (O.sight out.new) }
@@ -128,7 +127,7 @@ fn put_commands<O: Sink>(out: &mut O, slots: &[Option<Answer>]) -> Result<(), Si
     put_sums(out, slots, commands)
 }
 
-/// Writes what the shards hold. The limit comes with the traffic.
+/// Writes the numbers and cost of items. Their limit is written with the traffic.
 fn put_items<O: Sink>(out: &mut O, slots: &[Option<Answer>]) -> Result<(), SinkError>
     ensures { Writes (sums_text slots.now item_stats) result (O.sight out.old) (O.sight out.new) }
 {
@@ -136,7 +135,7 @@ fn put_items<O: Sink>(out: &mut O, slots: &[Option<Answer>]) -> Result<(), SinkE
     put_sums(out, slots, items)
 }
 
-/// Writes each number of the shards.
+/// Writes these statistics, summed over all shards.
 fn put_sums<O: Sink>(out: &mut O, slots: &[Option<Answer>], stats: &[Stat]) -> Result<(), SinkError>
     ensures { Writes (sums_text slots.now stats.now) result (O.sight out.old) (O.sight out.new) }
 {

@@ -12,8 +12,8 @@ use std::time::Duration;
 /// Token of the thread's own waker. No slot has it.
 const NOTIFIER: Token = Token(usize::MAX);
 
-/// Maximum number of socket events per poll, beside one for the waker; further events come with the
-/// next poll.
+/// Maximum number of socket events per poll, not counting one for the waker; further events come
+/// with the next poll.
 const MAX_EVENTS: usize = 1_024;
 
 /// What the poll reported of a socket.

@@ -9,7 +9,7 @@ use crossbeam_utils::CachePadded;
 use std::alloc::{AllocError, Global};
 use std::sync::Arc;
 
-/// Ended connections, by those reasons that an operator may want to look into.
+/// Ended connections, by abnormal reason.
 #[derive(Drop)]
 pub struct EndCounts<C = Counter> {
     /// Spoke memcached's binary protocol.

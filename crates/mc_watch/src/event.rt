@@ -31,7 +31,7 @@ pub enum Manner {
     Shutdown,
 }
 
-/// Who a connection comes from.
+/// The peer of a connection.
 #[derive(Clone, Copy)]
 pub enum Peer {
     /// A client at this address.

@@ -28,7 +28,7 @@ pub struct Meter<C = Counter> {
     counts: Option<Arc<CachePadded<SeatCounts<C>>, Global>>,
     /// The idle timer, if there is an idle timeout.
     idle_timer: Option<IdleTimer<C>>,
-    /// The stage of the server's shutdown, if it can be asked to shut down.
+    /// The shutdown stage, if the shutdown can be requested.
     shutdown: Option<Shutdown<C>>,
 }
 

@@ -1,4 +1,4 @@
-//! Stop requests for the threads that work beside the server.
+//! Stop requests for the threads that run beside the server's own.
 use std::alloc::{AllocError, Global};
 use std::sync::atomic::{AtomicBool, Ordering};
 use std::sync::{Arc, Wait};
@@ -13,7 +13,7 @@ pub struct StopToken {
 }
 
 impl StopToken {
-    /// A handle without a request yet, shared by the thread and by whoever stops it.
+    /// A handle without a request yet; the thread and its owner share it.
     pub fn new(alloc: Global) -> Result<Arc<StopToken, Global>, AllocError> {
         let stop_token = StopToken {
             is_said: AtomicBool::new(false),

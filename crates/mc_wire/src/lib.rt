@@ -29,7 +29,7 @@ pub const DECODED_KEY_LIMIT: usize = 186;
 /// Maximum length in bytes of the base64 text of a key.
 pub const BASE64_LIMIT: usize = 336;
 
-/// Maximum length in bytes of the opaque token behind a meta command's flag `O`.
+/// Maximum length in bytes of the opaque token after a meta command's flag `O`.
 pub const OPAQUE_LIMIT: usize = 32;
 
 /// Default maximum length of a line in bytes, including its line feed.

@@ -27,8 +27,8 @@ use std::marker::Model;
 use std::random::RandomSource;
 use std::snapshot::Snapshot;
 
-/// Maximum number of turns for one seat before the worker serves the next one. A piece takes two: it
-/// is run, and its reply is sent.
+/// Maximum number of turns for one seat before the worker serves the next one. A piece takes two:
+/// it is run, and its reply is sent.
 const CHANNEL_TURNS: usize = 64;
 
 /// The outcome of a turn.
@@ -238,7 +238,8 @@ impl<T: Token + Drop, S: Scribe<T> + Drop> Worker<T, S> {
         self.ends.seats()
     }
 
-    /// Whether the `End` of every channel was received; no reply is pending then. Allocates nothing.
+    /// Whether the `End` of every channel was received; no reply is pending then. Allocates
+    /// nothing.
     pub fn ended(&self) -> bool
         ensures ended { IsTrue result ↔ HasEnded self.now }
         ensures given { OnTrue result (self.now.hand ≡ None) }

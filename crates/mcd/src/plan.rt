@@ -83,7 +83,7 @@ fn bytes_connected(sizes: &Sizes) -> u64
     bytes_at_start(sizes).saturating_add((sizes.seats as u64).saturating_mul(16_384))
 }
 
-/// The memory of an item beside its key and value, in bytes. An expiry adds to it, for entries in
+/// The memory of an item besides its key and value, in bytes. An expiry adds to it, for entries in
 /// the queue of items to check.
 fn bytes_beside(expires: bool) -> u64
     ensures { result ≡ bytes_beside expires }

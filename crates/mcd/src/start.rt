@@ -8,7 +8,7 @@ use mc_command::Profile;
 use mc_sizes::Sizes;
 use std::io::Eprint;
 
-/// The cost of an item beside its key and its value, and the length of the shortest key, in bytes.
+/// The cost of an item besides its key and its value, and the length of the shortest key, in bytes.
 const COST: usize = 65;
 
 /// Logs to standard error that the program listens at these places, with its name, version, rules,

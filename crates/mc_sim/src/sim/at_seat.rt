@@ -161,8 +161,8 @@ fn feed_some(alloc: Global, conn: &mut Conn, bytes: &[u8]) -> usize
     conn.feed(bytes)
 }
 
-/// Asks a connection whose commands are all parsed for the next one. There is none, so it is ready
-/// for more bytes.
+/// Requests the next command of a connection whose commands are all parsed. There is none, so it is
+/// ready for more bytes.
 fn refresh(alloc: Global, conn: &mut Conn)
     ensures { IfConn conn.old (λ told. Refreshed told conn.new) }
 {
@@ -171,14 +171,14 @@ fn refresh(alloc: Global, conn: &mut Conn)
     }
 }
 
-/// Asks a connection whose commands are all parsed for the next one.
+/// Requests the next command of a connection whose commands are all parsed.
 fn ask(alloc: Global, conn: &mut Conn)
     ensures { IfConn conn.old (λ told. IsAllTaken told → Refreshed told conn.new) }
 {
     let _ = conn.take(alloc, 0, &ServerStats::none());
 }
 
-/// Writes all replies that are due, behind the earlier output. Memory for all of them is reserved
+/// Writes all replies that are due, after the earlier output. Memory for all of them is reserved
 /// first.
 fn hand_out(alloc: Global, conn: &mut Conn, handed: &mut Vec<u8>) -> StepReply
     ensures { HandsInto conn.old handed.old.items result conn.new handed.new.items }
