@@ -3,7 +3,7 @@
 
     ../../tools/quick_rt.py check|lib|run|test ..   in a crate's folder, as `rt check` and so on
 
-`rt` sums up the files of all crates below one to see whether they have changed, and does so anew for each way that leads down to a
+`rt` sums up the files of all crates below one to see whether they have changed, and does so again for each way that leads down to a
 crate. There are thousands of ways from the upper crates, so that takes it minutes there before the prover begins. What is proved,
 built and kept is as `rt` leaves it.
 """
@@ -32,7 +32,7 @@ class Loader(importlib.machinery.SourceFileLoader):
         quicken(module)
 
 
-# One kit's `rt` imports `rtlib`, which lies beside it; another's loads it anew by this loader.
+# One kit's `rt` imports `rtlib`, which lies beside it; another's loads it again by this loader.
 sys.dont_write_bytecode = True
 sys.path.insert(0, os.path.dirname(RT))
 import rtlib  # noqa: E402 (the kit's module)

@@ -139,7 +139,7 @@ class World:
         return True
 
     def may_feed(self, c):
-        """Whether a feed is enabled and no free choice is left to it: every byte before it stands in a command taken."""
+        """Whether a feed is enabled and no free choice is left to it: every byte before it is in a command taken."""
         one = self.at[c]
         return one is not None and not one.ended and not one.broken and one.all_taken() and not one.closed()
 
@@ -216,7 +216,7 @@ class World:
         return True
 
     def told(self, done, idle):
-        """What the program must tell of it."""
+        """What the program must report of it."""
         lines = [f"conn {one.number} seat {one.seat} {one.out.hex() or '-'}" for one in self.connections]
         lines += ["log " + " ".join(map(str, entry)) for entry in self.log]
         return "\n".join(lines + [f"done {done} idle {idle}"]) + "\n"

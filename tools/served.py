@@ -131,7 +131,7 @@ class Server:
         return self.process.poll() is None
 
     def status_word(self, name):
-        """A number of kilobytes that the system tells of the process, in bytes."""
+        """A number of kilobytes that the system reports of the process, in bytes."""
         text = pathlib.Path(f"/proc/{self.process.pid}/status").read_text()
         return int(re.search(rf"^{name}:\s+(\d+)", text, re.M)[1]) * 1024
 

@@ -96,14 +96,14 @@ class Source:
                 # the head may be of several lines
                 end = next((it for it in range(number - 1, len(lines)) if "{" in lines[it]), number - 1)
                 name, of = head_of(" ".join(it.strip() for it in lines[number - 1 : end + 1]))
-                # the functions of a type stand where the type does
+                # the functions of a type are where the type is
                 block = [*self.modules.get(of, self.modules[file]), name]
             elif line.startswith("}"):
                 block = []
             if found := re.match(r"( *)(?:pub(?:\(.*?\))? )?(?:const )?(?:unsafe )?fn (\w+)", line):
                 stop = next((it for it in range(number, len(lines)) if re.match(found[1] + r"(\}|\S.*;$)", lines[it])), number)
                 text = "\n".join(lines[number - 1 : stop + 1])
-                # its attributes stand above it, and the checker names the first line of them
+                # its attributes are above it, and the checker names the first line of them
                 first = next((it + 2 for it in range(number - 2, -1, -1) if re.match(r" *($|\S.*[;{]$|\}|///)", lines[it])), 1)
                 path = "::".join([*(block or self.modules[file]), found[2]])
                 self.functions.append({"file": file, "first": first, "last": stop + 1, "name": found[2], "text": text, "path": path})

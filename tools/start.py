@@ -5,7 +5,7 @@
     tools/start.py --try                       compiles it before any proof, and shows its version
 
 All is proved as the modules of two crates, a library and the program (two_crates.py), by N processes: one for each core, and for
-4 GiB of memory, where nothing is said. A line tells how many functions of how many of a crate are checked. What was checked is
+4 GiB of memory, by default. A line shows how many functions of how many of a crate are checked. What was checked is
 kept, so one that was stopped goes on where it was. Nothing is built that isn't proved: where something isn't, what the prover says
 is shown, and nothing starts. The program then lies at crates/mcd/out/mcd, and while no file changes a later start begins at once.
 """
@@ -28,7 +28,7 @@ ASIDE = OUT / "two"
 MADE = ASIDE / "made"
 BYTES_A_PROCESS = 4 * 1024**3
 
-# How a line of `rt` begins and ends that tells how far it is; which of its lines, and how many, are shown where it fails.
+# How a line of `rt` begins and ends that shows how far it is; which of its lines, and how many, are shown where it fails.
 SO_FAR, CHECKED = "so far: ", "functions checked"
 FAULT = re.compile(r"error|not proved|killed|No space")
 SHOWN = 40
@@ -55,7 +55,7 @@ def minutes(seconds):
 
 @contextlib.contextmanager
 def written(crates):
-    """The folders of the crates, written aside. Their list of crates goes again: `rt ci` wants no second one in the repository."""
+    """The folders of the crates, written aside. Their list of crates is removed again: `rt ci` accepts no second one in the repository."""
     try:
         yield crates.write(ASIDE)
     finally:
@@ -63,7 +63,7 @@ def written(crates):
 
 
 def run(words, folder, begun, told):
-    """Runs `rt` in the folder of a crate, and tells how far it is; whether it succeeded. Where it didn't, what it said is shown."""
+    """Runs `rt` in the folder of a crate, and shows how far it is; whether it succeeded. If it didn't, what it said is shown."""
     said = []
     with subprocess.Popen(words, cwd=folder, stdout=subprocess.PIPE, stderr=subprocess.STDOUT, text=True, errors="replace") as rt:
         for line in map(str.rstrip, rt.stdout):

@@ -1,6 +1,6 @@
-"""Writes the program and the crates that it stands on as two crates, whose modules they are: a library, and the program.
+"""Writes the program and the crates that it depends on as two crates, whose modules they are: a library, and the program.
 
-Crate by crate the prover reads anew what lies below each, and a crate waits for all that it stands on. As one crate, what is proved
+Crate by crate the prover reads again what is below each, and a crate waits for all that it depends on. As one crate, what is proved
 late reads the whole proofs of all that it calls, with all that these read; of a library below it reads a part. So two are proved
 in less time than one crate or many (docs/DECISIONS.md). Paths change, the names of definitions and lemmas, and all modules can be seen.
 What mc_wire itself says, and what others say of it:
@@ -75,7 +75,7 @@ def without_unused_derives(text):
 
 
 class TwoCrates:
-    """A program with the crates below it, as they are written into two: a library, and the program that stands on it."""
+    """A program with the crates below it, as they are written into two: a library, and the program that depends on it."""
 
     def __init__(self, program):
         self.program = program
@@ -88,14 +88,14 @@ class TwoCrates:
         self.check()
 
     def check(self):
-        """Ends the program where a crate of the library stands on one that isn't in it."""
+        """Ends the program if a crate of the library depends on one that isn't in it."""
         for crate in OF_LOWER:
             for it in self.libraries[crate]:
                 if self.home.get(it) == self.program:
                     sys.exit(f"{crate} stands on {it}, which two_crates.py writes into the program")
 
     def of_kit(self, name):
-        """The libraries of the kit that a written crate and what it stands on use."""
+        """The libraries of the kit that a written crate and what it depends on use."""
         used = (it for crate, home in self.home.items() if name == self.program or home == name for it in self.libraries[crate])
         return list(dict.fromkeys(it for it in used if it not in self.libraries))
 
@@ -125,7 +125,7 @@ class TwoCrates:
         return re.sub(rf"\bRattle\.({self.any})\.(specs|proofs)\.", lambda it: f"Rattle.{self.home[it[1]]}.{it[2]}.{it[1]}.", text)
 
     def files_of(self, crate):
-        """Each file of a crate: where it stands in the one that it is written into, and its text."""
+        """Each file of a crate: where it is in the one that it is written into, and its text."""
         for part, ending in PARTS.items():
             root, folder = ROOTS[part], TOP / "crates" / crate / part
             for file in files(part, crate=crate):

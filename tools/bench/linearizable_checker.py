@@ -1,10 +1,10 @@
 """Decides whether the history of a key is linearizable: whether there is one order of its commands that gives each the reply
-that it got, and in which a command that ended before another began stands before it. `tools/bench/test_linearizable.py` records them.
+that it got, and in which a command that ended before another began comes before it. `tools/bench/test_linearizable.py` records them.
 
 A history is a list of `Call`s. What a call asks of the key's value, and what it makes of it, follows from its command and its
 reply (`rule_of`); values that clients store are all different, so a cas unique stands for the value that was read with it.
 
-The search goes through the begins and ends of calls in the order of time. It keeps each pair of a value that the key may hold
+The search follows the begins and ends of calls in the order of time. It keeps each pair of a value that the key may hold
 and the calls under way that have taken effect by then (Lowe, "Testing for linearizability", 2017). A call that changes nothing
 takes effect as soon as it can, and one that changes the value no sooner than some end needs it.
 """

@@ -1,5 +1,5 @@
 #!/usr/bin/env python3
-"""Tells where the time of a check went, by the times of the files that it kept.
+"""Shows where the time of a check was spent, by the times of the files that it kept.
 
     tools/bench/proof_times.py CRATE [--rows N]    of a crate that `rt check --jobs 1` proved from nothing (rm -rf its out/ before)
     tools/bench/proof_times.py FOLDER [--rows N]   of what another check by one process kept in a folder

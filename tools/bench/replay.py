@@ -5,8 +5,8 @@
 
 Each file has three seats and two shards on rings of 4, and events of all ten kinds, made by the seed: short feeds of
 sets, gets of one and of three keys, increments and flushes, and all that it takes to answer them, in any order. Of each
-length the best of some rounds is told: CPU seconds, CPU microseconds an event, how many of the events were done, and how
-many bytes were told. Where the time is linear in the length, the microseconds stay the same.
+length the best of some rounds is printed: CPU seconds, CPU microseconds an event, how many of the events were done, and how
+many bytes the report has. If the time is linear in the length, the microseconds stay the same.
 
 PROGRAM is the built program, crates/mcd/out/mcd where none is given (`rt run` in crates/mcd builds it).
 """
@@ -23,7 +23,7 @@ LENGTHS = (12_500, 25_000, 50_000, 100_000)
 SEATS, SHARDS = 3, 2
 HEADER = f"sim {SEATS} {SHARDS} 1048576 4"
 
-# How often each kind of event stands in a file, out of 1,000.
+# How often each kind of event is in a file, out of 1,000.
 KINDS = {"feed": 60, "take": 130, "send": 190, "pop": 220, "give": 140, "receive": 180, "hand": 70, "open": 8, "end": 1, "break": 1}
 
 
@@ -75,7 +75,7 @@ def spent():
 
 
 def run(program, path, rounds):
-    """The least CPU time of some rounds, and what the program told."""
+    """The least CPU time of some rounds, and what the program printed."""
     best, told = None, b""
     for _ in range(rounds):
         began = spent()

@@ -3,7 +3,7 @@
 
     python3 -m tools.bench.side_by_side [--rounds 5] [--seconds 3] [--seats 1024] [--only WORD] [--folder docs/benchmarks] [PROGRAM]
 
-Each round starts both servers anew, fills them with all keys, and runs every workload on the one and then on the
+Each round starts both servers again, fills them with all keys, and runs every workload on the one and then on the
 other; the next round begins with the other. tools/bench/load.c sends the requests and checks every reply. Printed are
 medians over the rounds: requests a second, CPU microseconds a request of the server (from /proc), the ratio of mcd to
 memcached of both, and the latencies that half of the requests, 99 of 100 and 999 of 1,000 don't pass. A workload of

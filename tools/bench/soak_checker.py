@@ -26,7 +26,7 @@ class Checker:
         self.count = 0
 
     def value(self, key):
-        """A value that tells whose it is, and of which command; no two are the same."""
+        """A value that names its key and its command; no two are the same."""
         stamp = b"%s/%d/" % (key, self.count)
         size = self.chance.choice((0, 10, 100, 100, 1000, 1000, 3000, 40_000))
         return stamp + self.chance.randbytes(max(0, size - len(stamp)))
@@ -72,7 +72,7 @@ class Checker:
             raise AssertionError(f"torn, foreign or out of date: {key!r} holds {found!r:.80} ({size}) in place of {held!r:.80} ({len(held)})")
 
     def misses(self, key):
-        """The key is gone, which is told; where it may not be, it was lost."""
+        """The key was missed. If it can't have been evicted, it was lost: a fault."""
         if self.held.pop(key, None) is not None and not self.may_vanish:
             raise AssertionError(f"lost: {key!r}")
 

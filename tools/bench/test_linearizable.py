@@ -100,7 +100,7 @@ def text_of(place, kind, given):
 
 
 def reply_of(kind, came):
-    """A value, a value with its unique, None where the key is absent, or the word that was told."""
+    """A value, a value with its unique, None if the key is absent, or the word of the reply."""
     words = came.decode().split()
     if kind in ("get", "gets"):
         return None if words == ["END"] else words[4] if kind == "get" else (words[5], words[4])
@@ -136,7 +136,7 @@ def drive(port, first, count, commands, seed):
 
 
 def as_worker():
-    """A process of a pool ends where it is told to, without a word."""
+    """A process of a pool ends by SIGTERM, without a message."""
     signal.signal(signal.SIGTERM, signal.SIG_DFL)
 
 
@@ -166,7 +166,7 @@ def told_in_memory(commands, seed):
 
 
 def calls_told(rows):
-    """The calls, with their keys, of which the rows tell: `line NUMBER`, then each call of that line."""
+    """The calls, with their keys, from the rows: `line NUMBER`, then each call of that line."""
     for row in rows:
         asked, bar, reply = row.partition("|")
         began, *words = asked.split()
@@ -232,7 +232,7 @@ def found_after_a_delete(history):
 
 
 def lost_count(history):
-    """An incr is lost: two of them tell the same number."""
+    """An incr is lost: two of them return the same number."""
     counts = [call for call in history if call.kind == "incr" and call.reply]
     for call in counts:
         for other in counts:

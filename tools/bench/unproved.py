@@ -4,7 +4,7 @@
     tools/bench/unproved.py OUT [CRATE]     the program of the crate (mcd where none is given), as the executable OUT
 
 `rt try` compiles a program before any proof, with checks of what a proof would show. Its module is taken from it here, those
-checks are taken out of it, and it is compiled as the program is. What the prover tells the compiler is missing, so it takes about
+checks are taken out of it, and it is compiled as the program is. What the compiler learns from the prover is missing, so it takes about
 a fifth more instructions than the proved program: compare such builds with one another alone, and serve nobody by one. It takes
 about three minutes.
 """

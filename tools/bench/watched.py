@@ -6,7 +6,7 @@
 One connection over TCP sends half sets and half gets, a value of 100 bytes each, without waiting for replies, and then the
 same commands awaiting each reply. Instructions are those of the thread that serves, outside system calls, counted by
 valgrind's callgrind as the difference of two runs, so that the start and the filling of the cache are left out. The threads
-that tell metrics and seconds work whether commands come or not, and are left out.
+that serve metrics and count seconds work whether commands come or not, and are left out.
 
 PROGRAM is the built program, crates/mcd/out/mcd where none is given.
 """

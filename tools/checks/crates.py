@@ -1,13 +1,13 @@
 #!/usr/bin/env python3
-"""Draws how the crates stand on one another, from crates.txt, and sees that docs/ARCHITECTURE.md shows it so and names each.
+"""Draws how the crates depend on one another, from crates.txt, and checks that docs/ARCHITECTURE.md shows it so and names each.
 
     tools/checks/crates.py            prints the picture
     tools/checks/crates.py --write    puts it into docs/ARCHITECTURE.md
     tools/checks/crates.py --check    fails where that page has another picture, or has no row for a crate, or where a line of
                                       crates.txt lists a crate that no file of its crate names
 
-A crate stands on those that an arrow leads to, and on all that these stand on; crates of the kit are left out. Each line is one
-layer higher than what its crates stand on.
+A crate depends on those that an arrow leads to, and on all that these depend on; crates of the kit are left out. Each line is one
+layer higher than what its crates depend on.
 """
 import pathlib
 import re
@@ -37,7 +37,7 @@ def unnamed():
 
 
 def reduced(crates):
-    """Each crate with those alone that it doesn't stand on by way of another."""
+    """Each crate with those alone that it doesn't depend on by way of another."""
     return {name: sorted(it for it in its if not any(it in below(other, crates) for other in its)) for name, its in crates.items()}
 
 

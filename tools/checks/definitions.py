@@ -7,7 +7,7 @@ the constants, each with the lines that a reader has to check.
     tools/checks/definitions.py --check    fails where docs/TRUSTED.md has others, or where a contract that README.md or docs/PROOFS.md
                                       quotes is not the one in the code (the gate does this)
 
-A definition is counted where a theorem reaches it, through others or alone, and stands behind those that it stands on; so is a
+A definition is counted where a theorem reaches it, through others or alone, and comes after those that it depends on; so is a
 type, and what its fields or its model name. Lines of imports, comments and attributes are not counted. What is private inside a
 type that has a model isn't reached: clauses see its model alone.
 """
@@ -44,8 +44,8 @@ THEOREMS = [
     ("mc_options/src/options.rt", ["read_options"]),
 ]
 
-# The inside of these isn't reached. That a simulator stands in a world is only ever said of the worlds to which its events lead:
-# it begins in the empty one, each step leads on from whichever it stands in, and what it shows is that world's. So any relation
+# The inside of these isn't reached. That a simulator is in a world is only ever said of the worlds to which its events lead:
+# it begins in the empty one, each step leads on from whichever it is in, and what it shows is that world's. So any relation
 # of which this is proved does as well.
 SEALED = {("mc_sim/specs/Stands.antt", "Stands"), ("mc_sim/src/sim.rt", "Sim")}
 
@@ -155,7 +155,7 @@ class Reached:
                 self.define(file, name)
 
     def reach(self, crate, path, name, said, alias):
-        """Reaches what stands at a place: a definition, a type or a constant of Rust's."""
+        """Reaches what is at a place: a definition, a type or a constant of Rust's."""
         if name == "*":
             for further in re.findall(rf"\b{alias}\.([\w.]+)", said):
                 first, _, second = further.partition(".")
@@ -214,7 +214,7 @@ def what_for(file):
 
 
 def in_order(files):
-    """Files of definitions in an order in which each comes after those that it stands on."""
+    """Files of definitions in an order in which each comes after those that it depends on."""
     found = []
 
     def put(file):

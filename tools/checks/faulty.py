@@ -302,7 +302,7 @@ def converse(fault, program, words):
 
 
 def few_seats(words):
-    """The words with a hundredth of the seats."""
+    """The words with 1% of the seats."""
     if "--seats" in words:
         at = words.index("--seats") + 1
         words[at] = str(max(1, int(words[at]) // 100))

@@ -9,7 +9,7 @@ one goes on in further lines, broken at its arrows first. A lemma that another f
 says in a sentence what it says. Something cites each lemma, and no two say the same: worked rows aside, which stand for themselves,
 and those inside a block (`module _ .. where`), which aren't looked at. A file uses each definition and lemma that it imports. No crate
 but those of tests makes a source of random bytes: no clause says where a secret is drawn from, and there is no other one to draw from then. A
-paragraph of the documents (a line that stands in no table and in no block of code) has at most 600 characters.
+paragraph of the documents (a line outside tables and blocks of code) has at most 600 characters.
 """
 import argparse
 import collections
@@ -33,7 +33,7 @@ IMPORTING = re.compile(r"^(?:pub(?:\(\w+\))? )?(?:ghost )?use [^;\n]*?(?:;|\n|\{
 SEPARATORS = re.compile(r"[\s(){}\[\],;.:]+")
 WORKED_ROWS = re.compile(r"Rows|Corners|Crossing")
 DOCUMENTS = ["docs/*.md", "README.md", "CONTRIBUTING.md", "tools/README.md"]
-# What the prover asks of one function stands in these: their names are its own.
+# These answer what the prover asks of one function: their names are its own.
 ANSWERS = {"Proof.antt", "Invariants.antt", "Answers.antt"}
 
 
@@ -46,7 +46,7 @@ def clauses():
 
 
 def cited():
-    """The names that other files import, with their modules, and those that a tactic is told to use."""
+    """The names that other files import, with their modules, and those that a tactic names."""
     names, told = set(), set()
     for file in files("proofs"):
         names |= {(module, there) for _, module, there, _ in imports(text_of(file))}
@@ -56,7 +56,7 @@ def cited():
 
 
 def lemmas():
-    """The lemmas that other files cite: the file, the line, the name, and whether a sentence stands above it."""
+    """The lemmas that other files cite: the file, the line, the name, and whether a sentence is above it."""
     names, told = cited()
     for file in files("proofs"):
         if file.name in ANSWERS:
@@ -110,7 +110,7 @@ def stated_twice():
 
 
 def is_used(name, text):
-    """Whether a text has a name; of an operator, the signs that stand between what it joins."""
+    """Whether a text has a name; of an operator, the signs between what it joins."""
     if "◌" in name or name == "[]":
         return all(part in text for part in name.split("◌"))
     return bool(re.search(rf"(?<![\w'-]){re.escape(name)}(?![\w'-])", text))

@@ -13,7 +13,7 @@ import sys
 TOP = pathlib.Path(__file__).resolve().parent.parent.parent
 SELF = pathlib.Path(__file__).resolve()
 
-# What may not stand in a file, and what to say of it.
+# What may not be in a file, and what to report of it.
 FORBIDDEN = [
     (re.compile(r"(?<![\w.~-])/(?:opt|work|tmp|root|home)/[a-z]"), "a path of a machine"),
     (re.compile(r"\.\./(?:\.\./)*(?:shared|\.library)\b"), "a folder beside the repository"),
@@ -39,7 +39,7 @@ def tracked_files():
 
 
 def quoted_away(line):
-    """The line without what stands in quotes or backquotes: protocol examples may hold any text."""
+    """The line without what is in quotes or backquotes: protocol examples may hold any text."""
     return re.sub(r'b?"[^"]*"|`[^`]*`', '""', line)
 
 

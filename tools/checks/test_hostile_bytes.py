@@ -60,7 +60,7 @@ def rows(drop_in=False):
 
 def spoken(options, given, piece=None):
     """The output for this input: whole, or in pieces of `piece` bytes, each of which is one read of the program (a pipe of
-    packets). The program must end with status 0 and tell nothing."""
+    packets). The program must end with status 0 and print no message."""
     if piece is None:
         ran = run(*options, given=given)
         assert (ran.returncode, ran.stderr) == (0, b"")
@@ -125,7 +125,7 @@ def replies_in(text):
 
 
 def is_replied(name, place, given, found):
-    """Each command that is whole in this input has its reply, but for those that may be silent, and nothing else is told."""
+    """Each command that is whole in this input has its reply, but for those that may be silent, and nothing else is written."""
     lines = list(commands_in(given))
     least = sum(not may_be_silent(line) for line in lines)
     count = replies_in(found)

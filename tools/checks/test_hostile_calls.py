@@ -1,4 +1,4 @@
-"""How the program is called: what it tells, and the status with which it ends."""
+"""How the program is called: its messages, and the status with which it ends."""
 import socket
 import subprocess
 import time
@@ -10,7 +10,7 @@ from tools.served import LISTENING, TOP, Line, Server, ended, mcd, run, running
 fails_with = pytest.mark.fails_with
 
 # Addresses that aren't one, or can't be listened on (192.0.2.1 is nobody's: RFC 5737).
-# Places where it can't listen. One that names no port is told with that of memcached.
+# Places where it can't listen. One that names no port is reported with that of memcached.
 NO_ADDRESSES = ["nonsense:1", ":", "256.0.0.1:1", "127.0.0.1:99999", "127.0.0.1:-1", "192.0.2.1:1", "unix:", "unix:/nonexistent/x"]
 WITHOUT_PORT = ["nonsense", "", "256.0.0.1"]
 
@@ -24,7 +24,7 @@ FAULTY_CALLS = [
 
 
 def is_refused_address(address, shown=None):
-    """The program tells that it can't listen, and why it can't listen there."""
+    """The program reports that it can't listen, and why it can't listen there."""
     status, out, told = ended("--listen", address)
     first, _, second = told.partition("\n")
     assert (status, out, first) == (1, "", "mcd: cannot listen"), address

@@ -136,7 +136,7 @@ def test_what_came_before_a_reset_is_stored(server, count=40):
 
 
 def counts_up(port, until, faults):
-    """The checker beside the kills: its own key is stored, counted up and read, and must be what it was told."""
+    """The checker beside the kills: its own key is stored, counted up and read, and must have the value that the replies reported."""
     try:
         with Line(port) as line:
             line.ask(set_of(b"checked", b"0"), STORED)

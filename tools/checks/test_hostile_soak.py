@@ -68,7 +68,7 @@ class LooksAway(Checker):
 
 
 class Proxy:
-    """Stands between one client and the server, and spoils one of the replies."""
+    """A proxy between one client and the server, which spoils one of the replies."""
 
     def __init__(self, port, spoil):
         self.listener = socket.create_server(("127.0.0.1", 0))

@@ -240,7 +240,7 @@ def socket_address(found):
 
 
 def listened_at(process):
-    """Where sockets listen in the network of the process, as the system tells it: those of IPv6 are no address of IPv4."""
+    """Where sockets listen in the network of the process, by the system's tables: those of IPv6 are no address of IPv4."""
     tables = [pathlib.Path(f"/proc/{process.pid}/net/{name}").read_text().splitlines()[1:] for name in ("tcp", "tcp6")]
     there, sixes = ([row.split()[1] for row in table if row.split()[3] == "0A"] for table in tables)
     return sorted(map(socket_address, there)) + sixes
@@ -363,7 +363,7 @@ def test_too_many_connections():
 HELD_UP = b"get a\r\nget b\r\nget c\r\n"
 LARGE = 8 * MIB
 
-# What is stored for it: `a` for good, `b` and `c` for two seconds.
+# What is stored for it: `a` without an expiry, `b` and `c` for two seconds.
 SHORT_LIVED = set_of(b"a", b"v" * LARGE) + b"set b 0 2 1\r\nx\r\nset c 0 2 1\r\ny\r\n"
 
 
@@ -452,7 +452,7 @@ SIZE = "expects a size from {0} to {1} bytes, such as 64k, 64m or 4g, not '{2}'"
 TWO_BUDGETS = "use only one of --bytes (for each shard), --memory and --memory-limit (for all shards)"
 ITEMS = "there is no option --items: limit the items of each shard by --bytes"
 
-# Calls, and what is told of them behind `mcd: `.
+# Calls, and their messages after `mcd: `.
 FAULTS = [
     ("--items 5", ITEMS), ("--items 5 --replay x --shards 2", ITEMS),
     *((f"--replay x --{name} 2", f"--{name} can't be used with --replay, which takes no other option")
@@ -491,7 +491,7 @@ def test_each_fault_of_the_command_line():
         assert ended(*call.split()) == (2, "", f"mcd: {text}\n"), call
 
 
-# Calls of which a word is no option, or an option stands there in another way than it may; and what the text must name.
+# Calls of which a word is no option, or an option that can't be used so; and what the text must name.
 WORDS = [
     ("--nope", "--nope"), ("nope", "nope"), ("--stdio nope", "nope"), ("--seats 1 --seats 2", "--seats"), ("--stdio --stdio", "--stdio"),
     ("--listen", "--listen"), ("--replay", "--replay"), ("--stdio --at", "--at"), ("--shards", "--shards"), ("--stdio=yes", "yes"),
@@ -557,7 +557,7 @@ def test_few_open_files_are_told():
 
 
 def ended_under(limit, *words):
-    """The status of a call under a limit, and what it tells last."""
+    """The status of a call under a limit, and its last message."""
     ran = subprocess.run(limited(limit, *words), stdin=subprocess.DEVNULL, stderr=subprocess.PIPE, timeout=30)
     return ran.returncode, ran.stderr.decode().splitlines()[-2:]
 

@@ -3,7 +3,7 @@ refusal. The tests are those that `rt ci`, or `rt test` in their crates, has jus
 
 The tests of what takes no memory are run so with all allocations from the first on refused, then with all from the
 second on, and so on: in the last such run every call that they test finds none. It fails where such a run fails, and
-where a test makes fewer allocations than it must: then the test no longer goes where memory is taken.
+where a test makes fewer allocations than it must: then the test no longer reaches what takes memory.
 
 Then the program itself is run so over one line, with a window of one, so that the allocations of a command come before those of
 the next. Where one is refused before anything was read, the program reports so and ends; later on, the reply
@@ -83,7 +83,7 @@ def runs(program, test, refusing):
 
 
 def replies_to(commands, environment=None):
-    """What the program answers to these commands, and how it ends: its status, and what it tells."""
+    """What the program answers to these commands, and how it ends: its status, and its messages."""
     ran = run(*OPTIONS, given=b"".join(commands) + b"quit\r\n", env=environment)
     return ran.stdout, ran.returncode, ran.stderr.replace(REFUSED + b"\n", b""), REFUSED in ran.stderr
 

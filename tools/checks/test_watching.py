@@ -148,7 +148,7 @@ def test_a_client_of_a_unix_socket_is_told():
 
 @fails_with("ignores that it is to be verbose")
 def test_each_connection_has_one_seat():
-    """While others are free: it is told of once, and all that it sends and gets goes over that seat, however it is cut."""
+    """While others are free: it is logged once, and all that it sends and gets passes that seat, however it is cut."""
     value = random.Random(1).randbytes(MIB)
     asked, answered = set_of(b"a", value) + b"get a\r\n", STORED + hit_of(b"a", value)
     with Server("--verbose", "--seats", 4) as server:
@@ -319,7 +319,7 @@ def test_an_accept_that_fails_is_told():
 
 
 class Watched(Server):
-    """A server that tells its metrics, on a port that the system chose."""
+    """A server that serves metrics, on a port that the system chose."""
 
     def __init__(self, *options, where="0", before=()):
         super().__init__("--metrics", where, *options, before=before)
@@ -735,7 +735,7 @@ def test_a_taken_address_is_told():
 
 
 def slowest_of(server, stop):
-    """The longest that one command took until told to stop, in seconds."""
+    """The longest that one command took until `stop` is set, in seconds."""
     slowest = 0
     with Line(server.port) as line:
         while not stop.is_set():

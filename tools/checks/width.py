@@ -5,7 +5,7 @@
     tools/checks/width.py --write    breaks such lines first, and lays their files out by the kit's formatter
     tools/checks/width.py .. TREE    of another copy of the repository
 
-A line is broken where the fewest brackets are open: behind the sign of a definition, before an arrow, between terms. What stands in a
+A line is broken where the fewest brackets are open: behind the sign of a definition, before an arrow, between terms. What is in a
 list of its own then has a line for each of its parts. An import of many names becomes several of the same module. A break that the
 formatter refuses, or by which the words of a file would change, isn't made.
 """

@@ -14,7 +14,7 @@ processor seconds an edit, so must-fail/ has what no function has to itself: wro
 tries those of classic-faults/ and wrong-bodies/, and of must-fail/ where it is asked to, many at a time: an edit changes one
 function, so the edits of different functions are made at once, and just these functions and those that they call are looked at.
 What the prover says of a function is said of its edit. An edit that isn't refused so, and one that changes more than one function
-or what stands in none, is tried by itself over the whole crate.
+or what is in none, is tried by itself over the whole crate.
 
 An edit shows something only where it is refused for what a contract says. So the checker's words are read: which goals it left
 open, of which function, or which lines of the proof files it refused. Each edit is of one kind, the best that its words give:
@@ -22,7 +22,7 @@ open, of which function, or which lines of the proof files it refused. Each edit
     contract   what the edited function ensures, or what its type promises, isn't met; or a caller's, where it has no contract
     loop       what a loop keeps, or its measure, isn't met
     call       a call that the edit wrote or changed has a `requires` that isn't met
-    lemma      a lemma or a worked row that the proofs stand on is false: so for constants
+    lemma      a lemma or a worked row that the proofs depend on is false: so for constants
     safety     an index, a sum or a cast isn't safe                                                              (a fault)
     elsewhere  the function that is refused is neither the edited one nor calls it                               (a fault)
     other call a call that the edit doesn't name has a `requires` that isn't met                                 (a fault)
@@ -63,7 +63,7 @@ OPEN_GOAL = re.compile(r"note: (?:\./)?src/(\S+?)\.rt:(\d+):\d+: it is not prove
 NOT_FOUND = re.compile(r"fn \w+::(\S+): no proof: [^;]*(?:;[^;]*)?`search` did not prove ([^;]*)")
 REFUSED_LINE = re.compile(r"(?:\./)?proofs/(\S+?)\.antt:\d+:\d+: error: (?:`([^`]*)`)?(.*)")
 NO_NAME = re.compile(r"has no field|is not in scope|has no `|was not admitted|which was rejected")
-# Of the one function that a check is told to look at, closures are counted beside it.
+# If a check is of one function, its closures are counted beside it.
 ENDED = re.compile(r"^(logic=not-proved|only=(\d+) proved=(?!\2\b)\d+)", re.M)
 PROVED = re.compile(r"^(logic=proved|only=(\d+) proved=\2)\b", re.M)
 UNREAD = re.compile(r"^(?:\./)?(?:src|specs)/\S+:\d+:\d+: error", re.M)

@@ -61,10 +61,10 @@ class Client:
         self.client.set(self.name(key), value, **self.silently)
 
     silently = {}
-    refusals = ()  # by what the client tells that the server refused a command
+    refusals = ()  # how the client reports that the server refused a command
 
     def is_refused(self, key, value):
-        """Whether the client tells that the value was not stored."""
+        """Whether the client reports that the value was not stored."""
         try:
             return not self.set(key, value)
         except self.refusals:

@@ -163,7 +163,7 @@ def growth(peer, row):
     first = peer.counters()
     reply = peer.ask(sent)
     last = peer.counters()
-    # Behind what is sent, and behind each `stats`, a key that isn't there was asked for.
+    # After what is sent, and after each `stats`, a key that isn't there is read.
     fences = {"cmd_get": 2, "get_misses": 2}
     grown = {name: last[name] - first[name] - fences.get(name, 0) for name in last if name in first}
     return reply, {name: by for name, by in grown.items() if by}

@@ -228,7 +228,7 @@ def is_same(ours, theirs):
 
 
 # What docs/PROTOCOL.md names as a difference: its name there, what the command looks like, and what our reply and memcached's
-# look like. Where no replies stand, a later command may be the first to show it, so each such command counts.
+# look like. Where no replies are given, a later command may be the first to show it, so each such command counts.
 LONG_EXPTIME = rb"(?<= )(4000000000|4294967295)(?= |$)"
 FAULT = rb"(CLIENT_ERROR [^\r]*|ERROR)\r\n"
 NAMED = [
@@ -258,7 +258,7 @@ NAMED = [
 # Those that are gone where mcd follows memcached's rules.
 GONE = ["exptimes have 64 bits", "too large a value leaves the old one", "`version`", "faults are shown in spite of noreply", "too few words",
         "`C` of `ms` in other modes", "too large to append", "`c` where `ms` stored nothing", "the order of marks"]
-# Those of which the replies tell beside the command.
+# Those that replies show, beside the command.
 NAMES = [*dict.fromkeys(name for name, _, _ in NAMED), "the order of marks", "what counts as a use", "numbers aren't padded"]
 
 
@@ -287,7 +287,7 @@ def in_our_order(reply):
 
 
 def without_use(reply):
-    """A reply without what it tells of the item's last use."""
+    """A reply without what it shows of the item's last use."""
     return re.sub(rb"(?<= )([hl])\d+(?=[ \r])", rb"\1", reply)
 
 

@@ -97,7 +97,7 @@ def prepare(sources, folder):
 
 
 def told_by(name, folder):
-    """What a test tells, on both streams. It ends with its servers, at the latest after TEST_SECONDS."""
+    """What a test prints, on both streams. It ends with its servers, at the latest after TEST_SECONDS."""
     shards = {SHARDS: "1"} if name in OF_ONE_SHARD else {}
     streams = {"stdin": subprocess.DEVNULL, "stdout": subprocess.PIPE, "stderr": subprocess.PIPE, "text": True, "errors": "replace"}
     words = [*WITH_US, "perl", "-It/lib", "-I.", f"t/{name}.t"]
@@ -113,7 +113,7 @@ def told_by(name, folder):
 
 
 def run(name, folder):
-    """How many assertions of a test hold, how many are answered otherwise as told, and what failed."""
+    """How many assertions of a test hold, how many are answered otherwise as OTHERWISE says, and what failed."""
     told, why = told_by(name, folder)
     otherwise, held, failed = OTHERWISE.get(name, {}), set(), []
     for refused, number, what in ASSERTION.findall(told):
