@@ -38,7 +38,7 @@ use Rattle.mc_history.proofs.Seeing.{part_heard, part_of}
 use Rattle.mc_seat.specs.Clerk.{AddsWork, IsDueAt}
 use Rattle.mc_record.specs.Clerk.{HasOpened, IsSeatActor, answers_at, connection_of, last_after, taken_now, work_at}
 
--- the same actor with these events
+-- an actor with these events
 abbrev with_events : Acting → List Event → Acting
 with_events actor events = record { name = actor.name; role = actor.role; events = events }
 

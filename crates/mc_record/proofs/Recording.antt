@@ -137,7 +137,7 @@ gives actor is seat route before reply at next =
     ) in
     subst (λ (r : Route). MayGive r before reply (record { name = actor.name; events = actor.events })) (sym at) allowed
 
--- the same actor once it has seen these events
+-- an actor once it has seen these events
 abbrev seeing : Acting → List Event → Acting
 seeing actor events = record { name = actor.name; role = actor.role; events = events }
 

@@ -52,7 +52,7 @@ answers_at actor shard = replies_in (ran_on (seat_of actor.role) shard actor.eve
 -- and is so now.
 pub record IsOwed (actor : Acting) (begin now : Sight) (bytes : List ℕ) : Type 0 where
   pub opened : HasOpened actor
-  -- what the connection was told, and the replies received for it, on ends that were so before it
+  -- what was done to the connection, and the replies received for it, on ends that were so before it
   pub told : Told
   pub before : Ends Near
   pub received : ℕ → List Shown

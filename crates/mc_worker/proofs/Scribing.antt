@@ -83,7 +83,7 @@ get_alike f [] (z ∷ ys) i y same here = absurd (cc same)
 get_alike f (x ∷ xs) (z ∷ ys) zero y same here = (x, refl, (let e : z ≡ y = same_Some z y here in cc (same, e)))
 get_alike f (x ∷ xs) (z ∷ ys) (suc i) y same here = get_alike f xs ys i y (cc same) here
 
--- The same ends have the same routes.
+-- Ends that stay keep their routes.
 pub routes_kept : (route : ℕ → Route) (old new : Ends Far) → AreSameEnds old new → AreOnRoutes route old
     → AreOnRoutes route new
 routes_kept route old new same are = record {

@@ -175,7 +175,7 @@ unchanged old new same sent received rest begin log had =
       each = all_here old new log same had.each;
     }
 
--- the same, where the past of one channel is as it was
+-- a worker of which one channel changed, but not its past, has run nothing more
 pub past_same : (says : Far → Far → Type 0) (seat : ℕ) (old new : WorkerState)
     → ((x y : Far) → says x y → y.past ≡ x.past) → AtChannel says seat old.ends new.ends → new
     ≡ record old { ends = new.ends } → RunsNoMore old new
