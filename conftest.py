@@ -50,7 +50,7 @@ def pytest_generate_tests(metafunc):
 
 
 def stand_in(folder, fault):
-    """A program that is the real one with this fault. No shell: it wants more open files than one of the tests leaves."""
+    """A program that is the real one with this fault. No shell: it needs more open files than one of the tests leaves."""
     program = folder / "mcd"
     words = [sys.executable, "-m", "tools.checks.faulty", fault, served.MCD]
     path = f"os.environ['PYTHONPATH'] = {str(served.TOP)!r}"

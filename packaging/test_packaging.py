@@ -304,7 +304,7 @@ def test_the_package_has_the_commits_version(package):
     ("packaging/mcd.default", r"--memory 64m", "--memory 65m"),
     ("docs/OPERATING.md", r"\Z", "\nSee docs/NOTHERE.md.\n"))
 def test_the_package_has_all_documents(package):
-    """And each page that a page names lies beside it."""
+    """And each page that a page names is beside it."""
     with tempfile.TemporaryDirectory() as folder:
         subprocess.run(["dpkg-deb", "--extract", package, folder], check=True, timeout=60)
         place = pathlib.Path(folder) / "usr/share/doc/mcd"

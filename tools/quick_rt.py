@@ -32,7 +32,7 @@ class Loader(importlib.machinery.SourceFileLoader):
         quicken(module)
 
 
-# One kit's `rt` imports `rtlib`, which lies beside it; another's loads it again by this loader.
+# One kit's `rt` imports `rtlib`, which is beside it; another's loads it again by this loader.
 sys.dont_write_bytecode = True
 sys.path.insert(0, os.path.dirname(RT))
 import rtlib  # noqa: E402 (the kit's module)

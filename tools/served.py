@@ -188,7 +188,7 @@ class Line:
         return bytes(found)
 
     def ask(self, sent, wanted):
-        """Sends what fits into the buffers on the way, and wants this reply."""
+        """Sends what fits into the buffers on the way, and expects this reply."""
         self.send(sent)
         equal(self.read(len(wanted)), wanted)
 

@@ -7,7 +7,7 @@
 All is proved as the modules of two crates, a library and the program (two_crates.py), by N processes: one for each core, and for
 4 GiB of memory, by default. A line shows how many functions of how many of a crate are checked. What was checked is
 kept, so one that was stopped goes on where it was. Nothing is built that isn't proved: where something isn't, what the prover says
-is shown, and nothing starts. The program then lies at crates/mcd/out/mcd, and while no file changes a later start begins at once.
+is shown, and nothing starts. The program is then crates/mcd/out/mcd, and while no file changes a later start begins at once.
 """
 import argparse
 import contextlib

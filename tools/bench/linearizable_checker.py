@@ -1,4 +1,4 @@
-"""Decides whether the history of a key is linearizable: whether there is one order of its commands that gives each the reply
+"""Decides whether the history of a key is linearizable: whether there is one order of its commands in which each gets the reply
 that it got, and in which a command that ended before another began comes before it. `tools/bench/test_linearizable.py` records them.
 
 A history is a list of `Call`s. What a call asks of the key's value, and what it makes of it, follows from its command and its
@@ -18,7 +18,7 @@ MAX_PAIRS = 100_000
 
 Call = collections.namedtuple("Call", "begin end client kind given reply")
 
-# What a call wants: which value, and whether and to what it changes it. An absent value is None.
+# What a call needs and does: which value, and whether and to what it changes it. An absent value is None.
 Rule = collections.namedtuple("Rule", "asks value changes then")
 
 

@@ -4,7 +4,7 @@
     tools/bench/lines.py [ROUNDS]         the figures, medians of ROUNDS rounds (5 where none is said)
 
 The program is crates/mc_trials/out/mc_trials, as `rt ci` or `cd crates/mc_trials && rt run` builds it. Nine of ten commands
-are gets that hit, the others sets; values have 32 bytes. A batch is what one read gives: 256 commands, or one at a time. The
+are gets that hit, the others sets; values have 32 bytes. A batch is what one read returns: 256 commands, or one at a time. The
 time is that between the first command and the last reply, threads' start and end with it; the processor time is that of the
 whole process meanwhile, by proc_pid_stat(5), in steps of 10 ms.
 """
@@ -39,7 +39,7 @@ def ticks(stat):
 
 
 def run(*words):
-    """Serves one load. Gives its commands, and the seconds and the processor's seconds that it took."""
+    """Serves one load. Returns its commands, and the seconds and the processor's seconds that it took."""
     try:
         ran = subprocess.run([PROGRAM, *map(str, words)], capture_output=True, text=True, timeout=SECONDS)
     except subprocess.TimeoutExpired:

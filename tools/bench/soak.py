@@ -142,7 +142,7 @@ def disturb(port, pace, seed, small):
 
 
 def reported(given, run, *its):
-    """Runs a client, and gives whether it found what it must, and what it says."""
+    """Runs a client, and returns whether it found what it must, and what it says."""
     try:
         given.put((True, run(*its)))
     except Exception as why:
@@ -150,7 +150,7 @@ def reported(given, run, *its):
 
 
 def begun(server, small, pace, seed):
-    """Starts the clients of one server; gives them, and where they report."""
+    """Starts the clients of one server; returns them, and where they report."""
     given = multiprocessing.Queue()
     runs = [(check, seed + at, name, small) for at, name in enumerate((b"first", b"second"))]
     runs += [(disturb, seed + at, small) for at in (10, 11)]

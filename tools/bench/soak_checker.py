@@ -85,7 +85,7 @@ class Checker:
         else:
             raise AssertionError(f"{found!r:.120} in place of {present if key in self.held else absent!r}")
 
-    # The commands. Each gives its bytes, and what reads its reply and keeps account.
+    # The commands. Each returns its bytes, and what reads its reply and keeps account.
 
     def set(self, key):
         value = self.value(key)

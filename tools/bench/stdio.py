@@ -110,7 +110,7 @@ def callgrind(data, command, **how):
 
 
 def mcd_run(program, folder, commands):
-    """Runs the program on the commands, and gives callgrind's file."""
+    """Runs the program on the commands, and returns callgrind's file."""
     path, data = folder / "input", folder / "callgrind"
     path.write_bytes(b"".join(filled() + commands))
     with open(path, "rb") as stdin:
@@ -132,7 +132,7 @@ def connected(place):
 
 
 def memcached_run(program, folder, commands):
-    """Runs memcached on the commands, over a socket, and gives callgrind's file."""
+    """Runs memcached on the commands, over a socket, and returns callgrind's file."""
     data, place = folder / "callgrind", folder / "socket"
     place.unlink(missing_ok=True)
     server = callgrind(data, [program, "-t", "1", "-m", "256", "-c", "1012", "-u", "root", "-s", str(place)], stdout=subprocess.DEVNULL)

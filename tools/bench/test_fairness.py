@@ -35,7 +35,7 @@ ATTEMPTS = 3
 # The fewest replies a second with which the load is one.
 MIN_RATE = 20_000
 
-# The same beside clients that hardly read.
+# That bound, beside clients that hardly read.
 MAX_TIMES_UNREAD = 3
 
 # The most microseconds of the 99th percentile beside commands that no shard is asked for.
@@ -94,7 +94,7 @@ def percentile(times):
 
 
 def asks(line, commands):
-    """Awaits the reply to each of `commands` commands, and gives how long each took, in nanoseconds."""
+    """Awaits the reply to each of `commands` commands, and returns how long each took, in nanoseconds."""
     times = []
     for _ in range(commands):
         began = time.perf_counter_ns()

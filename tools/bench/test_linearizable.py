@@ -179,7 +179,7 @@ def calls_told(rows):
         yield int(key.removeprefix("linear-")), call
 
 
-# Faults, put into a history that was recorded. Each gives a history that no order explains, or None where there is no place
+# Faults, put into a history that was recorded. Each returns a history that no order explains, or None where there is no place
 # for it.
 
 def writers(history):

@@ -59,7 +59,7 @@ def exchanged(line, commands, awaits):
 
 
 def served(program, folder, options, commands, awaits):
-    """Serves the commands of one connection, and gives the instructions of the thread that served it."""
+    """Serves the commands of one connection, and returns the instructions of the thread that served it."""
     for old in folder.glob("callgrind*"):
         old.unlink()
     valgrind = ["valgrind", "--tool=callgrind", "--separate-threads=yes", f"--callgrind-out-file={folder}/callgrind"]

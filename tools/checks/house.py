@@ -91,7 +91,7 @@ def uncited():
 
 
 def without_names(statement):
-    """What a lemma says, with numbers for the names that it gives to what it speaks of."""
+    """What a lemma says, with numbers for the names that it binds."""
     names = dict.fromkeys(name for found in BOUND.finditer(statement) for name in (found[1] or found[2]).split())
     for number, name in enumerate(names):
         statement = re.sub(rf"(?<![\w.'-]){re.escape(name)}(?![\w'-])", f"#{number}", statement)

@@ -139,7 +139,7 @@ def places(given):
 
 
 def all_hold(check, cases):
-    """Runs the check on each case, some at a time, and gives how many there are."""
+    """Runs the check on each case, some at a time, and returns how many there are."""
     with concurrent.futures.ThreadPoolExecutor(AT_ONCE) as pool:
         return sum(1 for _ in pool.map(lambda case: check(*case), cases))
 

@@ -1,7 +1,7 @@
 """Each option, by a row that differs if it is ignored, and the texts of errors.
 
 What is expected follows from the rules of docs/PROTOCOL.md: what an item costs, on which shard a key is, which cas uniques a shard
-gives.
+assigns.
 """
 import os
 import pathlib
@@ -123,8 +123,8 @@ def test_memcacheds_rules():
         row("--drop-in", given, memcacheds)
 
 
-# How connections of other protocols begin: HTTP as curl and browsers send it, memcached's binary protocol, TLS; and what is answered by
-# the server's own rules, where no more is sent.
+# How connections of other protocols begin: HTTP as curl and browsers send it, memcached's binary protocol, TLS; and what is answered
+# by native rules, where no more is sent.
 FOREIGN = [
     (b"GET / HTTP/1.1\r\nHost: a\r\nUser-Agent: curl/8.0\r\nAccept: */*\r\n\r\n", 5 * b"ERROR\r\n"),
     (b"POST /a HTTP/1.1\r\nHost: a\r\n\r\nset a 0 0 1\r\nx\r\n", 3 * b"ERROR\r\n" + STORED),
@@ -209,7 +209,7 @@ def test_the_budget_by_default():
 
 
 def uniques(shards, keys):
-    """What sets of these keys and a `gets` of each give: shard s of S gives the uniques s+1, s+1+S, s+1+2S and so on."""
+    """What sets of these keys and a `gets` of each give: shard s of S assigns the uniques s+1, s+1+S, s+1+2S and so on."""
     given, told = {}, b""
     for key in keys:
         shard = place(key, shards)

@@ -70,7 +70,7 @@ def refusing(tmp_path_factory):
 
 
 def runs(program, test, refusing):
-    """Runs the test with each allocation refused in turn, and gives how many it makes, or what failed."""
+    """Runs the test with each allocation refused in turn, and returns how many it makes, or what failed."""
     for nth in range(1, MOST):
         environment = {**os.environ, **refusing, "REFUSE_NTH": str(nth)}
         ran = subprocess.run([program, test], capture_output=True, timeout=SECONDS, env=environment)
@@ -97,7 +97,7 @@ def given_up(place):
 
 
 def program_runs(refusing):
-    """Runs the program with each allocation refused in turn, and gives how many it makes, or what failed."""
+    """Runs the program with each allocation refused in turn, and returns how many it makes, or what failed."""
     wanted = {given_up(place): place for place, (_, takes) in enumerate(COMMANDS) if takes}
     whole = replies_to([it for it, _ in COMMANDS])[:3]
     met = [-1]

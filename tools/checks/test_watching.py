@@ -34,7 +34,7 @@ LATEST = 10
 
 
 def seconds_until_closed(line):
-    """How long it takes until the server closes the connection, which gives nothing before."""
+    """How long it takes until the server closes the connection, which sends nothing before."""
     began = time.monotonic()
     line.socket.settimeout(LATEST)
     try:
@@ -524,7 +524,7 @@ def test_the_process_is_measured():
 
 @fails_with("counts otherwise")
 def test_open_files_are_counted():
-    """Those of clients among them, however many names the system gives at a time."""
+    """Those of clients among them, however many names the system returns at a time."""
     with Watched() as server:
         def counted():
             return server.values()["process_open_fds"]

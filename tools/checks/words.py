@@ -1,53 +1,65 @@
 #!/usr/bin/env python3
 """Fails where a document or a comment uses a word for which the field has a better one.
 
-    tools/checks/words.py          checks the documents in PLAIN, and the comments of the crates in CLEAN
+    tools/checks/words.py          checks the documents in PLAIN, the comments of all crates but those in LEFT, and those of Python
     tools/checks/words.py FILE ..  checks these files
 
 Of documents only prose is checked, without `code` and without blocks of code. Of sources (.rt, .antt) the comments are checked,
-those on lines of their own; such a comment must not begin with "The same", which a generated page would show without its context.
+those on lines of their own; of Python the comments and the doc strings. A comment or a doc string must not begin with "The same",
+which a generated page would show without its context.
 """
+import ast
+import io
 import pathlib
 import re
 import sys
+import tokenize
 
 TOP = pathlib.Path(__file__).resolve().parent.parent.parent
 
-# The documents that are held to the list.
+# The documents that are held to the list. docs/TRUSTED.md has the comments of the definitions, which are checked where they are.
 PLAIN = [
     "README.md", "CONTRIBUTING.md", "tools/README.md", "docs/PROTOCOL.md", "docs/OPERATING.md", "docs/CLIENTS.md", "docs/REPLAY.md",
     "docs/PROOFS.md", "docs/ARCHITECTURE.md", "docs/BENCHMARKS.md", "docs/SECURITY.md", "docs/SCALING.md", "docs/DECISIONS.md",
     "packaging/mcd.1",
 ]
 
-# The crates whose comments are held to the list: those in src, specs and proofs.
-CLEAN = [
-    "mc_cells", "mc_command", "mc_connection_tests", "mc_doors", "mc_history", "mc_join", "mc_laws", "mc_metrics", "mc_model",
-    "mc_options", "mc_plain", "mc_protocol_tests", "mc_reader", "mc_replay", "mc_reply", "mc_rows", "mc_server",
-    "mc_serving_tests", "mc_sim", "mc_sizes", "mc_trials", "mc_wake", "mc_watch", "mc_wire", "mcd",
-]
+# The crates whose comments aren't held to the list yet.
+LEFT = ["mc_conn", "mc_item", "mc_ring", "mc_seat", "mc_serve", "mc_split", "mc_store", "mc_threads"]
 
 # What not to write, and what to write for it.
 BETTER = {
     r"tells?|told|telling": "report, return, show, notify, log",
     r"lets? go|letting go": "drop, free",
-    r"stands?|stood|standing": "is, depends on",
-    r"goes(?! (?:out|back|on|into))": "is evicted, expires, is deleted, is removed",
+    r"stands?(?! (?:in )?for\b)|stood|standing": "is, depends on",
+    r"goes(?! (?:out|back|on|into))": "is evicted, expires, is deleted, is removed, returns",
     r"who(?:ever)? runs": "operator",
     r"where nothing is said|where it isn't said": "by default",
     r"a hundredth": "p99",
     r"reckon(?:s|ed|ing)?": "calculate, estimate",
     r"for good": "permanently, forever",
-    r"anew": "again",
+    r"anew|afresh": "again",
     r"looks? in vain": "spin",
     r"was (?:wanted|asked for)": "(say what holds)",
+    r"by (?:its|the server's|our) own rules": "natively, by native rules",
+    r"rous(?:e|es|ed|ing)": "wake",
+}
+
+# What is right in a lemma, of functions and numbers, and nowhere else.
+BETTER_IN_TEXT = {
+    r"gives": "return, assign, make, send, have",
+    r"lies|lay": "is",
+    r"wants": "need, require",
+    r"whoever": "the caller, the client, the thread that",
+    r"(?:bytes?|words?|nothing|text|line end|index|colon) behind (?:it|them|the|a|another)": "after",
 }
 
 # What not to begin a comment with.
 BEGINNINGS = {r"(?<!.)the same": "say what it is"}
 
 # Where a word is right after all: the file, a piece of the line, and why.
-RIGHT: list[tuple[str, str, str]] = []
+RIGHT: list[tuple[str, str, str]] = [
+]
 
 
 def prose(text):
@@ -66,18 +78,37 @@ def comments(text, sign):
     for number, line in enumerate([*text.splitlines(), ""], 1):
         found = re.match(rf"\s*({sign})( .*)?$", line)
         if kept and not (found and found[1] == kept[1]):
-            yield kept[0], re.sub(r"`[^`]*`", "", " ".join(kept[2])).strip()
+            yield kept[0], in_one_line(kept[2])
             kept = None
         if found:
             kept = kept or (number, found[1], [])
             kept[2].append((found[2] or "").strip())
 
 
+def in_one_line(lines):
+    """These lines as one, without their code."""
+    return re.sub(r"`[^`]*`", "", " ".join(lines)).strip()
+
+
+def explained(text):
+    """The comments and the doc strings of a Python module, with the numbers of their first lines."""
+    yield from comments(text, "#")
+    for token in tokenize.generate_tokens(io.StringIO(text).readline):
+        if token.type == tokenize.COMMENT and token.line[: token.start[1]].strip():
+            yield token.start[0], in_one_line([token.string.lstrip("# ")])
+    for node in ast.walk(ast.parse(text)):
+        if isinstance(node, (ast.Module, ast.ClassDef, ast.FunctionDef)) and (said := ast.get_docstring(node)):
+            yield node.body[0].lineno, in_one_line(said.splitlines())
+
+
 def sources():
-    """The sources of the crates in CLEAN."""
-    for crate in CLEAN:
+    """The sources of the crates that aren't in LEFT, and Python's."""
+    for crate in sorted((TOP / "crates").iterdir()):
         for folder, ending in ("src", "rt"), ("specs", "antt"), ("proofs", "antt"):
-            yield from sorted(str(it.relative_to(TOP)) for it in (TOP / "crates" / crate / folder).rglob(f"*.{ending}"))
+            if crate.name not in LEFT:
+                yield from sorted(str(it.relative_to(TOP)) for it in (crate / folder).rglob(f"*.{ending}"))
+    for pattern in "*.py", "tools/**/*.py", "packaging/*.py":
+        yield from sorted(str(it.relative_to(TOP)) for it in TOP.glob(pattern))
 
 
 def pieces(name):
@@ -85,20 +116,35 @@ def pieces(name):
     text = (TOP / name).read_text(encoding="utf-8")
     if name.endswith(".rt"):
         return comments(text, "//[/!]?")
+    if name.endswith(".py"):
+        return explained(text)
     return comments(text, "--") if name.endswith(".antt") else prose(text)
+
+
+def words_for(name):
+    """The words that are checked in a file."""
+    more = {} if name.endswith(".antt") else BETTER_IN_TEXT
+    return BETTER | more | (BEGINNINGS if name.endswith((".rt", ".antt", ".py")) else {})
 
 
 def faults(name):
     for number, line in pieces(name):
-        words = BETTER | (BEGINNINGS if name.endswith(("rt", "antt")) else {})
-        for word, better in words.items():
+        for word, better in words_for(name).items():
             for found in re.finditer(rf"\b(?:{word})\b", line, re.I):
                 if not any(name == file and piece in line for file, piece, _ in RIGHT):
                     yield f"{name}:{number}: `{found[0]}`: {better}"
 
 
+def unused():
+    """The exceptions that excuse nothing any more."""
+    for file, piece, _ in RIGHT:
+        if not any(piece in line for _, line in pieces(file)):
+            yield f"tools/checks/words.py: nothing in {file} has \"{piece}\""
+
+
 def main():
     found = [it for name in sys.argv[1:] or [*PLAIN, *sources()] for it in faults(name)]
+    found += [] if sys.argv[1:] else unused()
     print(*found, sep="\n", end="\n" if found else "")
     return 1 if found else 0
 

@@ -132,7 +132,7 @@ def digest(edit):
 
 
 def kind_of_goal(goal, changes, is_on_changed_line):
-    """Of which kind a goal is, by the name that the checker gives it."""
+    """Of which kind a goal is, by the checker's name for it."""
     if re.match(r"returns|invariant_of", goal):
         return "contract"
     if goal.startswith("loop"):

@@ -74,7 +74,7 @@ class Client:
         self.client.flush_all()
 
     def stats(self):
-        """What the server counts, by the names that memcached gives it."""
+        """What the server counts, by memcached's names."""
         return named(self.client.get_stats()[0][1])
 
     def close(self):

@@ -1,7 +1,7 @@
 """How much each kind of command lets each counter of `stats` grow: as memcached 1.6.18 counts, and as mcd does with `--drop-in`.
 
 A row has a name, what is sent before, what is sent then, and the counters that grow by one with that; `name:N` grows by N. All keys
-are `k` and `none`, and nothing lies under them before. `<unique>` stands for the unique of `k`. `BESIDE` names the rows in which
+are `k` and `none`, and nothing is under them before. `<unique>` stands for the unique of `k`. `BESIDE` names the rows in which
 memcached counts more than mcd: what it counts beside that, and the name of the difference in docs/PROTOCOL.md, "Statistics".
 """
 import collections

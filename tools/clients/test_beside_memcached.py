@@ -1,6 +1,6 @@
 """Sends the same random commands to mcd and to memcached 1.6, and compares their replies one by one.
 
-Classic and meta commands on a few keys, well formed and not, each followed by a `mg` of a key that nothing lies under, so that
+Classic and meta commands on a few keys, well formed and not, each followed by a `mg` of a key that nothing is under, so that
 the end of its reply is known. A difference that docs/PROTOCOL.md names is counted under its name there, and its keys are removed
 on both servers, so that it has no later effect. Any other difference fails: forty commands of a stream of 3,000
 did, before their differences were on that page. With `--drop-in` what the page says is gone then is no
@@ -35,7 +35,7 @@ COMMANDS = 20_000
 KEYS = [b"apple", b"pear", b"n1", b"n2", b"key:with:colons", b"\xc3\xa4pfel"]
 ENCODED = {b"YXBwbGU=": b"apple", b"cGVhcg==": b"pear", b"bjE=": b"n1"}
 TOO_LARGE = 1024 * 1024 + 1
-# No item lies under this key: the reply to this command ends that of the command before it.
+# No item is under this key: the reply to this command ends that of the command before it.
 FENCE, FENCE_REPLY = b"mg nothing Othe-end\r\n", b"EN Othe-end\r\n"
 
 # What `stats` shows of the server, and of its traffic, which the commands that read it are a part of.
@@ -217,7 +217,7 @@ def comparable(reply):
 
 
 def seconds(lines):
-    """The same lines without their times, and the times."""
+    """These lines without their times, and the times."""
     times = [int(it) for line in lines for it in re.findall(rb"(?<= )t(-?\d+)(?= |$)", line)]
     return [re.sub(rb"(?<= )t-?\d+(?= |$)", b"t", line) for line in lines], times
 
@@ -521,7 +521,7 @@ def servers(drop_in):
 
 
 def compare(drop_in, ours, theirs, texts, met):
-    """Sends these commands to both servers, on which nothing lies under their keys: what differs by nothing that is named, by the number
+    """Sends these commands to both servers, on which nothing is under their keys: what differs by nothing that is named, by the number
     of the command. What is named is counted."""
     unnamed, counted_up = {}, set()
     forget(KEYS, ours, theirs)

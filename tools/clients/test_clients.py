@@ -1,4 +1,4 @@
-"""Drives the server by the clients that people use, by its own rules and with `--drop-in`. Where a client sees the two differ, there is
+"""Drives the server by the clients that people use, by native rules and with `--drop-in`. Where a client sees the two differ, there is
 a test of each.
 
 A client that isn't installed is skipped (tools/installed.py installs them). The scripts in other languages, and for Django, print

@@ -242,13 +242,13 @@ fn refusal_of(line: &Line) -> (Option<CommandError>, u64) {
     }
 }
 
-/// The refusal of a line, if it is refused, and the number of bytes behind it that are skipped or
+/// The refusal of a line, if it is refused, and the number of bytes after it that are skipped or
 /// are its block.
 pub fn refused(alloc: Global, line: &[u8]) -> (Option<CommandError>, u64) {
     refusal_of(&read(alloc, line).line)
 }
 
-/// Lines, with the number of bytes behind them and their refusals. Keys are long enough to need an
+/// Lines, with the number of bytes after them and their refusals. Keys are long enough to need an
 /// allocation: those of at most 38 bytes don't.
 static LINES: [(&str, u64, Option<CommandError>); 23] = [
     ("set a:key:of:39:bytes:lies:in:its:own:block 0 0 3", 5, None),

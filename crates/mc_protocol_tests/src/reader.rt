@@ -79,7 +79,7 @@ fn gives_some(rt: &impl Abort, alloc: Global, reader: &mut Reader, wanted: &[Cam
     wanted.len()
 }
 
-/// Asserts that the input, cut into pieces of this size, gives exactly these commands.
+/// Asserts that the input, cut into pieces of this size, is parsed into exactly these commands.
 fn gives_cut(
     rt: &impl Abort,
     alloc: Global,
@@ -167,7 +167,7 @@ fn a_skipped_block_is_not_kept(rt: HostRuntime) -> Result<(), Fail> {
     let alloc = rt.alloc();
     let mut reader = Reader::new(alloc, DEFAULT_VALUE_LIMIT)?;
     feed_all(&rt, &mut reader, b"set a 0 0 4294967295\r\n");
-    // The block and one of the two bytes behind it.
+    // The block and one of the two bytes after it.
     for _ in 0..65_536u32 {
         gives(&rt, alloc, &mut reader, &[Came::NeedMore]);
         feed_all(&rt, &mut reader, &PIECE);

@@ -20,8 +20,8 @@ const MOMENT: u64 = 1_000;
 struct Feeding {
     /// Maximum number of bytes fed at once.
     piece: usize,
-    /// Maximum number of open commands. None is answered, so with a window of 1 the bytes behind
-    /// the first command stay unread.
+    /// Maximum number of open commands. None is answered, so with a window of 1 the bytes after the
+    /// first command stay unread.
     window: usize,
 }
 
@@ -48,7 +48,7 @@ const FEEDINGS: [Feeding; 4] = [
     },
 ];
 
-/// A block with bytes behind it, and the expected number of held bytes when it is fed by `FAST`.
+/// A block with bytes after it, and the expected number of held bytes when it is fed by `FAST`.
 #[derive(Clone, Copy)]
 struct LongBlock {
     /// The input, escaped as in a row.

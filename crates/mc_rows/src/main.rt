@@ -131,7 +131,7 @@ fn is_right_whole<R: Wait + RandomSource>(rt: &R, alloc: Global, row: &Row) -> b
         return false;
     };
     // One read of the input, one of its end, and one write. A value of 1 KiB or more isn't copied
-    // behind its header: it takes a write of its own, and so does the text behind it.
+    // after its header: it takes a write of its own, and so does the text after it.
     let is_short = row.input.len() <= WHOLE && row.output.len() <= 16_384;
     let shared = row.values_longer_than(SHARED - 1);
     let few = !is_short || line.calls() <= shared.saturating_mul(2).saturating_add(3);

@@ -39,7 +39,7 @@ pub struct Chooser {
 }
 
 impl Chooser {
-    /// A chooser for line number `line`. Each seed gives another list of commands.
+    /// A chooser for line number `line`. Each seed has another list of commands.
     pub fn new(alloc: Global, line: u64, seed: u64) -> Chooser {
         let mut chooser = Chooser {
             alloc,
