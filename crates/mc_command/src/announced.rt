@@ -24,8 +24,8 @@ pub fn announced_bytes(line: &[u8]) -> u64
     announced_bytes_with_rules(line, Rules::own(0))
 }
 
-/// Number of bytes after a line that belong to it: its data block with the line end, or what is
-/// skipped after a refused line; 0 if there is nothing (protocol.txt, "Storage commands"). Parses
+/// Number of bytes after a line that belong to it (protocol.txt, "Storage commands"): its data
+/// block with the line end, or what is skipped after a refused line. 0 if there is nothing. Parses
 /// the line as `read_line_with_rules` does; the result doesn't depend on the value limit. Allocates
 /// nothing.
 #[tactic(auto, unfolding(crate::specs::Table::line_of), using(crate::proofs::Behind::behind_shown))]

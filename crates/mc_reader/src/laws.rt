@@ -20,8 +20,8 @@ pub fn one_list_of_commands()
         AreCommands rules input entries → AreCommands rules input others → entries ≡ others }
 {}
 
-/// The commands of a prefix of the input are a prefix of the commands of the whole input, and equal
-/// to them if they end with one that closes the stream.
+/// The commands of a prefix of the input are a prefix of the commands of the whole input. They are
+/// equal if they end with one that closes the stream.
 pub fn commands_only_grow()
     ensures kept { (rules : Rules) (input more : List ℕ) (entries : List Command) →
         BeginCommands rules input entries → BeginCommands rules (input ++ more) entries }

@@ -44,7 +44,7 @@ impl From<AllocError> for ReplayError {
     }
 }
 
-/// Runs the events of a schedule, then writes the report to the sink: the replies to each
+/// Runs the events of a schedule, then writes the report to the sink. It has the replies to each
 /// connection, the log of the shards, and the numbers of events done and idle.
 pub fn replay<R: RandomSource, O: Sink>(
     rt: &R,
