@@ -49,8 +49,8 @@ WITHOUT_MEMORY = [
 A, C = b"a" * 39, b"c" * 39
 COMMANDS = [
     (b"set %s 7 0 2\r\nhi\r\n" % A, True), (b"get %s b\r\n" % A, True), (b"append %s 0 0 1\r\ny\r\n" % A, True),
-    (b"incr %s 1\r\n" % A, True), (b"ms %s 1 c\r\nz\r\n" % C, True), (b"mg %s v\r\n" % C, True), (b"flush_all\r\n", True),
-    (b"mn\r\n", False), (b"get a\r\n", False), (b"get %s\r\n" % A, True),
+    (b"incr %s 1\r\n" % A, True), (b"ms %s 1 c\r\nz\r\n" % C, True), (b"mg %s v\r\n" % C, True), (b"get %s %s\r\n" % (C, C), True),
+    (b"flush_all\r\n", True), (b"mn\r\n", False), (b"get a\r\n", False), (b"get %s\r\n" % A, True),
 ]
 OPTIONS = ["--stdio", "--at", 1000, "--window", 1, "--shards", 2, "--bytes", 1024]
 MEMORY_LINE = b"SERVER_ERROR out of memory\r\n"

@@ -186,7 +186,7 @@ def too_large(drop_in, noreply):
 def commands(drop_in):
     """A command, of each kind as often as the kind is in the list."""
     noreply = [b"", b"", b"", b" noreply", *[b" another"] * drop_in]
-    compared, end = [b"", b"", b"", b" C" + UNIQUE, b" C" + OTHER], b"\r\n"
+    compared, end = [b"", b"", b"", b" C" + UNIQUE, b" C" + OTHER, b" C0"], b"\r\n"
     keys = st.lists(KEY.map(b" ".__add__), min_size=1, max_size=3).map(b"".join)
     read = [joined([b"get", b"gets", b"get"], keys, end)] * 7 + [joined([b"gat ", b"gats "], EXPTIME, keys, end)] * 5
     stores = with_block(joined([b"set ", b"set ", b"set ", b"add ", b"replace ", b"append ", b"prepend "], KEY, b" ", [b"0", b"5", b"4294967295"],
@@ -204,7 +204,7 @@ def commands(drop_in):
         *[meta(b"mg", flags(b"vcfshltkqONRT" + b"u" * drop_in, 6, drop_in))] * 12,
         *[meta_stores] * 10,
         *[meta(b"md", flags(b"kOqIT", 4, drop_in), compared[1:])] * 6,
-        *[meta(b"ma", flags(b"kOqvctDNJT", 6, drop_in), [b"", b" MI", b" MD", b" M+", b" M-"])] * 6,
+        *[meta(b"ma", flags(b"kOqvctDNJT", 6, drop_in), [b"", b" MI", b" MD", b" M+", b" M-"], compared)] * 6,
         *[broken(BROKEN)] * 2, broken(BROKEN_BY_MEMCACHED if drop_in else BROKEN), st.one_of(*too_large(drop_in, noreply)),
     ]
     return st.integers(0, len(kinds) - 1).flatmap(kinds.__getitem__).map(Sent)
@@ -240,6 +240,7 @@ NAMED = [
     ("`T` of a number that gets longer", rb"ma .* T.*", None),
     ("a key that was stored in base64", rb"m[sga] .* b( .*)?", None),
     ("a token of `O` that is too long", rb"ma .* O\S{32,}.*", None),
+    ("`ma` with `C0`", rb"ma .* C0", None),
     ("`version`", rb"version", (rb"VERSION .*", rb"VERSION .*")),
     ("faults are shown in spite of noreply", rb".* noreply", (FAULT, rb"")),
     ("error texts", rb".*", (rb"CLIENT_ERROR [^\r]*\r\n", rb"CLIENT_ERROR [^\r]*\r\n")),
@@ -247,6 +248,7 @@ NAMED = [
     ("too few words", rb".*", (rb"CLIENT_ERROR bad command line format\r\n", rb"ERROR\r\n")),
     ("`C` of `ms` in other modes", rb"ms .*M[APRE].* C.*", (rb"CLIENT_ERROR bad command line format\r\n", rb".*")),
     ("`C` without an item", rb"ms .*M[AP].* C.*", (rb"NF.*", rb"NS.*")),
+    ("`C` of an empty value", rb"ma .* C.*", (rb"EX.*", rb"CLIENT_ERROR cannot increment .*")),
     ("`c` where `ms` stored nothing", rb"ms .* c.*", (rb"(EX|NF|NS)( [^\r]*)?\r\n", rb"(EX|NF|NS) [^\r]*c0.*\r\n")),
     ("quiet `md` and `ma`", rb"m[da] .* q.*", (rb"", rb"(NF|HD).*\r\n")),
     ("quiet `md` and `ma`", rb"ma .* q.*", (rb"VA .*", rb"")),
@@ -257,7 +259,7 @@ NAMED = [
 
 # Those that are gone where mcd follows memcached's rules.
 GONE = ["exptimes have 64 bits", "too large a value leaves the old one", "`version`", "faults are shown in spite of noreply", "too few words",
-        "`C` of `ms` in other modes", "too large to append", "`c` where `ms` stored nothing", "the order of marks"]
+        "`C` of `ms` in other modes", "too large to append", "`c` where `ms` stored nothing", "`ma` with `C0`", "the order of marks"]
 # Those that replies show, beside the command.
 NAMES = [*dict.fromkeys(name for name, _, _ in NAMED), "the order of marks", "what counts as a use", "numbers aren't padded"]
 
@@ -337,6 +339,8 @@ REASONS = {
     "too few words": "by its own rules the name is known, and the line is wrong",
     "`C` of `ms` in other modes": "by its own rules C is for mode S",
     "`C` without an item": "NF in each mode",
+    "`C` of an empty value": "the unique is compared before the value is read",
+    "`ma` with `C0`": "by its own rules each unique is compared",
     "`c` where `ms` stored nothing": "by its own rules no unique is shown where there is none",
     "quiet `md` and `ma`": "protocol.txt hides HD and NF, and shows what was asked for",
     "`t` beside `T` and `N`": "the time after the command, in whatever order the flags are",
@@ -452,6 +456,19 @@ def test_stats_shows_the_server_as_memcached_does():
         theirs, wanted = server_shown(port, process)
     assert [name for name in theirs if name in names] == names
     assert shown == wanted
+
+
+@pytest.mark.skipif(not shutil.which("memcached"), reason="memcached isn't installed")
+@pytest.mark.parametrize("delay", [1, 2])
+def test_flush_all_is_as_early_as_memcacheds(delay):
+    """After `flush_all 1` no server has the item, and after `flush_all 2` none has it a second later."""
+    with servers(True) as peers:
+        # A second has just begun: at its end a server would be late.
+        time.sleep(1 - time.time() % 1)
+        for peer in peers:
+            peer.ask(b"set k 0 0 1\r\n5\r\nflush_all %d\r\n" % delay)
+        time.sleep(delay - 0.9)
+        assert [peer.ask(b"get k\r\n") for peer in peers] == [b"END\r\n"] * 2
 
 
 def all_of(port, sent):

@@ -73,6 +73,9 @@ exptimes : AreSo (
       Whole (command.FlushAll (pos 4294967295) false),
       Whole (command.FlushAll (negsuc 0) false),
     )
+    ∷ (codes "flush_all 0", Whole (command.FlushAll (pos 0) false), Whole (command.FlushAll (pos 0) false))
+    ∷ (codes "flush_all 1", Whole (command.FlushAll (pos 1) false), Whole (command.FlushAll (pos 0) false))
+    ∷ (codes "flush_all 10", Whole (command.FlushAll (pos 10) false), Whole (command.FlushAll (pos 9) false))
     ∷ []
     )
 unfolding line_of words_of name_of is_key number_of int_wrap
@@ -89,6 +92,7 @@ statistics : AreSo (
     ∷ (codes "stats slabs", Refused Unknown, Whole (command.Stats request.Empty))
     ∷ (codes "stats sizes", Refused Unknown, Whole (command.Stats request.Empty))
     ∷ (codes "stats conns", Refused Unknown, Whole (command.Stats request.Empty))
+    ∷ (codes "stats cachedump 1 100", Refused Unknown, Whole (command.Stats request.Empty))
     ∷ (codes "stats nothing", Refused Unknown, Refused Unknown)
     ∷ (codes "stat", Refused Unknown, Refused Unknown)
     ∷ []

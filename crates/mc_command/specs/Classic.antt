@@ -2,7 +2,7 @@
 -- "Deletion", "Increment/Decrement", "Touch", "Get And Touch", "Other commands"). The number of words is
 -- checked first, then the words from left to right; the first error is reported.
 use Rattle.std.specs.Prelude.{ℕ, ◌^◌, Bool, true, false, List, [], ◌∷◌, Option, Some, None, is_none, ◌&&◌, codes, ℤ}
-use Rattle.std.specs.Prelude.{pos, if◌then◌else◌, Result, Ok, Err}
+use Rattle.std.specs.Prelude.{pos, suc, if◌then◌else◌, Result, Ok, Err}
 use Rattle.std.specs.Map.{lookup}
 use Rattle.std.specs.Option.{ok_or, option_and_then}
 use Rattle.std.specs.List.{list_all, slice_get}
@@ -152,10 +152,18 @@ touch_words rules (key ∷ exptime ∷ more) =
     Ok (Touch key exptime noreply)))))
 touch_words rules words = Err (word_count_refusal rules)
 
+abbrev pub a_second_sooner : ℤ → ℤ
+a_second_sooner (pos (suc second)) = pos second
+a_second_sooner delay = delay
+
+-- the delay of `flush_all`; memcached's items go a second before that
+abbrev pub flush_delay : Rules → ℤ → ℤ
+flush_delay rules delay = if is_drop_in rules then a_second_sooner delay else delay
+
 abbrev pub flush_of : Rules → List ℕ → Option (List ℕ) → Result Command CommandError
 flush_of rules delay noreply =
     then_of (exptime_of rules delay)
-    (λ delay. then_of (last_word_of rules noreply) (λ noreply. Ok (FlushAll delay noreply)))
+    (λ delay. then_of (last_word_of rules noreply) (λ noreply. Ok (FlushAll (flush_delay rules delay) noreply)))
 
 -- flush_all: [E] [noreply]
 abbrev pub flush_words : Rules → List (List ℕ) → Result Command CommandError
@@ -176,8 +184,8 @@ verbosity_words rules words = Err (word_count_refusal rules)
 -- the section of `stats` that a word names: this server has no others
 abbrev pub request_named : List ℕ → Option StatsRequest
 request_named word =
-    lookup (bytes_eq word) ((codes "reset", Reset) ∷ (codes "settings", Empty) ∷
-    (codes "items", Empty) ∷ (codes "slabs", Empty) ∷ (codes "sizes", Empty) ∷ (codes "conns", Empty) ∷ [])
+    lookup (bytes_eq word) ((codes "reset", Reset) ∷ (codes "settings", Empty) ∷ (codes "items", Empty) ∷
+    (codes "slabs", Empty) ∷ (codes "sizes", Empty) ∷ (codes "conns", Empty) ∷ (codes "cachedump", Empty) ∷ [])
 
 -- the section that the words behind `stats` request (protocol.txt, "Statistics"); words after the first are
 -- ignored

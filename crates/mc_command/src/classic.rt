@@ -148,7 +148,7 @@ pub(crate) fn read_flush_all(rules: Rules, mut walk: WordWalk<'_>) -> Result<Com
         }),
         (Some(delay), noreply) => (delay, noreply),
     };
-    let delay = read_exptime(rules, delay)?;
+    let delay = rules.flush_delay(read_exptime(rules, delay)?);
     let noreply = read_last_word(rules, noreply)?;
     Ok(Command::FlushAll { delay, noreply })
 }
@@ -212,11 +212,12 @@ pub(crate) fn read_stats(rules: Rules, mut walk: WordWalk<'_>) -> Result<Command
 }
 
 /// The sections of `stats` that can be requested.
-const REQUESTS: [(&[u8], StatsRequest); 6] = [
+const REQUESTS: [(&[u8], StatsRequest); 7] = [
     (b"reset", StatsRequest::Reset),
     (b"settings", StatsRequest::Empty),
     (b"items", StatsRequest::Empty),
     (b"slabs", StatsRequest::Empty),
     (b"sizes", StatsRequest::Empty),
     (b"conns", StatsRequest::Empty),
+    (b"cachedump", StatsRequest::Empty),
 ];

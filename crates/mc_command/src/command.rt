@@ -167,8 +167,8 @@ pub enum StatsRequest {
     General,
     /// `stats reset`: sets the counters to 0.
     Reset,
-    /// `stats settings`, `items`, `slabs`, `sizes` and `conns`: this server has nothing to show
-    /// there.
+    /// `stats settings`, `items`, `slabs`, `sizes`, `conns` and `cachedump`: this server has nothing
+    /// to show there.
     Empty,
 }
 

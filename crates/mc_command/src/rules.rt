@@ -30,7 +30,7 @@ pub struct Rules {
 
 impl Rules {
     ghost use Rattle.mc_command.specs.Blocks.{count_bound};
-    ghost use Rattle.mc_command.specs.Classic.{is_lenient};
+    ghost use Rattle.mc_command.specs.Classic.{flush_delay, is_lenient};
     ghost use Rattle.mc_command.specs.Field.{exptime_by, word_count_refusal};
     ghost use Rattle.mc_command.specs.Meta.{compare_by};
     ghost use Rattle.mc_command.specs.internal.FlagsAsked.{exptime_in};
@@ -72,6 +72,16 @@ impl Rules {
         match token {
             Some(number) => Some(self.exptime(number)),
             None => None,
+        }
+    }
+
+    /// The delay of `flush_all` for a parsed exptime. memcached's items go a second before that.
+    pub(crate) fn flush_delay(self, exptime: i64) -> i64
+        ensures { result ≡ flush_delay self exptime }
+    {
+        match self.profile {
+            Profile::DropIn if exptime > 0 => exptime - 1,
+            _ => exptime,
         }
     }
 
