@@ -19,7 +19,7 @@ pub struct Reply {
 }
 
 impl Drop for Reply {
-    /// By hand, so that to let one go is one call for whoever holds it (docs/DECISIONS.md).
+    /// Written by hand, so that its owners drop it by a single call (docs/DECISIONS.md, F20).
     #[inline(always)]
     fn drop(self) {
         let Reply {
