@@ -126,8 +126,8 @@ put_first-append : (back : Option (ℕ × Piece)) (others more : List (ℕ × Pi
 put_first-append None others more = refl
 put_first-append (Some piece) others more = refl
 
--- The command that the reader returns is taken, where the connection continues, its window has room, and the pending reply
--- and the pieces were put behind the others.
+-- The command that the reader returns is taken, where the connection continues, its window has room, and the pending
+-- reply and the pieces were put behind the others.
 pub opens : (old new : Conn) (shown carried : Command) (ticket : Ticket) (moment : ℕ) (may_show : ServerStats → Type 0)
     (server : ServerStats) (pending_reply : PendingReply) → GoesOn old
     → length old.dispatcher.reorder_buffer.pending_replies < old.dispatcher.reorder_buffer.window → ticket.0
