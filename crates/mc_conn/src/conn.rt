@@ -214,6 +214,7 @@ impl Conn {
     /// Accepts the answer to a piece, whichever open command and part it belongs to; of a broken
     /// connection too. `UnexpectedReply`: no such answer is awaited, and the reply is handed back
     /// unchanged. It takes no memory.
+    #[inline(always)]
     #[tactic(auto, unfolding(crate::specs::Conn::IsConn))]
     pub fn accept(&mut self, reply: Reply) -> Result<(), UnexpectedReply>
         ensures ok { OnOk result (IfConn self.old (λ told.
