@@ -1,4 +1,4 @@
--- What each call makes of what a connection was told.
+-- What each call makes of what came in at a connection and what went out.
 use Rattle.std.proofs.Common.{◌≡◌, ℕ, ◌+◌, ◌<◌, ◌≤◌, ◌==◌, ◌↔◌, Bool, true, false, not, inl, inr, List, [], ◌∷◌, ◌++◌}
 use Rattle.std.proofs.Common.{length, drop, Some, None, IsTrue, refl, sym, ap, subst, ◌∙◌, arith, length-drop}
 use Rattle.std.specs.Prelude.{Option, Result, Ok, Err, OnOk, OnErr, IfNone, IfSome, is_some}
@@ -137,7 +137,7 @@ gives old new piece reader reorder_buffer shards log broken none left told h =
           (omega (arith, below)) (rw none at.1) (λ _. (none, omega arith)),
     )
 
--- The same where none was put back.
+-- A piece of the queue is the oldest that has not left, where none was put back.
 pub gives_front : (result : Option (ℕ × Piece)) (old new : Conn) →
     new.reader ≡ old.reader → new.dispatcher.reorder_buffer ≡ old.dispatcher.reorder_buffer
     → new.dispatcher.planner.shards ≡ old.dispatcher.planner.shards → new.dispatcher.log ≡ old.dispatcher.log →
@@ -149,7 +149,7 @@ gives_front None old new reader reorder_buffer shards log broken none before lef
 gives_front (Some piece) old new reader reorder_buffer shards log broken none before left =
     gives old new piece reader reorder_buffer shards log broken none (rw before left)
 
--- The same where one may have been put back.
+-- A piece that was put back is the oldest that has not left.
 pub gives_back : (result : Option (ℕ × Piece)) (old new : Conn) →
     new.reader ≡ old.reader → new.dispatcher.reorder_buffer ≡ old.dispatcher.reorder_buffer
     → new.dispatcher.planner.shards ≡ old.dispatcher.planner.shards → new.dispatcher.log ≡ old.dispatcher.log
@@ -266,7 +266,7 @@ rest_whole conn told waiting none empty broken all tickets h =
 pub empty_is : (n : ℕ) → true ≡ (n == 0) → n ≡ 0
 empty_is n e = (same_number n 0).0 (sym e)
 
--- what the reader's test tells of the last command taken
+-- what the reader's test says of the last command taken
 pub shut_is : (conn : Conn) (closed : Bool)
     → IfReader conn.reader (λ rules fed ended given. IsTrue closed ↔ IsClosedLine given) →
     (told : Told) → HasBeenTold conn told → IsTrue closed ↔ IsShut told
@@ -274,7 +274,7 @@ shut_is conn closed says told h =
     let P : List Command → Type 0 = λ entries. IsTrue closed ↔ IsTrue (is_closed entries) in
     subst P h.spelled (says told.rules told.fed told.ended h.given h.read)
 
--- An ended connection goes on only while some command is not taken.
+-- An ended connection continues only while some command is not taken.
 pub over_at_end : (told : Told) (whole : Bool) → told.broken ≡ false → ¬ IsShut told → IsTrue told.ended
     → ((whole ≡ false) ↔ IsAllTaken told) → IsTrue (not whole) ↔ IsOver told
 over_at_end told true unbroken on ended says = (
@@ -299,7 +299,7 @@ rest_unread told whole unbroken unread says = (
       absurd (false≢true (sym unread ∙ ap not (says.1 done.0))),
 )
 
--- What is skipped behind the commands taken is skipped behind those that the reader gave.
+-- What is skipped behind the commands taken is skipped behind those that the reader returned.
 pub amid_skipped : (conn : Conn) (told : Told) (h : HasBeenTold conn told) → EndsAmidSkipped told
     → IsAmidSkipped told.rules told.fed h.given
 amid_skipped conn told h skips =
@@ -319,7 +319,7 @@ amid_skipped conn told h skips =
       behind = skips.behind;
     }
 
--- What is unread behind the commands taken is unread behind those that the reader gave.
+-- What is unread behind the commands taken is unread behind those that the reader returned.
 pub unread_behind : (conn : Conn) (told : Told) (h : HasBeenTold conn told) (unread : List ℕ) → LeavesUnread told unread
     → SpellsFront told.rules 0 told.fed (entries_of h.given) unread × (is_closed (entries_of h.given) ≡ false)
 unread_behind conn told h unread leaves =

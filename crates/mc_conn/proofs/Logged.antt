@@ -23,7 +23,7 @@ pieces_carried shards number [] = refl
 pieces_carried shards number (one ∷ later) =
     ap (λ ps. pieces_at shards number one ++ ps) (pieces_carried shards (number + 1) later)
 
--- The same is due.
+-- What is due doesn't change.
 pub due_carried : (shards s : ℕ) (taken : List Taken) → due shards s (map carried_out taken) ≡ due shards s taken
 due_carried shards s taken = ap (channel s) (pieces_carried shards 0 taken)
 

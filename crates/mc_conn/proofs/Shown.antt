@@ -43,7 +43,7 @@ pub shows_none : (gave : Bool) (asked : Command) → shows_server asked ≡ fals
 shows_none true asked none = refl
 shows_none false asked none = none
 
--- Where `stats` was noted it was given, and nothing else has changed.
+-- Where `stats` was noted it was read, and nothing else has changed.
 pub stats_noted : (before after : Dispatcher) (asked : Command) → before.stats_asked ≡ false → after.stats_asked ≡ true
     → TakesIn before asked after → (asked ≡ command.Stats General) × (after ≡ record before { stats_asked = true })
 stats_noted before after asked not_yet noted takes =
@@ -55,7 +55,7 @@ stats_noted before after asked not_yet noted takes =
       | false ↦ λ is opens. absurd (false≢true (sym not_yet ∙ (sym opens.noted ∙ noted)))
     ] refl takes
 
--- Where it was not noted, another command was given, and opened.
+-- Where it was not noted, another command was read, and opened.
 pub none_noted : (before after : Dispatcher) (asked : Command) → after.stats_asked ≡ false → TakesIn before asked after
     → (shows_server asked ≡ false) × OpensPendingReply before asked after
 none_noted before after asked none takes =

@@ -1,4 +1,4 @@
--- What holds of every connection, and what stays as it goes on.
+-- What holds of every connection, and what stays as it continues.
 use Rattle.std.proofs.Common.{◌≡◌, ℕ, ◌+◌, List, [], ◌∷◌, ◌++◌, length, map, take, drop, refl, sym, ap, subst, ◌∙◌}
 use Rattle.std.proofs.Common.{arith}
 use Rattle.std.specs.List.{slice_set}
@@ -75,7 +75,7 @@ numbered_held held opened accepted handed j =
     subst P (sym j.rest) (numbered_along (0 + length handed) held.handed (drop (length handed) pending_replies)
     (omega (arith, count)) all)
 
--- the same reorder buffer with one reply more
+-- the reorder buffer with one reply more
 joined_accept : (held : Held) (opened : List PendingReply) (accepted : List Shown) (handed : List (List ℕ))
     (reply : Shown) → IsReorderBuffer held opened accepted handed → Expects opened accepted reply → (new : Held)
     × IsReorderBuffer new opened (accepted ++ reply ∷ []) handed

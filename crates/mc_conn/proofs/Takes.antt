@@ -53,7 +53,7 @@ unbroken told not_over = elim told.broken as (λ b. told.broken ≡ b → b ≡ 
   | false ↦ λ e. refl
 ] refl
 
--- A connection that goes on and holds as many pending replies as its window has room for has as many commands open as
+-- A connection that continues and holds as many pending replies as its window has room for has as many commands open as
 -- may be.
 pub fills_window : (conn : Conn) → GoesOn conn → length conn.dispatcher.reorder_buffer.pending_replies
     ≡ conn.dispatcher.reorder_buffer.window → IfConn conn (λ told. FillsWindow told conn)
@@ -79,7 +79,7 @@ numbers_left conn on none most told h =
     in
     absurd (omega (arith, few, opened, none, length-pending_replies told.shards 0 told.taken))
 
--- A connection that goes on, and whose window has room, needs more bytes where its reader does.
+-- A connection that continues, and whose window has room, needs more bytes where its reader does.
 pub needs_more : (old new : Conn) → GoesOn old
     → length old.dispatcher.reorder_buffer.pending_replies < old.dispatcher.reorder_buffer.window
     → NextSays old.reader next.NeedMore new.reader →
@@ -126,8 +126,8 @@ put_first-append : (back : Option (ℕ × Piece)) (others more : List (ℕ × Pi
 put_first-append None others more = refl
 put_first-append (Some piece) others more = refl
 
--- The command that the reader gives is taken, where the connection goes on, its window has room, and the pending reply
--- and the pieces were put behind the others.
+-- The command that the reader returns is taken, where the connection continues, its window has room, and the pending
+-- reply and the pieces were put behind the others.
 pub opens : (old new : Conn) (shown carried : Command) (ticket : Ticket) (moment : ℕ) (may_show : ServerStats → Type 0)
     (server : ServerStats) (pending_reply : PendingReply) → GoesOn old
     → length old.dispatcher.reorder_buffer.pending_replies < old.dispatcher.reorder_buffer.window → ticket.0
@@ -238,7 +238,7 @@ opens old new shown carried ticket moment may_show server pending_reply on room 
       };
     }
 
--- The same of a command that shows nothing of the server.
+-- A command that shows nothing of the server is taken at once.
 pub opens_plain : (old new : Conn) (shown carried : Command) (ticket : Ticket) (moment : ℕ)
     (may_show : ServerStats → Type 0) (pending_reply : PendingReply) → GoesOn old
     → length old.dispatcher.reorder_buffer.pending_replies < old.dispatcher.reorder_buffer.window → ticket.0
@@ -275,7 +275,7 @@ opens_plain old new shown carried ticket moment may_show pending_reply on room n
     (λ shows. absurd (false≢true (sym none ∙ shows)))
     (subst Joined (sym same) reorder_buffer) (subst Joins (sym same) joins) put_back shards log broken
 
--- The command that the reader gives is taken: `stats` is opened once it was noted, and any other at once.
+-- The command that the reader returns is taken: `stats` is opened once it was noted, and any other at once.
 pub gives : (old new : Conn) (some : 0 < old.dispatcher.planner.shards) (after : Dispatcher) (shown : Command)
     (ticket : Ticket) (moment : ℕ) (may_show : ServerStats → Type 0) → GoesOn old
     → length old.dispatcher.reorder_buffer.pending_replies < old.dispatcher.reorder_buffer.window → ticket.0

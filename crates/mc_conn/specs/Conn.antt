@@ -1,4 +1,4 @@
--- What a connection is, by what it was told and what it told; and what its calls answer.
+-- What a connection is, by what came in and what went out; and what its calls return.
 use Rattle.std.specs.Prelude.{ℕ, ◌≡◌, ◌+◌, ◌<◌, true, false, List, [], ◌∷◌, ◌++◌, length, IsTrue}
 use Rattle.mc_wire.specs.Sink.{Sight, took}
 use Rattle.mc_wire.specs.Sink as sink
@@ -15,11 +15,11 @@ use Rattle.mc_conn.specs.History.{Taken, MayBeTaken, planned}
 use Rattle.mc_conn.specs.Told.{Told, IsAllTaken, IsClosed, IsOver, all_texts, commands_of, handed_text, waiting_text}
 use Rattle.mc_conn.specs.internal.Inside.{HasBeenTold}
 
--- The connection was told all this, and told all this.
+-- All this came in at the connection, and all this went out.
 unfoldable pub IsConn : Conn → Told → Type 0
 IsConn conn told = HasBeenTold conn told
 
--- This is so of what the connection was told and what it told, whatever that is.
+-- This is so of what came in at the connection and what went out, whatever that is.
 abbrev pub IfConn : Conn → (Told → Type 0) → Type 0
 IfConn conn is_so = (told : Told) → IsConn conn told → is_so told
 

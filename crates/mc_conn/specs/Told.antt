@@ -1,4 +1,4 @@
--- What a connection was told and what it told so far, as plain lists.
+-- What came in at a connection and what went out so far, as plain lists.
 use Rattle.std.specs.Prelude.{ℕ, ◌≡◌, ◌+◌, ◌<◌, ◌≤◌, Bool, false, ◌⊎◌, Option, List, [], ◌∷◌, ◌++◌, length, map, take}
 use Rattle.std.specs.Prelude.{drop, IsTrue, MatchBool}
 use Rattle.std.specs.List.{AllByRecursion, concat}

@@ -22,7 +22,7 @@ use mc_split::{Piece, PieceQueue, Planner};
 use mc_wire::{MAX_LINE_LIMIT, MAX_VALUE_LIMIT, Sink};
 use std::alloc::Global;
 
-/// What `Conn::take` answers.
+/// What `Conn::take` returns.
 #[derive(Clone, Copy, Debug, PartialEq, Eq)]
 pub enum Taken {
     /// A command was taken, and has this ticket.
@@ -38,9 +38,9 @@ pub enum Taken {
 /// One connection. A command is open from when it is taken until its reply is handed out; at most a
 /// window of them are open at a time.
 ///
-/// The contracts speak of a connection by the lists of what it was told and what it told, `Told`:
-/// `IsConn conn told` says that the connection is what these make of it, `IfConn conn (λ told. ..)`
-/// says something of them, whatever they are, and each call says how they grow.
+/// The contracts speak of a connection by what came in and what went out so far, as lists: `Told`.
+/// `IsConn conn told` says that the connection is what these make of it. `IfConn conn (λ told. ..)`
+/// says something of them, whatever they are. Each call says how they grow.
 pub struct Conn {
     reader: Reader,
     dispatcher: Dispatcher,
@@ -51,7 +51,7 @@ pub struct Conn {
 }
 
 impl Drop for Conn {
-    /// By hand, so that to let one go is one call for whoever holds it (docs/DECISIONS.md).
+    /// Written by hand, so that its owners drop it by a single call (docs/DECISIONS.md, F20).
     fn drop(self) {
         let Conn {
             reader: _reader,
@@ -132,7 +132,7 @@ impl Conn {
         self.reader.feed(piece)
     }
 
-    /// Tells that no more bytes come. It takes no memory.
+    /// Ends the input: no more bytes come. It takes no memory.
     #[tactic(auto, unfolding(crate::specs::Conn::IsConn))]
     pub fn end(&mut self)
         ensures { IfConn self.old (λ told. IsConn self.new (record told { ended = true })) }
@@ -170,7 +170,7 @@ impl Conn {
             return Taken::Full;
         }
         let Some(ticket) = self.dispatcher.reorder_buffer.next_ticket() else {
-            // The reader gives no more commands than there are tickets, so this is never reached.
+            // The reader returns no more commands than there are tickets, so this is never reached.
             return Taken::Full;
         };
         self.dispatcher.planner.ticket = ticket;
@@ -214,6 +214,7 @@ impl Conn {
     /// Accepts the answer to a piece, whichever open command and part it belongs to; of a broken
     /// connection too. `UnexpectedReply`: no such answer is awaited, and the reply is handed back
     /// unchanged. It takes no memory.
+    #[inline(always)]
     #[tactic(auto, unfolding(crate::specs::Conn::IsConn))]
     pub fn accept(&mut self, reply: Reply) -> Result<(), UnexpectedReply>
         ensures ok { OnOk result (IfConn self.old (λ told.

@@ -22,7 +22,7 @@ pub(crate) struct Dispatcher {
     pub(crate) unsent: PieceQueue,
     /// What the pieces of the next command share.
     pub(crate) planner: Planner,
-    /// Whether the command that was given is `stats`, which is opened once it is known what it
+    /// Whether the command that was read is `stats`, which is opened once it is known what it
     /// shows of the server.
     pub(crate) stats_asked: bool,
     pub(crate) log: TakenLog,

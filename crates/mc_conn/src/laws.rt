@@ -13,7 +13,7 @@ ghost use Rattle.mc_conn.specs.Conn.{IfConn, IsConn, taken_by};
 ghost use Rattle.mc_conn.specs.Told.{Told, IsSound, KeepsHanded, all_pending_replies};
 ghost use Rattle.mc_conn.specs.Fits.{CameFrom, Fits, HasCome, IsReplyTo, KeysFit, ReceivesFromShard, Serves, Tells, counts, reply_of};
 
-/// What holds of every connection, whatever it was told.
+/// What holds of every connection, whatever came in.
 pub fn connections_are_sound()
     ensures { (conn : Conn) → IfConn conn IsSound }
 {}

@@ -1,4 +1,4 @@
-//! One connection: it reads commands from the bytes fed, gives the pieces that the shards are to
+//! One connection: it reads commands from the bytes fed, makes the pieces that the shards are to
 //! run, accepts their answers in any order, and hands out the replies in the order of the commands.
 #![tactic(auto)]
 

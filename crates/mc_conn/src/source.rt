@@ -15,7 +15,7 @@ pub trait StatsSource {
         ensures { may_show self.now result };
 }
 
-/// The same whenever it is asked.
+/// Constant statistics of the server.
 impl StatsSource for ServerStats {
     ghost may_show = { λ known shown. shown ≡ known };
 

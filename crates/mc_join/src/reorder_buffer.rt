@@ -156,6 +156,7 @@ impl ReorderBuffer {
     }
 
     /// Stores a reply in its slot, whichever open ticket and part it answers. Allocates nothing.
+    #[inline(always)]
     pub fn accept(&mut self, reply: Reply) -> Result<(), UnexpectedReply>
         ensures awaited { OnOk result (IsAwaited self.old (shown reply)) }
         ensures takes_in { OnOk result (TakesIn self.old self.new (shown reply)) }

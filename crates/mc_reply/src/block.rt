@@ -15,8 +15,9 @@ pub(crate) fn put_block<O: Sink>(out: &mut O, line: &[u8], value: &Value) -> Res
     ensures { Writes (line.now ++ (value.now ++ codes "\r\n")) result (O.sight out.old)
         (O.sight out.new) }
 {
-    if value.len() < MIN_SHARED || !out.shares() {
-        return put_parts(out, &[line, value.bytes(), b"\r\n"]);
+    let bytes = value.bytes();
+    if bytes.len() < MIN_SHARED || !out.shares() {
+        return put_parts(out, &[line, bytes, b"\r\n"]);
     }
     write_all(out, line)?;
     value.put_to(out)?;

@@ -10,12 +10,12 @@ get_below [] i below = absurd (omega (arith, below))
 get_below (x ∷ xs) zero below = (x, refl)
 get_below (x ∷ xs) (suc i) below = get_below xs i (omega (arith, below))
 
--- One element more stands behind all others.
+-- One element more is behind all others.
 pub get_last : {X : Type 0} (xs : List X) (x : X) → slice_get (xs ++ x ∷ []) (length xs) ≡ Some x
 get_last [] x = refl
 get_last (y ∷ xs) x = get_last xs x
 
--- Where an element stands in a list, the function's value of it stands in the list that the function makes.
+-- Where an element is in a list, the function's value of it is in the list that the function makes.
 pub get_map : {A B : Type 0} (f : A → B) (xs : List A) (i : ℕ) (x : A) → slice_get xs i ≡ Some x
     → slice_get (map f xs) i ≡ Some (f x)
 get_map f [] i x here = absurd (cc)

@@ -26,7 +26,7 @@ module _ {Out In : Type 0} where
     channels = map-set (λ end. end.past.channel) ends place before after here same;
   }
 
-  -- The same, where the channel is named by its place among the ends.
+  -- A channel that is named by its place among the ends: the ends are unchanged likewise.
   pub same_ends : (number : ℕ) (ends : List (Side Out In)) (place : ℕ) (before after : Side Out In)
       → place < length ends → before ≡ slice_index_or ends place before → after.past.channel ≡ before.past.channel
       → AreSameEnds (record { number = number; channels = ends })

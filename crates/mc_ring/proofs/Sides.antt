@@ -25,11 +25,11 @@ ring_is a b w s n h =
     ∙ (ap (λ x. ring_of a.words x b.names b.heap) s
     ∙ (ap (λ x. ring_of a.words a.slots x b.heap) n ∙ ap (λ x. ring_of a.words a.slots a.names x) h))
 
--- The same producer has the same ring.
+-- Equal producers have equal rings.
 pub ring_in-same : {T P : Type 0} (p q : Producer T Global P) → SameProducer p q → ring_in q ≡ ring_in p
 ring_in-same p q same = ring_is (ring_in p) (ring_in q) same.0.0 same.0.1 same.0.2 same.0.3
 
--- So has the same consumer.
+-- So have equal consumers.
 pub ring_out-same : {T P : Type 0} (p q : Consumer T Global P) → SameConsumer p q → ring_out q ≡ ring_out p
 ring_out-same p q same = ring_is (ring_out p) (ring_out q) same.0.0 same.0.1 same.0.2 same.0.3
 

@@ -1,4 +1,4 @@
--- Which channel it is, as the evidence knows it that goes with requests and replies.
+-- Which channel it is, as the evidence knows it that requests and replies carry.
 use Rattle.std.specs.Prelude.{ℕ, false, []}
 use Rattle.atomic_table.specs.Seated.{TableId}
 use Rattle.mc_command.specs.declared.rules.Profile.TheVariants.{Own}

@@ -1,5 +1,5 @@
-//! What goes between the seats of connections and the shards, and the channels on which it goes:
-//! requests one way, replies the other.
+//! What travels between the seats of connections and the shards, and the channels on which it
+//! travels: requests one way, replies the other.
 #![tactic(auto)]
 
 mod making;

@@ -51,8 +51,8 @@ pub fn channels(alloc: Global, sizes: Sizes) -> Result<(Vec<SeatEnds>, Vec<Shard
     channels_with(alloc, sizes, &mut ())
 }
 
-/// The same, of channels on which a token goes with each request and each reply, all of the history
-/// of the source.
+/// Makes channels, as `channels` does, on which each request and each reply has a token, all of the
+/// history of the source.
 pub fn channels_with<T: Token + Drop, S: Source<T>>(
     alloc: Global,
     sizes: Sizes,

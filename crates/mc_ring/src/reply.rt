@@ -5,8 +5,7 @@ ghost use Rattle.mc_item.specs.Kind.{is_lawful};
 use mc_item::{Answer, Kind};
 use mc_reply::Ticket;
 
-/// The answer to one piece. Whoever receives it knows that the answer is lawful for the piece's
-/// kind.
+/// The answer to one piece. Its receiver knows that the answer is lawful for the piece's kind.
 pub struct Reply {
     /// The piece's ticket.
     pub ticket: Ticket,
@@ -19,7 +18,7 @@ pub struct Reply {
 }
 
 impl Drop for Reply {
-    /// By hand, so that to let one go is one call for whoever holds it (docs/DECISIONS.md).
+    /// Written by hand, so that its owners drop it by a single call (docs/DECISIONS.md, F20).
     #[inline(always)]
     fn drop(self) {
         let Reply {

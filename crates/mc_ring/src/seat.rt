@@ -48,7 +48,7 @@ impl<T: Token> Model for SeatChannel<T> {
 }
 
 impl<T: Token + Drop> SeatChannel<T> {
-    /// Sends a request, or hands it back where the ring is full. The token is dropped then.
+    /// Sends a request, or returns it where the ring is full. The token is dropped then.
     #[inline(always)]
     pub(crate) fn send(&mut self, request: Request, token: T) -> Result<(), Request>
         requires { T.may_send self.old.past.channel.route self.old.past.sent request token }
@@ -74,7 +74,7 @@ impl<T: Token + Drop> SeatChannel<T> {
         Some(self.replies.pop_known().open())
     }
 
-    /// Whether a reply waits. No memory is taken.
+    /// Whether a reply waits. Allocates nothing.
     pub(crate) fn has_reply(&mut self) -> bool
         ensures { LooksFor result self.old self.new }
     {
@@ -82,14 +82,14 @@ impl<T: Token + Drop> SeatChannel<T> {
     }
 }
 
-/// A seat's ends of its channels, one to each shard. A token goes with each request and each reply.
+/// A seat's ends of its channels, one to each shard. Each request and each reply has a token.
 pub struct SeatEnds<T: Token = ()> {
     number: usize,
     pub(crate) channels: Vec<SeatChannel<T>>,
 }
 
 impl<T: Token + Drop> Drop for SeatEnds<T> {
-    /// By hand, so that to let one go is one call for whoever holds it (docs/DECISIONS.md).
+    /// Written by hand, so that its owners drop it by a single call (docs/DECISIONS.md, F20).
     fn drop(self) {
         let SeatEnds {
             number: _number,
@@ -132,7 +132,7 @@ impl<T: Token + Drop> SeatEnds<T> {
     }
 
     /// Sends a request to a shard with a token that allows it there. Where the ring is full, the
-    /// request is handed back and the token dropped. No memory is taken.
+    /// request is returned and the token dropped. Allocates nothing.
     pub fn send_with(&mut self, shard: usize, request: Request, token: T) -> Result<(), Request>
         requires shard { shard < length self.old.channels }
         requires may { HoldsAt
@@ -145,7 +145,7 @@ impl<T: Token + Drop> SeatEnds<T> {
     }
 
     /// Receives the reply of a shard that has waited longest, if one waits, with the token that
-    /// allows it there. No memory is taken.
+    /// allows it there. Allocates nothing.
     pub fn receive_with(&mut self, shard: usize) -> Option<(Reply, T)>
         requires { shard < length self.old.channels }
         ensures channel { AtChannel (Receives (λ got. shown got.0) result) shard self.old self.new }
@@ -157,7 +157,7 @@ impl<T: Token + Drop> SeatEnds<T> {
         self.channels[shard].receive()
     }
 
-    /// Whether a reply of a shard waits. No memory is taken.
+    /// Whether a reply of a shard waits. Allocates nothing.
     pub fn has_reply(&mut self, shard: usize) -> bool
         requires { shard < length self.old.channels }
         ensures channel { AtChannel (LooksFor result) shard self.old self.new }
@@ -168,7 +168,7 @@ impl<T: Token + Drop> SeatEnds<T> {
 }
 
 impl SeatEnds<()> {
-    /// Sends a request to a shard, or hands it back where the ring is full. No memory is taken.
+    /// Sends a request to a shard, or returns it where the ring is full. Allocates nothing.
     pub fn send(&mut self, shard: usize, request: Request) -> Result<(), Request>
         requires { shard < length self.old.channels }
         ensures channel { AtChannel (Sends (λ sent. sent) request result) shard self.old self.new }
@@ -177,7 +177,7 @@ impl SeatEnds<()> {
         self.send_with(shard, request, ())
     }
 
-    /// Receives the reply of a shard that has waited longest, if one waits. No memory is taken.
+    /// Receives the reply of a shard that has waited longest, if one waits. Allocates nothing.
     pub fn receive(&mut self, shard: usize) -> Option<Reply>
         requires { shard < length self.old.channels }
         ensures channel { AtChannel (Receives shown result) shard self.old self.new }

@@ -1,4 +1,4 @@
-//! A shard's ends of its channels: it takes requests of the seats and gives its replies.
+//! A shard's ends of its channels: it takes the requests of the seats and sends its replies.
 ghost use Rattle.std.specs.Prelude.{◌≡◌, ◌<◌, ◌++◌, ◌∷◌, [], IfSome, OnOk, length};
 ghost use Rattle.mc_ring.specs.Reply.{shown};
 ghost use Rattle.mc_ring.specs.Ends.{AreSameEnds, AtChannel, HoldsAt, LooksFor, Receives, Sends};
@@ -61,7 +61,7 @@ impl<T: Token + Drop> ShardChannel<T> {
         Some(self.requests.pop_known().open())
     }
 
-    /// Gives a reply, or hands it back where the ring is full. The token is dropped then.
+    /// Sends a reply, or returns it where the ring is full. The token is dropped then.
     #[inline(always)]
     pub(crate) fn give(&mut self, reply: Reply, token: T) -> Result<(), Reply>
         requires { T.may_give self.old.past.channel.route self.old.past.sent (shown reply) token }
@@ -74,7 +74,7 @@ impl<T: Token + Drop> ShardChannel<T> {
         Ok(())
     }
 
-    /// Whether a request waits. No memory is taken.
+    /// Whether a request waits. Allocates nothing.
     pub(crate) fn has_request(&mut self) -> bool
         ensures { LooksFor result self.old self.new }
     {
@@ -82,14 +82,14 @@ impl<T: Token + Drop> ShardChannel<T> {
     }
 }
 
-/// A shard's ends of its channels, one to each seat. A token goes with each request and each reply.
+/// A shard's ends of its channels, one to each seat. Each request and each reply has a token.
 pub struct ShardEnds<T: Token = ()> {
     number: usize,
     pub(crate) channels: Vec<ShardChannel<T>>,
 }
 
 impl<T: Token + Drop> Drop for ShardEnds<T> {
-    /// By hand, so that to let one go is one call for whoever holds it (docs/DECISIONS.md).
+    /// Written by hand, so that its owners drop it by a single call (docs/DECISIONS.md, F20).
     fn drop(self) {
         let ShardEnds {
             number: _number,
@@ -144,7 +144,7 @@ impl<T: Token + Drop> ShardEnds<T> {
     }
 
     /// Takes the request of a seat that has waited longest, if one waits, with the token that
-    /// allows it there. No memory is taken.
+    /// allows it there. Allocates nothing.
     pub fn take_with(&mut self, seat: usize) -> Option<(Request, T)>
         requires { seat < length self.old.channels }
         ensures channel { AtChannel (Receives (λ got. got.0) result) seat self.old self.new }
@@ -156,8 +156,8 @@ impl<T: Token + Drop> ShardEnds<T> {
         self.channels[seat].take()
     }
 
-    /// Gives a reply to a seat with a token that allows it there. Where the ring is full, the reply
-    /// is handed back and the token dropped. No memory is taken.
+    /// Sends a reply to a seat with a token that allows it there. Where the ring is full, the reply
+    /// is returned and the token dropped. Allocates nothing.
     pub fn give_with(&mut self, seat: usize, reply: Reply, token: T) -> Result<(), Reply>
         requires seat { seat < length self.old.channels }
         requires may { HoldsAt
@@ -170,7 +170,7 @@ impl<T: Token + Drop> ShardEnds<T> {
         self.channels[seat].give(reply, token)
     }
 
-    /// Whether a request of a seat waits. No memory is taken.
+    /// Whether a request of a seat waits. Allocates nothing.
     pub fn has_request(&mut self, seat: usize) -> bool
         requires { seat < length self.old.channels }
         ensures channel { AtChannel (LooksFor result) seat self.old self.new }
@@ -181,7 +181,7 @@ impl<T: Token + Drop> ShardEnds<T> {
 }
 
 impl ShardEnds<()> {
-    /// Takes the request of a seat that has waited longest, if one waits. No memory is taken.
+    /// Takes the request of a seat that has waited longest, if one waits. Allocates nothing.
     pub fn take(&mut self, seat: usize) -> Option<Request>
         requires { seat < length self.old.channels }
         ensures channel { AtChannel (Receives (λ request. request) result) seat self.old self.new }
@@ -191,7 +191,7 @@ impl ShardEnds<()> {
         Some(request)
     }
 
-    /// Gives a reply to a seat, or hands it back where the ring is full. No memory is taken.
+    /// Sends a reply to a seat, or returns it where the ring is full. Allocates nothing.
     pub fn give(&mut self, seat: usize, reply: Reply) -> Result<(), Reply>
         requires { seat < length self.old.channels }
         ensures channel { AtChannel (Sends shown reply result) seat self.old self.new }

@@ -1,4 +1,4 @@
-//! What lies in a ring.
+//! The items of a ring.
 ghost use Rattle.std.specs.Prelude.{◌≡◌};
 
 use std::snapshot::Snapshot;

@@ -1,4 +1,4 @@
-//! Evidence that goes with the requests and the replies of a channel.
+//! Evidence that the requests and the replies of a channel carry.
 ghost use Rattle.std.specs.Prelude.{◌≡◌};
 
 use crate::reply::Reply;
@@ -7,8 +7,7 @@ use crate::stamped::Stamped;
 use rtrb::Protocol;
 use std::marker::PhantomData;
 
-/// What goes with a request or a reply, for its receiver to rely on. Its values are to take no
-/// bytes.
+/// What a request or a reply carries, for its receiver to rely on. Its values are to take no bytes.
 pub trait Token {
     ghost use Rattle.std.specs.Prelude.{List};
     ghost use Rattle.mc_ring.specs.declared.request.Request.{Request};

@@ -1,4 +1,4 @@
--- What stands in a queue, and what its calls make of that.
+-- What is in a queue, and what its calls make of that.
 use Rattle.std.proofs.Common.{◌≡◌, ◌==◌, ℕ, zero, suc, ◌<◌, Bool, true, false, List, [], ◌∷◌, ◌++◌, length, Option}
 use Rattle.std.proofs.Common.{Some, None, is_some, not, refl, ap, sym, ◌∙◌, append_assoc, append-nil, arith, flat_map}
 use Rattle.std.proofs.Common.{length-append}

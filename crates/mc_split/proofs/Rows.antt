@@ -43,7 +43,7 @@ other_pieces : (pieces_of 3 (command.FlushAll (pos 5) true)
 unfolding pieces_of fnv_of
 other_pieces = (refl, refl, refl, refl)
 
--- the counts of every shard, rising; they begin anew on every shard; and counts of other kinds ask none
+-- the counts of every shard, rising; they begin again on every shard; and counts of other kinds ask none
 stats_pieces : (pieces_of 2 (command.Stats request.General)
     ≡ record { shard = 0; op = op.Stats } ∷ record { shard = 1; op = op.Stats } ∷ [])
     × (pieces_of 2 (command.Stats request.Reset)
@@ -95,7 +95,7 @@ deletion flags =
       flags = flags;
     })
 
--- the key is kept for the reply where the flag k stands
+-- the key is kept for the reply where the flag k is given
 shapes : (reply_kind_of (deletion flags_k) ≡ reply_kind.Meta kind.Delete flags_k false (Some (codes "a")) false)
     × (reply_kind_of (deletion (record flags_k { returned = flag.TimeLeft ∷ [] }))
     ≡ reply_kind.Meta kind.Delete (record flags_k { returned = flag.TimeLeft ∷ [] }) false None false)

@@ -147,8 +147,8 @@ impl Planner {
         self.one(queue, plain_line(noreply), shard, Op::Delete { key })
     }
 
-    /// A set whose value is too large, by memcached's rules: the item goes, whatever the shard
-    /// answers, and the line is refused.
+    /// A set whose value is too large, by memcached's rules: the item is deleted, whatever the
+    /// shard answers, and the line is refused.
     #[tactic(auto, unfolding(crate::specs::Pieces::pieces_of, mc_reply::specs::ReplyKind::reply_kind_of))]
     pub(crate) fn discard(
         self,

@@ -21,8 +21,8 @@ pub fn pieces_are_of_one_kind()
     ensures { AsksOneKind }
 {}
 
-/// A reply is empty of `quit`, where `noreply` stands and where `q` hides what was answered, and
-/// nowhere else.
+/// A reply is empty of `quit`, with `noreply` and where `q` hides what was answered, and nowhere
+/// else.
 pub fn only_silent_replies_are_empty()
     ensures { IsEmptyWhereSilent }
 {}

@@ -23,7 +23,7 @@ fn is_key(flag: ReturnFlag) -> bool
     matches!(flag, ReturnFlag::Key)
 }
 
-/// Whether the flag `k` is among those that are given back.
+/// Whether the flag `k` is among those that are returned.
 fn shows_key(flags: &MetaFlags) -> bool
     ensures { result ≡ list_any is_key_flag flags.now.returned }
 {

@@ -40,7 +40,7 @@ impl Planner {
         self.fixed(Fixed::Refused(refusal))
     }
 
-    /// Puts the piece of `get KEY`, or `gets KEY`, behind those of the queue, and gives the key
+    /// Puts the piece of `get KEY`, or `gets KEY`, behind those of the queue, and returns the key
     /// that the reply shows. Where memory runs out, the queue holds what it held.
     #[inline(always)]
     #[tactic(auto, unfolding(crate::specs::Pieces::pieces_of))]

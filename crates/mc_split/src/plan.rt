@@ -22,7 +22,7 @@ pub struct Piece {
 }
 
 impl Drop for Piece {
-    /// By hand, so that to let one go is one call for whoever holds it (docs/DECISIONS.md).
+    /// Written by hand, so that its owners drop it by a single call (docs/DECISIONS.md, F20).
     #[inline(always)]
     fn drop(self) {
         let Piece {
@@ -89,8 +89,8 @@ pub fn split(
 }
 
 impl Planner {
-    /// Splits a command: puts its pieces behind those of the queue, and gives the pending reply of
-    /// its reply. All growth happens here, before the first piece goes out. Where memory runs out,
+    /// Splits a command: puts its pieces behind those of the queue, and returns its pending
+    /// reply. All growth happens here, before the first piece goes out. Where memory runs out,
     /// the queue holds what it held.
     #[tactic(auto, unfolding(crate::specs::Pieces::pieces_of, mc_reply::specs::ReplyKind::reply_kind_of))]
     pub fn split_into(

@@ -63,7 +63,7 @@ abbrev pub OpensNoted : (ServerStats → Type 0) → Dispatcher → Dispatcher �
 OpensNoted may_show old new =
     MatchBool old.stats_asked ((server : ServerStats) × may_show server × OpensStats old server new) (new ≡ old)
 
--- A command was given: `stats` is noted, so that what is known of the server can be asked for, and any other is planned
+-- A command was read: `stats` is noted, so that what is known of the server can be asked for, and any other is planned
 -- and opened.
 abbrev pub TakesIn : Dispatcher → Command → Dispatcher → Type 0
 TakesIn old asked new =

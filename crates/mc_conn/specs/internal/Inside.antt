@@ -1,4 +1,4 @@
--- What stands inside a connection, by what it was told and what it told.
+-- What is inside a connection, by what came in and what went out.
 use Rattle.std.specs.Prelude.{ℕ, ◌≡◌, ◌+◌, ◌<◌, ◌≤◌, false, List, ◌∷◌, length, map, drop, Option, Some, None, IsTrue}
 use Rattle.std.specs.List.{AllByRecursion}
 use Rattle.mc_reader.specs.Reader.{IsReader, entries_of}
@@ -15,14 +15,14 @@ put_first None others = others
 put_first (Some piece) others = piece ∷ others
 
 pub record HasBeenTold (conn : Conn) (told : Told) : Type 0 where
-  -- what the reader gave, and the texts that the reorder buffer handed out
+  -- what the reader returned, and the texts that the reorder buffer handed out
   pub given : List Given
   pub texts : List (List ℕ)
   pub shards : conn.dispatcher.planner.shards ≡ told.shards
   pub window : conn.dispatcher.reorder_buffer.window ≡ told.window
   pub broken : conn.broken ≡ told.broken
   pub read : IsReader conn.reader told.rules told.fed told.ended given
-  -- The commands taken are those that the reader gave.
+  -- The commands taken are those that the reader returned.
   pub spelled : entries_of given ≡ commands_of told.taken
   pub may : AllByRecursion MayBeTaken told.taken
   -- The log has them as they are carried out.

@@ -14,7 +14,7 @@ abbrev pub unless_given_up : Bool → Command → Command
 unless_given_up given_up command = if given_up then Refused Memory else command
 
 -- This is carried out, the command, or the refusal where it was given up; the pending reply is that of its reply, and
--- its pieces stand behind the others.
+-- its pieces are behind the others.
 pub record Plans (shards : ℕ) (ticket : Ticket) (moment : ℕ) (command carried : Command) (pending_reply : PendingReply)
     (before after : List (ℕ × Piece)) : Type 0 where
   pub given_up : Bool

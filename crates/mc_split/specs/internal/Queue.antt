@@ -1,4 +1,4 @@
--- The pieces that the parts of a queue stand for.
+-- The pieces that are queued, by the parts of a queue.
 use Rattle.std.specs.Prelude.{ℕ, ◌-◌, ◌<◌, List, [], ◌∷◌, ◌++◌, Option, Some, None, length}
 use Rattle.std.specs.List.{flat_map}
 use Rattle.mc_split.specs.Plan.{parts_from}

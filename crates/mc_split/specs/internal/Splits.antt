@@ -8,7 +8,7 @@ use Rattle.mc_reply.specs.declared.ticket.Ticket.{Ticket}
 use Rattle.mc_split.specs.Pieces.{ShardOp}
 use Rattle.mc_split.specs.Plan.{pending_reply_with, parts_from}
 
--- These pieces stand behind the others, and the pending reply awaits an answer to each. Where memory runs out, which it
+-- These pieces are behind the others, and the pending reply awaits an answer to each. Where memory runs out, which it
 -- does for a command that asks a shard alone, nothing changed.
 pub record Splits (result : Result PendingReply NoMemory) (ticket : Ticket) (moment : ℕ) (reply_kind : ReplyKind)
     (asked : List ShardOp) (old new : List (ℕ × Piece)) : Type 0 where

@@ -19,7 +19,7 @@ returns g c =
     writes_rest _ c.write_all-2.result (wrote_more value (codes "\r\n") line c.in_ok-put_to.ensures)
     c.write_all-2.ensures
 
-pub returns-then-len-lt-MIN_SHARED : goal.returns-then-len-lt-MIN_SHARED
-returns-then-len-lt-MIN_SHARED g c =
-    writes_same _ _ c.put_parts.result (ap (λ xs. c.args.line.now ++ (xs ++ codes "\r\n")) (sym c.bytes.ensures.value))
+pub returns-then-bytes-lt-MIN_SHARED : goal.returns-then-bytes-lt-MIN_SHARED
+returns-then-bytes-lt-MIN_SHARED g c =
+    writes_same _ _ c.put_parts.result (ap (λ xs. c.args.line.now ++ (xs ++ codes "\r\n")) (sym c.bytes-bytes.ensures.value))
     c.put_parts.ensures

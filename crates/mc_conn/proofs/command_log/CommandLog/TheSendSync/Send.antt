@@ -1,4 +1,4 @@
--- A log owns nothing, so it may go to another thread.
+-- A log owns nothing, so it may move to another thread.
 use denote.RattleType.{RattleType}
 use denote.Param.Send.{IsSend, owning_send, sendable}
 use Rattle.mc_conn.specs.contracts.command_log.CommandLog.{the_row, the_type}

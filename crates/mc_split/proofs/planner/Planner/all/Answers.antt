@@ -1,4 +1,4 @@
--- The pending reply has a slot for each shard, and what all shards are asked stands behind the others.
+-- The pending reply has a slot for each shard, and what all shards are asked is behind the others.
 use Rattle.std.proofs.Common.{◌++◌, ap, ◌∙◌}
 use Rattle.mc_split.specs.internal.ToAll.{op_of}
 use Rattle.mc_split.proofs.Parts.{all_asks, asks_pending_reply}

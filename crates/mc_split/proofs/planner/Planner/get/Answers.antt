@@ -1,4 +1,4 @@
--- The pending reply has a slot for each key, and the fetches of all keys stand behind the others.
+-- The pending reply has a slot for each key, and the fetches of all keys are behind the others.
 use Rattle.std.proofs.Common.{◌++◌, length, ap, ◌∙◌}
 use Rattle.mc_command.specs.declared.command.Command.TheVariants as command
 use Rattle.mc_reply.specs.ReplyKind.{reply_kind_of}
