@@ -21,5 +21,5 @@ returns g c =
 
 pub returns-then-bytes-lt-MIN_SHARED : goal.returns-then-bytes-lt-MIN_SHARED
 returns-then-bytes-lt-MIN_SHARED g c =
-    writes_same _ _ c.put_parts.result (ap (λ xs. c.args.line.now ++ (xs ++ codes "\r\n")) (sym c.bytes-bytes.ensures.value))
-    c.put_parts.ensures
+    writes_same _ _ c.put_parts.result
+    (ap (λ xs. c.args.line.now ++ (xs ++ codes "\r\n")) (sym c.bytes-bytes.ensures.value)) c.put_parts.ensures
