@@ -22,9 +22,9 @@ PLAIN = [
 
 # The crates whose comments are held to the list: those in src, specs and proofs.
 CLEAN = [
-    "mc_cells", "mc_command", "mc_connection_tests", "mc_doors", "mc_history", "mc_join", "mc_laws", "mc_metrics", "mc_model",
-    "mc_options", "mc_plain", "mc_protocol_tests", "mc_reader", "mc_replay", "mc_reply", "mc_rows", "mc_server",
-    "mc_serving_tests", "mc_sim", "mc_sizes", "mc_trials", "mc_wake", "mc_watch", "mc_wire", "mcd",
+    "mc_cells", "mc_command", "mc_connection_tests", "mc_doors", "mc_history", "mc_item", "mc_join", "mc_laws", "mc_metrics",
+    "mc_model", "mc_options", "mc_plain", "mc_protocol_tests", "mc_reader", "mc_replay", "mc_reply", "mc_rows", "mc_server",
+    "mc_serving_tests", "mc_sim", "mc_sizes", "mc_store", "mc_trials", "mc_wake", "mc_watch", "mc_wire", "mcd",
 ]
 
 # What not to write, and what to write for it.

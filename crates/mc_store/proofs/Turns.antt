@@ -32,14 +32,14 @@ dead_mapped : (time : ℕ) (o : Option Used) → is_dead_at time o
 dead_mapped time None = refl
 dead_mapped time (Some u) = refl
 
--- The list tells whether the item under a turn's key is its own.
+-- The list shows whether the item under a turn's key is its own.
 pub its_listed : (held : ShardContents) (state : State) (turn : Turn) (o : Option Item) → Keeps held state → o
     ≡ lookup (pointwise nat_eq turn.0) held.entries → is_of_turn turn (get state.items turn.0) ≡ is_its turn o
 its_listed held state turn o h is =
     its_mapped turn (get state.items turn.0)
     ∙ ap (is_its turn) (sym (lookup-Shows held.entries state.items h.order turn.0) ∙ sym is)
 
--- The list tells whether it is dead.
+-- The list shows whether it is dead.
 pub dead_listed : (held : ShardContents) (state : State) (turn : Turn) (item : Item) → Keeps held state → Some item
     ≡ lookup (pointwise nat_eq turn.0) held.entries → is_dead_at state.time (get state.items turn.0)
     ≡ is_dead item.expiry held.time
@@ -54,7 +54,7 @@ fetched_mapped : (o : Option Used) → was_fetched o
 fetched_mapped None = refl
 fetched_mapped (Some u) = refl
 
--- The list tells whether it was fetched.
+-- The list shows whether it was fetched.
 pub fetched_listed : (held : ShardContents) (state : State) (turn : Turn) (item : Item) → Keeps held state → Some item
     ≡ lookup (pointwise nat_eq turn.0) held.entries → was_fetched (get state.items turn.0) ≡ item.fetched
 fetched_listed held state turn item h is =

@@ -1,5 +1,4 @@
-//! Dead items, which give their room back: an item with an expiry waits for its turn to be looked
-//! at.
+//! Removal of dead items: an item with an expiry waits for its turn to be looked at.
 ghost use Rattle.std.specs.Prelude.{◌≡◌, ◌<◌, ◌≤◌, ◌&&◌, ◌==◌, not, ℕ, List, Option, IfOk};
 ghost use Rattle.std.specs.Option.{IsSome};
 ghost use Rattle.std.specs.VecDeque.{deque_len, deque_capacity};
@@ -38,7 +37,7 @@ pub(super) fn make_turn(
     Ok(Some(copy))
 }
 
-/// Whether the item goes: it is dead, and it isn't the one that enters, which has the unique
+/// Whether the item is removed: it is dead, and it isn't the one that enters, which has the unique
 /// `entering`.
 fn is_reclaimed(item: &Item, entering: u64, time: u64) -> bool
     ensures { result ≡ (is_dead item.now.expiry time && not (item.now.unique == entering)) }
@@ -65,9 +64,9 @@ impl Shard {
         }
     }
 
-    /// Looks at the next turn, for the item of this unique, which entered. Where the turn's item is
-    /// dead, both go, and it is counted. Where it lives, its turn comes again after all others.
-    /// Where it was stored anew or is gone, the turn is dropped.
+    /// Looks at the next turn, for the item of this unique, which entered. If the turn's item is
+    /// dead, both are removed, and it is counted. If it lives, its turn comes again after all others.
+    /// If it was stored again or is gone, the turn is dropped.
     fn look(&mut self, entering: u64)
         ensures looked { (state : State) → IsShard self.old state →
             IsShard self.new (looked entering state) }
