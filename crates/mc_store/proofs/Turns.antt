@@ -77,6 +77,19 @@ look_none held state entering left h is rest =
     let empty : left ≡ [] = sym is ∙ none in
     rw (turns, empty) (assumption)
 
+-- a list without a length is empty
+pub none_long : (turns : List Turn) → length turns ≡ 0 → turns ≡ []
+none_long [] is = refl
+none_long (turn ∷ rest) is = absurd (omega (arith, is))
+
+-- Where no turn waits, two looks change nothing.
+pub two_looks_none : (held : ShardContents) (state : State) (entering : ℕ) → Keeps held state → held.turns ≡ [] →
+    Keeps held (looked entering (looked entering state))
+unfolding items_after op_stats_after turns_after
+two_looks_none held state entering h none =
+    let turns : state.turns ≡ [] = h.turns ∙ none in
+    rw turns (assumption)
+
 -- Where the item under the turn's key isn't its own, or there is none, the turn is dropped.
 pub look_drops : (held : ShardContents) (state : State) (entering : ℕ) (turn : Turn) (rest : List Turn)
     → Keeps held state → held.turns ≡ turn ∷ rest →

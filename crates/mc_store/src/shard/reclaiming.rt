@@ -57,11 +57,26 @@ impl Shard {
             IsShard self.old state → turn ≡ turn_of token key item.expiry → item.unique ≡ unique →
             IsShard self.new (with_turn (looked unique (looked unique state)) token key item) }
     {
-        self.look(unique);
-        self.look(unique);
+        self.look_twice(unique);
         if let Some(own) = turn {
             self.turns.push_back_reserved((own, unique));
         }
+    }
+
+    /// Looks at the next two turns, for the item of this unique, which entered.
+    // Where no item has an expiry no turn waits, and a look costs more than this test.
+    #[inline(always)]
+    fn look_twice(&mut self, entering: u64)
+        ensures looked { (state : State) → IsShard self.old state →
+            IsShard self.new (looked entering (looked entering state)) }
+        ensures len { deque_len self.new.turns ≤ deque_len self.old.turns }
+        ensures capacity { deque_capacity self.new.turns ≡ deque_capacity self.old.turns }
+    {
+        if self.turns.is_empty() {
+            return;
+        }
+        self.look(entering);
+        self.look(entering);
     }
 
     /// Looks at the next turn, for the item of this unique, which entered. If the turn's item is
