@@ -85,10 +85,10 @@ none_long (turn ∷ rest) is = absurd (omega (arith, is))
 -- Where no turn waits, two looks change nothing.
 pub two_looks_none : (held : ShardContents) (state : State) (entering : ℕ) → Keeps held state → held.turns ≡ [] →
     Keeps held (looked entering (looked entering state))
-unfolding items_after op_stats_after turns_after
 two_looks_none held state entering h none =
-    let turns : state.turns ≡ [] = h.turns ∙ none in
-    rw turns (assumption)
+    let rest : held.turns ≡ drop 1 held.turns = rw none refl in
+    look_none held (looked entering state) entering held.turns
+    (look_none held state entering held.turns h refl rest) refl rest
 
 -- Where the item under the turn's key isn't its own, or there is none, the turn is dropped.
 pub look_drops : (held : ShardContents) (state : State) (entering : ℕ) (turn : Turn) (rest : List Turn)
