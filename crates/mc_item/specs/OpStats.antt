@@ -80,7 +80,7 @@ status_of answer.NoCas = status.Refused
 status_of answer.NonNumeric = status.Refused
 status_of _ = status.Hit
 
--- nothing was counted: all 60 counters, one for each kind and status, stand at 0
+-- nothing was counted: all 60 counters, one for each kind and status, are 0
 abbrev pub no_counts : OpStats
 no_counts = record { counts = replicate 60 0 }
 
@@ -92,7 +92,7 @@ counter asked status = tag_of kinds asked * 5 + tag_of statuses status
 abbrev pub counted : OpStats → StatClass → Status → ℕ
 counted op_stats asked status = slice_index op_stats.counts (counter asked status)
 
--- the counts where this was asked once more and came to that, and no other changed; a count starts anew after 2^64 - 1
+-- the counts where this was asked once more and came to that, and no other changed; a count starts again after 2^64 - 1
 abbrev pub noted : OpStats → StatClass → Status → OpStats
 noted op_stats asked status =
     record op_stats {

@@ -71,11 +71,11 @@ pub struct MetaHit {
 /// The marks of a hit, shown as `W`, `X`, `Z`.
 #[derive(Clone, Copy)]
 pub struct Marks {
-    /// `W`: this client is told to recompute the item.
+    /// `W`: this client is to recompute the item.
     pub won: bool,
     /// `X`: the item is stale.
     pub stale: bool,
-    /// `Z`: another client was told to recompute it.
+    /// `Z`: another client is to recompute it.
     pub sent: bool,
 }
 

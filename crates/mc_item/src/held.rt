@@ -15,7 +15,7 @@ pub(crate) const BLOCK_LIMIT: usize = 512;
 
 /// How a value holds its bytes: a few in the handle, up to `BLOCK_LIMIT` in front of a block of one
 /// of twenty sizes, and more in a vector. The block of such a size and the count of its owners fill
-/// what the C library's allocator gives: a multiple of 16 bytes.
+/// what the C library's allocator returns: a multiple of 16 bytes.
 #[derive(Drop)]
 pub(crate) enum Held {
     /// How many, and room for them. They take no block.

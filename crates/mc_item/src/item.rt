@@ -29,7 +29,7 @@ pub struct Item {
     pub fetched: bool,
     /// It was marked stale, and not stored since.
     pub stale: bool,
-    /// A client was told to recompute it.
+    /// A client was asked to recompute it.
     pub sent: bool,
     pub expiry: PackedExpiry,
     /// The cas unique.
@@ -77,8 +77,7 @@ impl Item {
         self.value.number()
     }
 
-    /// The item once more, with the same value: shared, or else a copy for which the reserve is
-    /// used up.
+    /// Another item with the value: shared, or else copied into the reserve, which is used up.
     pub fn shared(&self, reserve: &mut Option<Reserve>) -> Item
         requires { IsSome reserve.old }
         ensures item { result ≡ self.now }

@@ -28,7 +28,7 @@ pub enum Op {
     Delete {
         key: Key,
     },
-    /// The item under the key of a value that is too large goes, by memcached's rules.
+    /// The item under the key of a value that is too large is deleted, by memcached's rules.
     Discard {
         key: Key,
     },

@@ -69,8 +69,8 @@ const KINDS: usize = 12;
 
 const STATUSES: usize = 5;
 
-/// How often a shard was asked for each kind, and what came of it, since it began. A count starts
-/// anew after 2^64 - 1.
+/// How often a shard ran each kind of command, and with which outcome, since its counts began. A
+/// count starts again at 0 after 2^64 - 1.
 #[derive(Clone, Copy)]
 pub struct OpStats {
     counts: [u64; KINDS * STATUSES],
@@ -233,7 +233,7 @@ impl OpStats {
         }
     }
 
-    /// Counts a dead item that gives its room back, by whether it was fetched since it was stored.
+    /// Counts a dead item that is removed, by whether it was fetched since it was stored.
     pub fn count_reclaimed(&mut self, fetched: bool)
         ensures { self.new ≡ reclaimed_in self.old fetched }
     {

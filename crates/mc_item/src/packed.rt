@@ -9,7 +9,7 @@ use std::marker::Model;
 /// An exptime of at most 30 days, in seconds, counts from now.
 const LONGEST_DELAY: u64 = 2_592_000;
 
-/// Stands for never. No exptime means so late a second.
+/// The second that means never. No exptime means so late a second.
 const NEVER: u64 = u64::MAX;
 
 /// An expiry that an exptime can mean, in the eight bytes that an item has for it. Contracts see

@@ -102,7 +102,7 @@ impl Stat {
         }
     }
 
-    /// What it is of a shard. A sum of counts starts anew after 2^64 - 1.
+    /// What it is of a shard. A sum of counts starts again at 0 after 2^64 - 1.
     pub fn of(self, stats: &Stats) -> u64
         ensures { result ≡ (row_of self).1 stats.now % 2 ^ 64 }
     {

@@ -22,7 +22,7 @@ pub struct Stats {
     pub budget: u64,
 }
 
-/// The same in memory of its own, so that an answer stays small. A contract sees the counts.
+/// The counts in memory of their own, so that an answer stays small. A contract sees the counts.
 #[derive(Drop)]
 pub struct BoxedStats {
     stats: Box<Stats>,

@@ -21,7 +21,7 @@ pub struct Value {
 }
 
 impl Drop for Value {
-    /// By hand, so that to let one go is one call for whoever holds it (docs/DECISIONS.md).
+    /// By hand, so that dropping one is one call for its owner (docs/DECISIONS.md).
     #[inline(always)]
     fn drop(self) {
         let Value { held: _held } = self;

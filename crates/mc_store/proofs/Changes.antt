@@ -87,7 +87,7 @@ pub settled_live : (held : ShardContents) (state : State) (key : List ℕ) (item
     ≡ live held.time (lookup (pointwise nat_eq key) held.entries) → Keeps held (without_dead state (Some key))
 settled_live held state key item h is = rw (meets held state key item h is).settled h
 
--- What is told by the item under the key and whether it is dead
+-- What is known by the item under the key and whether it is dead
 
 -- A dead item counts as none.
 pub dead_none : (time : ℕ) (item : Item) (found : Option Item) → Some item ≡ found → is_dead item.expiry time ≡ true

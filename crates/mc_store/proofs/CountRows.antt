@@ -1,4 +1,4 @@
--- Worked rows of the counts, each computed: a shard that is asked, shows its counts, and begins them anew.
+-- Worked rows of the counts, each computed: a shard that is asked, shows its counts, and begins them again.
 use Rattle.std.proofs.Common.{◌≡◌, ℕ, Bool, true, false, List, [], ◌∷◌, Some, None, refl}
 use Rattle.std.specs.Prelude.{codes}
 use Rattle.std.specs.FinMap.{get, len}
@@ -53,7 +53,7 @@ record CountRows : Type 0 where
   no_hit : (m : Items) → counted (stats_of (begun_anew m)).op_stats Get Hit ≡ 0
   no_miss : (m : Items) → counted (stats_of (begun_anew m)).op_stats Get Miss ≡ 0
   none_went : (m : Items) → (stats_of (begun_anew m)).evicted ≡ 0
-  -- two of three items go, and after 2^64 - 1 the count starts anew
+  -- two of three items are evicted, and after 2^64 - 1 the count starts again
   two_went : (m : Items) (key : List ℕ) → len m ≡ 3 → len (fitting m 1024 key) ≡ 1 → (evicting (fresh m 3) key).evicted
       ≡ 5
   starts_anew : (m : Items) (key : List ℕ) → len m ≡ 3 → len (fitting m 1024 key) ≡ 1
@@ -79,7 +79,7 @@ all_counted = record {
 abbrev waiting : Items → State
 waiting items = record (fresh items 3) { turns = (codes "a", 5) ∷ [] }
 
--- what an item is that stands under a key: its unique is 5, it died at 900, and it was fetched or wasn't
+-- what an item under a key is: its unique is 5, it died at 900, and it was fetched or wasn't
 record Dead (items : Items) (fetched : Bool) : Type 0 where
   used : Used
   found : get items (codes "a") ≡ Some used

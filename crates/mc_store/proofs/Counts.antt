@@ -66,7 +66,7 @@ counter_as held state key token made item reply answer new h is closes =
     (written_as (without_dead state (Some key)) key token item
     (fresh_of (number_text made.initial) 0 (expiry_of made.exptime held.time)) made.initial reply answer new is closes)
 
--- Where nothing alive is under the key, counting goes as under an absent key.
+-- Where nothing alive is under the key, counting is as under an absent key.
 pub count_misses : (held : ShardContents) (state : State) (asked : op.MetaCount) (reply : Reply) (answer : Answer)
     (new : ShardContents) → Keeps held state → None
     ≡ live held.time (lookup (pointwise nat_eq asked.key) held.entries) →
@@ -141,7 +141,7 @@ counted_as held state item asked reply number new_item answer new h is other num
     (written_as settled asked.key asked.unique new_item (counted_item item to asked.exptime held.time item.unique) to
     reply answer new made closes))
 
--- the same, where the new number was computed
+-- counting where the new number was computed
 pub counted_by : (held : ShardContents) (state : State) (item : Item) (asked : op.MetaCount) (reply : Reply)
     (number to : ℕ) (new_item : Item) (answer : Answer) (new : ShardContents) → Keeps held state → Some item
     ≡ live held.time (lookup (pointwise nat_eq asked.key) held.entries) →
@@ -177,7 +177,7 @@ pub meta_count : (settled : State) (asked : op.MetaCount) (answer : Answer) (new
 unfolding step_of kind_of is_lawful
 meta_count settled asked answer new closes = ends settled (MetaCount asked) answer new (λ _. refl) closes
 
--- the same, where what is to be made is given as an option
+-- counting where what is to be made is an option
 pub vivified_as : (settled : State) (key : List ℕ) (token : Option ℕ) (vivify : Option Vivify) (made : Vivify)
     (reply : Reply) (answer : Answer) (new : ShardContents) → vivify ≡ Some made
     → Closes settled (absent_count settled key token reply (Some made)) answer new

@@ -19,7 +19,7 @@ use Rattle.mc_store.proofs.Shards.{with_entries, set_in_place, giving, gives}
 use Rattle.mc_store.proofs.Writes.{Closes, next_of, numbered_some, numbered_none, unique_now}
 use Rattle.mc_store.proofs.Outcomes.{Ends, ends, here, at_live, misses_as, unchanged_as, goes_as}
 
--- Where nothing alive is under the key, `delete` finds none, and a dead item there goes.
+-- Where nothing alive is under the key, `delete` finds none, and a dead item there is removed.
 pub delete_miss : (held : ShardContents) (state : State) (key : List ℕ) → Keeps held state → None
     ≡ live held.time (lookup (pointwise nat_eq key) held.entries)
     → Ends (without_dead state (Some key)) (Delete key) NotFound
@@ -39,7 +39,7 @@ delete_hit held state key item h is =
     ends (without_dead state (Some key)) (Delete key) Deleted _ (λ e. absurd cc)
     (goes_as held state key item (λ s o. delete_step s key o) Deleted h is (λ s u _. refl))
 
--- Where nothing alive is under the key, `md` finds none, and a dead item there goes.
+-- Where nothing alive is under the key, `md` finds none, and a dead item there is removed.
 pub meta_delete_miss : (held : ShardContents) (state : State) (asked : op.MetaRemoval) → Keeps held state → None
     ≡ live held.time (lookup (pointwise nat_eq asked.key) held.entries)
     → Ends (without_dead state (Some asked.key)) (MetaDelete asked) NotFound
@@ -115,7 +115,7 @@ stale_keeps held state key u item None h found value =
     (with_items state (insert state.items key (record u { item = item }))) None
     (set_in_place held state key u item h found value)
 
--- `md` with `I`, at the item's unique or at none, marks the item stale where it stands and gives it a new unique.
+-- `md` with `I`, at the item's unique or at none, marks the item stale in place and gives it a new unique.
 pub stale_done : (held : ShardContents) (state : State) (asked : op.MetaRemoval) (item : Item) (unique : ℕ)
     → Keeps held state → Some item ≡ live held.time (lookup (pointwise nat_eq asked.key) held.entries)
     → is_other asked.compare item.unique ≡ false → asked.invalidate ≡ true → Some unique

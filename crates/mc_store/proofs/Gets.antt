@@ -24,7 +24,7 @@ use Rattle.mc_store.proofs.Changes.{settled_again}
 use Rattle.mc_store.proofs.Writes.{Closes, along, met_time}
 use Rattle.mc_store.proofs.Outcomes.{Ends, ends, here, at_live, misses_as, absent_as, lacks_as, some_of, uses_as}
 
--- Where nothing alive is under the key, a get misses, and a dead item there goes.
+-- Where nothing alive is under the key, a get misses, and a dead item there is removed.
 pub fetch_miss : (held : ShardContents) (state : State) (key : List ℕ) (touch : Option ℤ) → Keeps held state → None
     ≡ live held.time (lookup (pointwise nat_eq key) held.entries)
     → Ends (without_dead state (Some key)) (Fetch key touch) Miss
@@ -56,7 +56,7 @@ fetch_hit held state key touch item h is =
     (uses_as held state key item (λ s o. fetch_step s key touch o) (λ i _. Hit i.flags i.unique i.value)
     (λ i time. fetched_item i touch time) (λ _ _. refl) h is (λ s u _. refl))
 
--- Where nothing alive is under the key, `touch` finds none, and a dead item there goes.
+-- Where nothing alive is under the key, `touch` finds none, and a dead item there is removed.
 pub touch_miss : (held : ShardContents) (state : State) (key : List ℕ) (exptime : ℤ) → Keeps held state → None
     ≡ live held.time (lookup (pointwise nat_eq key) held.entries)
     → Ends (without_dead state (Some key)) (Touch key exptime) NotFound
@@ -204,7 +204,7 @@ vivified_item_as held state key exptime item answer new h is closes =
       entered given None key (record i { unique = unique }),
     ))) answer new) is closes)
 
--- the same, where the exptime is given as an option
+-- `touch` where the exptime is an option
 pub vivified_as : (settled : State) (key : List ℕ) (vivify : Option ℤ) (exptime : ℤ) (answer : Answer)
     (new : ShardContents) → vivify ≡ Some exptime
     → Closes settled (absent_meta_get settled key (Some exptime)) answer new

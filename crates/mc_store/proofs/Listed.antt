@@ -38,7 +38,7 @@ cost_within room (e ∷ es) = elim (cases_Bool (nat_le (entry_cost e) room)) [
   | inr f ↦ rw f (omega arith)
 ]
 
--- the last item goes where they cost too much
+-- the last item is evicted where they cost too much
 without_last : (room : ℕ) (e : ListedItem) (es : List ListedItem) → room < listed_cost (e ∷ es)
     → within room (take (length es) (e ∷ es)) ≡ within room (e ∷ es)
 without_last room e [] h = rw (lt-leb (entry_cost e) room (omega (arith, cost_cons e []))) refl
@@ -72,7 +72,7 @@ count_within [] h = omega arith
 count_within (e ∷ es) h =
     omega (arith, All-head HasKey e es h, count_within es (All-tail HasKey e es h), cost_cons e es)
 
--- What the look-up under a key tells of the list
+-- What the look-up under a key shows of the list
 
 -- an item is found
 record Finds (es : List ListedItem) (key : List ℕ) (item : Item) : Type 0 where
@@ -161,7 +161,7 @@ pub costs_some : (es : List ListedItem) (key : List ℕ) (item : Item) → looku
     → entry_cost (key, item) ≤ listed_cost es
 costs_some es key item is = omega (arith, (finds es key item is).cost)
 
--- When an item goes and what it cost is taken off, the cost of all is still right.
+-- When an item is removed and what it cost is taken off, the cost of all is still right.
 pub counted_removed : (es : List ListedItem) (capacity cost budget : ℕ) (key : List ℕ) (item : Item)
     → IsCounted es capacity cost budget → lookup (pointwise nat_eq key) es ≡ Some item
     → IsCounted (remove_entry (pointwise nat_eq key) es) capacity (cost - entry_cost (key, item)) budget
@@ -195,7 +195,7 @@ set_counted (e ∷ es) key old item h is keys =
           rw f (omega (arith, rest.0, cost_cons e set), All-cons HasKey e set first rest.1)
     ]
 
--- When an item changes where it stands and keeps its value, the cost of all is still right.
+-- When an item changes in place and keeps its value, the cost of all is still right.
 pub counted_set : (es : List ListedItem) (capacity cost budget : ℕ) (key : List ℕ) (old item : Item)
     → IsCounted es capacity cost budget → lookup (pointwise nat_eq key) es ≡ Some old → item.value ≡ old.value
     → IsCounted (set_value (pointwise nat_eq key) es item) capacity cost budget
@@ -221,7 +221,7 @@ counted_first es capacity cost budget key old item h is value =
     All-cons HasKey (key, item) left (found.some h.keys) (keys_removed es key h.keys) in
     rw (first_is es key old item is) assumption
 
--- it goes, as it would have gone before
+-- it is evicted, as it would have been before
 pub first_gone : (es : List ListedItem) (key : List ℕ) (old item : Item) → lookup (pointwise nat_eq key) es ≡ Some old
     → remove_entry (pointwise nat_eq key) (set_value (pointwise nat_eq key) (promoted (pointwise nat_eq key) es) item)
     ≡ remove_entry (pointwise nat_eq key) es

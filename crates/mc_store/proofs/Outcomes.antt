@@ -122,7 +122,7 @@ uses_as held state key item step answer new value h is same =
       use_first held state key u (new u.item state.time) h found (value u.item state.time),
     )) refl
 
--- an item is there and goes
+-- an item is there and is removed
 pub goes_as : (held : ShardContents) (state : State) (key : List ℕ) (item : Item) (step : Stepping) (answer : Answer)
     → Keeps held state → Some item ≡ live held.time (lookup (pointwise nat_eq key) held.entries)
     → ((s : State) (u : Used) → u.item ≡ item → (answer, with_items s (remove s.items key)) ≡ step s (Some u)) →

@@ -124,7 +124,7 @@ record WorkedRows : Type 0 where
         left = Some 30;
         marks = record { won = false; stale = false; sent = false };
       }
-  -- an item that mg made is sent, which its maker isn't told
+  -- an item that mg made is sent, which its maker isn't shown
   made : made_hit (vivified_item (pos 30) 1000 1) 1000 ≡
       record {
         value = [];

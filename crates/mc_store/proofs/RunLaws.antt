@@ -303,7 +303,7 @@ same_unique_same_item old asked answers states run some given plain =
           (all.traced key after there),
     )
 
--- Who is told to recompute
+-- Who is to recompute
 
 bits : (before settled after tells : Bool) → (tells ≡ true → (settled ≡ false) × (after ≡ true))
     → one_if tells + one_if before ≤ one_if (before && not settled) + (one_if (settled && not after) + one_if after)
@@ -343,7 +343,7 @@ one_more : (tells before first second after told_after cleared_after last : ℕ)
     → tells + told_after + before ≤ first + (second + cleared_after) + last
 one_more tells before first second after told_after cleared_after last now then_ = omega arith
 
--- At most one client is told to recompute an item, and one more for each time that the item's mark has gone.
+-- At most one client is to recompute an item, and one more for each time that the item's mark was taken.
 pub told_alone : ToldAlone
 told_alone =
     of_runs (λ old asked answers states. (key : List ℕ)

@@ -100,7 +100,7 @@ use_first held state key u item h is value =
     rw (first_is held.entries key u.item it (item_at held state key u h is))
     (assumption (numbered_first held.entries state.items n key it h.order h.below))
 
--- an item that changes where it stands
+-- an item that changes in place
 AllBelow-replace : (m : Items) (key : List ℕ) (u : Used) (item : Item) (n : ℕ) → AllBelow m n → get m key ≡ Some u
     → AllBelow (insert m key (record u { item = item })) n
 AllBelow-replace m key u item n below is =
@@ -130,7 +130,7 @@ Shows-set_value (e ∷ es) m key u item h is = elim (cases_Bool (same key e.0)) 
       )
 ]
 
--- When an item changes where it stands and keeps its value, the shard shows the state with the changed one.
+-- When an item changes in place and keeps its value, the shard shows the state with the changed one.
 pub set_in_place : (held : ShardContents) (state : State) (key : List ℕ) (u : Used) (item : Item) → Keeps held state
     → get state.items key ≡ Some u → item.value ≡ u.item.value
     → Keeps (with_entries held (set_value (pointwise nat_eq key) held.entries item))
@@ -142,7 +142,7 @@ set_in_place held state key u item h is value =
     rw (costs_same state.items key u (record u { item = item }) is value) h.fits in
     assumption
 
--- an item that goes, or was not there
+-- an item that is removed, or was not there
 costs_less : (m : Items) (key : List ℕ) (o : Option Used) → get m key ≡ o → costs (remove m key) ≤ costs m
 costs_less m key None none = rw (remove_none m key none) (omega arith)
 costs_less m key (Some u) is = omega (arith, costs_with m key u is)
@@ -200,7 +200,7 @@ meets held state key item h is =
     let u = used_of (get state.items key) item (sym (lookup-Shows held.entries state.items h.order key) ∙ alive.0) in
     record { used = u.0; found = u.1; item_is = u.2; settled = rw (u.1, h.time, u.2, alive.1) }
 
--- nothing alive is under the key: what is there goes
+-- nothing alive is under the key: what is there is removed
 pub record Misses (held : ShardContents) (state : State) (key : List ℕ) : Type 0 where
   pub gone : get (without_dead state (Some key)).items key ≡ None
   pub settled : without_dead state (Some key) ≡ with_items state (remove state.items key)

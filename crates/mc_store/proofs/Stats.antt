@@ -67,7 +67,7 @@ noted_keeps held settled state asked said counting is h =
     (status_of said) ≡ counted_in held.op_stats counting (status_of said) = rw (is, h.op_stats) in
     assumption
 
--- Where a dead item goes, the shard stays the one that it was.
+-- Where a dead item is removed, the shard stays the one that it was.
 pub settled_index : (state : State) (key : Option (List ℕ)) → (without_dead state key).index ≡ state.index
 settled_index state None = refl
 settled_index state (Some key) = elim (cases_Bool (is_dead_at state.time (get state.items key))) [

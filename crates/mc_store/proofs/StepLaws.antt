@@ -743,7 +743,7 @@ tokens_are_taken old new op moment answer token step is =
     let taken = (step_is old new op moment answer step).taken token is in
     (taken.0 ∙ (settle_settles old (key_of op) moment).given, taken.1)
 
--- The mark that a client was told to recompute stays with its item, unless a storage command or `md` takes it away.
+-- The mark that a client is to recompute stays with its item, unless a storage command or `md` takes it away.
 pub sent_stays : SentStays
 sent_stays old new op moment answer step = (step_is old new op moment answer step).sent
 
@@ -826,7 +826,7 @@ unfolding Answers
 answer_wins settled new op shown (inl none) won key at = absurd (let answer : MetaHit shown ≡ NoMemory = none.0 in cc)
 answer_wins settled new op shown (inr is) won key at = op_wins settled op shown new is won key at
 
--- A hit with `W` is of an item that no client was told to recompute until then, and one is told now.
+-- A hit with `W` is of an item that no client was to recompute until then, and one is from then on.
 pub winners_are_first : WinnersAreFirst
 unfolding IsStep
 winners_are_first old new op moment shown step won key at =

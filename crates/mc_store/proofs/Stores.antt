@@ -126,7 +126,7 @@ absent_refused settled asked reply Add None h s a = absurd (a refl)
 absent_refused settled asked reply mode None h s a = refl
 absent_refused settled asked reply mode (Some unique) h s a = absurd cc
 
--- Where nothing alive is under the key, storing goes as under an absent key.
+-- Where nothing alive is under the key, storing is as under an absent key.
 pub store_misses : (held : ShardContents) (state : State) (asked : StoreRequest (List ℕ)) (reply : Reply)
     → Keeps held state → None ≡ live held.time (lookup (pointwise nat_eq asked.key) held.entries) →
     absent_store (without_dead state (Some asked.key)) asked reply asked.mode asked.compare

@@ -32,14 +32,14 @@ dead_mapped : (time : ℕ) (o : Option Used) → is_dead_at time o
 dead_mapped time None = refl
 dead_mapped time (Some u) = refl
 
--- The list tells whether the item under a turn's key is its own.
+-- The list shows whether the item under a turn's key is its own.
 pub its_listed : (held : ShardContents) (state : State) (turn : Turn) (o : Option Item) → Keeps held state → o
     ≡ lookup (pointwise nat_eq turn.0) held.entries → is_of_turn turn (get state.items turn.0) ≡ is_its turn o
 its_listed held state turn o h is =
     its_mapped turn (get state.items turn.0)
     ∙ ap (is_its turn) (sym (lookup-Shows held.entries state.items h.order turn.0) ∙ sym is)
 
--- The list tells whether it is dead.
+-- The list shows whether it is dead.
 pub dead_listed : (held : ShardContents) (state : State) (turn : Turn) (item : Item) → Keeps held state → Some item
     ≡ lookup (pointwise nat_eq turn.0) held.entries → is_dead_at state.time (get state.items turn.0)
     ≡ is_dead item.expiry held.time
@@ -54,7 +54,7 @@ fetched_mapped : (o : Option Used) → was_fetched o
 fetched_mapped None = refl
 fetched_mapped (Some u) = refl
 
--- The list tells whether it was fetched.
+-- The list shows whether it was fetched.
 pub fetched_listed : (held : ShardContents) (state : State) (turn : Turn) (item : Item) → Keeps held state → Some item
     ≡ lookup (pointwise nat_eq turn.0) held.entries → was_fetched (get state.items turn.0) ≡ item.fetched
 fetched_listed held state turn item h is =
@@ -76,6 +76,19 @@ look_none held state entering left h is rest =
     let turns : state.turns ≡ [] = h.turns ∙ none in
     let empty : left ≡ [] = sym is ∙ none in
     rw (turns, empty) (assumption)
+
+-- a list without a length is empty
+pub none_long : (turns : List Turn) → length turns ≡ 0 → turns ≡ []
+none_long [] is = refl
+none_long (turn ∷ rest) is = absurd (omega (arith, is))
+
+-- Where no turn waits, two looks change nothing.
+pub two_looks_none : (held : ShardContents) (state : State) (entering : ℕ) → Keeps held state → held.turns ≡ [] →
+    Keeps held (looked entering (looked entering state))
+two_looks_none held state entering h none =
+    let rest : held.turns ≡ drop 1 held.turns = rw none refl in
+    look_none held (looked entering state) entering held.turns
+    (look_none held state entering held.turns h refl rest) refl rest
 
 -- Where the item under the turn's key isn't its own, or there is none, the turn is dropped.
 pub look_drops : (held : ShardContents) (state : State) (entering : ℕ) (turn : Turn) (rest : List Turn)

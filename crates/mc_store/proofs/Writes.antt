@@ -66,18 +66,18 @@ numbered_some settled None unique outcome is =
     let fits = cond_some (nat_lt (next_unique settled) (2 ^ 64)) (next_unique settled) unique is in
     rw fits.0 (ap (λ u. outcome u (with_given settled)) fits.1)
 
--- Where there is no unique to give, nothing changes, and the answer tells so.
+-- Where there is no unique to give, nothing changes, and the answer reports that.
 pub numbered_none : (settled : State) (token : Option ℕ) (outcome : ℕ → State → Outcome)
     → unique_for token (next_unique settled) ≡ None → numbered settled token outcome ≡ (NoCas, settled)
 numbered_none settled (Some token) outcome is = absurd cc
 numbered_none settled None outcome is = rw (no_unique (nat_lt (next_unique settled) (2 ^ 64)) (next_unique settled) is)
 
--- what is held tells the unique
+-- what is held shows the unique
 pub unique_there : (held : ShardContents) (state : State) (key : List ℕ) (token o : Option ℕ) → Keeps held state → o
     ≡ unique_for token (next_of held) → unique_for token (next_unique (without_dead state (Some key))) ≡ o
 unique_there held state key token o h is = rw (held_unique held state key h) (sym is)
 
--- What a shard holds tells which unique is to be given, or that there is none.
+-- What a shard holds shows which unique is to be given, or that there is none.
 pub unique_now : (held : ShardContents) (state : State) (token o : Option ℕ) → Keeps held state → o
     ≡ unique_for token (next_of held) → unique_for token (next_unique state) ≡ o
 unique_now held state token o h is = rw (h.index, h.shards, h.given) (sym is)
@@ -178,7 +178,7 @@ write_failed held state key outcome h absent =
     let same : without_dead state (Some key) ≡ state = rw none in
     (state, inl (refl, sym same), h)
 
--- The same outcome by another name
+-- an outcome by another name
 
 -- What leads to an outcome leads to the same outcome written in another way.
 pub along : (settled : State) (first_outcome second_outcome : Outcome) (answer : Answer) (new : ShardContents)
@@ -191,7 +191,7 @@ pub as_answer : (settled : State) (outcome : Outcome) (one other : Answer) (new 
     → Closes settled outcome one new → Closes settled outcome other new
 as_answer settled outcome one other new is closes = subst (λ a. Closes settled outcome a new) is closes
 
--- what is held tells whether a value is too large
+-- what is held shows whether a value is too large
 pub large_there : (held : ShardContents) (state : State) (key value : List ℕ) (size : ℕ) (test : Bool)
     → Keeps held state → length value ≡ size
     → (nat_lt held.limit size || nat_lt held.budget (length key + size + item_overhead)) ≡ test

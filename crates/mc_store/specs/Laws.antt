@@ -36,7 +36,7 @@ StepsAgree =
 abbrev pub StaysUnless : Type 0 → Items → Items → List ℕ → Type 0
 StaysUnless reason old new key = (get new key ≡ get old key) ⊎ ((get new key ≡ None) × reason)
 
--- The answer tells that an item was stored: by storing, by counting, or by mg under a key that was absent.
+-- The answer reports that an item was stored: by storing, by counting, or by mg under a key that was absent.
 abbrev pub tells_stored : Answer → Option Used → Bool
 tells_stored Stored before = true
 tells_stored (Number number) before = true
@@ -44,7 +44,7 @@ tells_stored (MetaDone done) before = true
 tells_stored (MetaHit hit) None = true
 tells_stored _ before = false
 
--- An item was stored under the operation's key, and stands there. With it, what was used no earlier than the item under
+-- An item was stored under the operation's key, and is there. With it, what was used no earlier than the item under
 -- the other key costs more than the budget.
 pub record IsEvicted (settled : State) (key : Option (List ℕ)) (answer : Answer) (new : Items) (other : List ℕ) : Type 0
   where
@@ -157,13 +157,13 @@ TimeRises =
     (old new : State) (op : Op) (moment : ℕ) (answer : Answer) → IsStep old op moment answer new → new.time
     ≡ max old.time (min moment latest_moment)
 
--- Who is told to recompute
+-- Who is to recompute
 
--- whether there is an item under the key that some client was told to recompute
+-- whether there is an item under the key that some client is to recompute
 abbrev pub is_sent : Items → List ℕ → Bool
 is_sent items key = option_map_or (λ used. used.item.sent) (get items key) false
 
--- A hit with W is of an item that nobody was told to recompute, or that was made then; now a client is told.
+-- A hit with W is of an item that no client was to recompute, or that was made then; then one is.
 abbrev pub WinnersAreFirst : Type 0
 WinnersAreFirst =
     (old new : State) (op : Op) (moment : ℕ) (shown : hit.MetaHit) → IsStep old op moment (MetaHit shown) new

@@ -67,7 +67,7 @@ abbrev pub has_fewer_left : Option ℕ → Option ℤ → Bool
 has_fewer_left (Some left) (Some (pos token)) = nat_lt left token
 has_fewer_left left recache = false
 
--- W: nobody was told to recompute the item, and it is stale or soon dead.
+-- W: no client is to recompute the item, and it is stale or soon dead.
 abbrev pub is_won : Item → Option ℤ → ℕ → Bool
 is_won item recache time = not item.sent && (item.stale || has_fewer_left (seconds_left item.expiry time) recache)
 

@@ -56,12 +56,12 @@ SameUniqueSameItem =
     after.item.unique ≡ before.item.unique → (after.item.value ≡ before.item.value)
     × (after.item.flags ≡ before.item.flags))
 
--- Who is told to recompute
+-- Who is to recompute
 
 abbrev pub one_if : Bool → ℕ
 one_if test = if test then 1 else 0
 
--- whether the answer is a hit that tells its client to recompute
+-- whether the answer is a hit whose client is to recompute
 abbrev pub is_telling : Answer → Bool
 is_telling (MetaHit hit) = hit.marks.won
 is_telling _ = false
@@ -70,15 +70,15 @@ abbrev pub is_asked : Option (List ℕ) → List ℕ → Bool
 is_asked None key = false
 is_asked (Some asked) key = same_key asked key
 
--- how many clients were told to recompute the item under the key
+-- how many clients were asked to recompute the item under the key
 abbrev pub told : List ℕ → List TimedOp → List Answer → ℕ
 told key [] answers = 0
 told key (ask ∷ rest) [] = 0
 told key (ask ∷ rest) (answer ∷ answers) =
     one_if (is_asked (key_of ask.0) key && is_telling answer) + told key rest answers
 
--- how often the mark that a client was told went from the item under the key, alone or with the item: as the shard
--- settled, or by the operation
+-- how often the mark that a client is to recompute was taken from the item under the key, alone or with the item: as
+-- the shard settled, or by the operation
 abbrev pub cleared : List ℕ → State → List TimedOp → List State → ℕ
 cleared key old [] states = 0
 cleared key old (ask ∷ rest) [] = 0
@@ -87,7 +87,7 @@ cleared key old (ask ∷ rest) (new ∷ states) =
     + (one_if (is_sent (settle old (key_of ask.0) ask.1).items key && not (is_sent new.items key)) + cleared key new
     rest states)
 
--- Whoever is told is told alone: one client at first, and one more each time that the mark went.
+-- One client recomputes at a time: one at first, and one more each time that the mark was taken.
 abbrev pub ToldAlone : Type 0
 ToldAlone =
     (old : State) (asked : List TimedOp) (answers : List Answer) (states : List State)

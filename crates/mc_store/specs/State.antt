@@ -89,7 +89,7 @@ arrived state moment = at_time state (max state.time (min moment latest_moment))
 abbrev pub is_dead_at : ℕ → Option Used → Bool
 is_dead_at time found = option_map_or (λ used. is_dead used.item.expiry time) found false
 
--- the same state with these items
+-- a state with these items
 abbrev pub with_items : State → Items → State
 with_items state items = record state { items = items }
 
@@ -108,7 +108,7 @@ settle state key moment = without_dead (arrived state moment) key
 abbrev pub number_at : Items → List ℕ → ℕ
 number_at items key = option_map_or (λ used. used.number) (get items key) 0
 
--- The item stands under the key and is the most recently used one, accessed now.
+-- The item is under the key and is the most recently used one, accessed now.
 abbrev pub first : State → List ℕ → Item → State
 first state key item = record state {
   items = insert state.items key (record { item = record item { last_access = state.time }; number = state.uses + 1 });
@@ -137,13 +137,14 @@ unfoldable pub used_since : Items → List ℕ → Items
 used_since items key = retain_keys items (λ other. nat_le (number_at items key) (number_at items other))
 
 -- Eviction for the item under the key, which itself stays: another item stays where all that were used no earlier than
--- it, with it, cost no more than the budget. So the least recently used go, and no more of them than must.
+-- it, with it, cost no more than the budget. So the least recently used are evicted, and no more of them than must.
 --
 -- Say that the budget is 1,024, and that a, b, c and d are stored in this order, each with a value of 235 bytes: each
 -- costs 1 + 235 + 64 = 300. When d is stored, the items used no earlier than c cost 600, those no earlier than b 900,
--- and those no earlier than a 1,200: a goes, and b and c stay. Were a fetched before d is stored, b would be the least
--- recently used, and would go in its place. Were the value of d 535 bytes long, c would stay at 600 + 300 = 900, b
--- would go at 1,200, and a at 1,500: whatever was used earlier than an item that goes, goes too, however small it is.
+-- and those no earlier than a 1,200: a is evicted, and b and c stay. Were a fetched before d is stored, b would be the
+-- least recently used, and would be evicted in its place. Were the value of d 535 bytes long, c would stay at 600 + 300
+-- = 900, and b would be evicted at 1,200, and a at 1,500: whatever was used earlier than an evicted item is evicted
+-- too, however small it is.
 unfoldable pub fitting : Items → ℕ → List ℕ → Items
 fitting items budget key =
     retain_keys items (λ other. same_key key other || nat_le (costs (used_since items other)) budget)
@@ -155,21 +156,21 @@ evicting state key = record state {
   evicted = (state.evicted + (len state.items - len (fitting state.items state.budget key))) % 2 ^ 64;
 }
 
--- Dead items, which give their room back
+-- Dead items, which are removed
 --
 -- An item with an expiry waits for its turn. Whenever an item enters, the next two turns are looked at. Where the
--- turn's item is dead, both go, and that is counted as an item reclaimed, not evicted. Where it lives, its turn comes
--- again after all others. Where it was stored anew or is gone, the turn is dropped.
+-- turn's item is dead, both are removed, and that is counted as an item reclaimed, not evicted. Where it lives, its
+-- turn comes again after all others. Where it was stored again or is gone, the turn is dropped.
 --
 -- Say that a, b and c wait in this order, that a was deleted, and that b is dead. When d is stored, the turn of a is
--- dropped, and b goes: c and d wait. When e is stored, c and d are looked at, and live: c, d and e wait. Had c died by
--- then, it would go, and d and e would wait.
+-- dropped, and b is removed: c and d wait. When e is stored, c and d are looked at, and live: c, d and e wait. Had c
+-- died by then, it would be removed, and d and e would wait.
 
 -- The item that is found is the one that got the turn.
 abbrev pub is_of_turn : Turn → Option Used → Bool
 is_of_turn turn found = option_map_or (λ used. used.item.unique == turn.1) found false
 
--- The turn's item goes: it is dead, and it isn't the one that enters, which has this unique.
+-- The turn's item is removed: it is dead, and it isn't the one that enters, which has this unique.
 abbrev pub is_reclaimed : ℕ → ℕ → Items → Turn → Bool
 is_reclaimed entering time items turn =
     is_of_turn turn (get items turn.0) && (is_dead_at time (get items turn.0) && not (turn.1 == entering))
@@ -193,7 +194,7 @@ turns_after entering time items (turn ∷ rest) = if comes_again entering time i
 abbrev pub was_fetched : Option Used → Bool
 was_fetched found = option_map_or (λ used. used.item.fetched) found false
 
--- the counts then: one item more was reclaimed exactly where one goes
+-- the counts then: one item more was reclaimed exactly where one is removed
 unfoldable pub op_stats_after : ℕ → ℕ → Items → List Turn → OpStats → OpStats
 op_stats_after entering time items [] op_stats = op_stats
 op_stats_after entering time items (turn ∷ rest) op_stats =

@@ -1,4 +1,4 @@
--- What a shard answers to an operation, and what its state is then. Within one operation the tests stand in this
+-- What a shard answers to an operation, and what its state is then. Within one operation the tests have this
 -- order: absent or present, the unique, the number, the size, whether a unique is left.
 use Rattle.std.specs.Prelude.{ℕ, ◌≡◌, ◌+◌, ◌-◌, ◌%◌, ◌^◌, Bool, true, false, not, IsTrue, ◌||◌, ◌&&◌, ℤ, ◌⊎◌, ◌++◌}
 use Rattle.std.specs.Prelude.{List, length, Option, Some, None, is_none, nat_le, nat_lt, ◌==◌, if◌then◌else◌}
@@ -51,7 +51,7 @@ numbered state (Some token) outcome = outcome token state
 numbered state None outcome =
     if nat_lt (next_unique state) (2 ^ 64) then outcome (next_unique state) (with_given state) else (NoCas, state)
 
--- The item that is made with its unique enters, and the answer tells of it.
+-- The item that is made with its unique enters, and the answer reports it.
 abbrev pub puts : State → List ℕ → Option ℕ → (ℕ → Item) → (Item → Answer) → Outcome
 puts state key given item_of answer_of =
     numbered state given (λ unique after. (answer_of (item_of unique), entered after given key (item_of unique)))
@@ -186,7 +186,7 @@ abbrev pub delete_step : State → List ℕ → Option Used → Outcome
 delete_step state key None = (NotFound, state)
 delete_step state key (Some used) = (Deleted, with_items state (remove state.items key))
 
--- md with I: the item becomes stale where it stands
+-- md with I: the item becomes stale in place
 abbrev pub stales : State → md.MetaRemoval → Used → Outcome
 stales state asked used =
     numbered state asked.unique

@@ -57,7 +57,7 @@ fn has_fewer_left(left: Option<u64>, recache: Option<i64>) -> bool
     token > 0 && left < token as u64
 }
 
-/// `W`: nobody was told to recompute the item, and it is stale or soon dead.
+/// `W`: no client is to recompute the item, and it is stale or soon dead.
 pub fn is_won(item: &Item, recache: Option<i64>, time: u64) -> bool
     ensures { result ≡ is_won item.now recache time }
 {
@@ -65,7 +65,7 @@ pub fn is_won(item: &Item, recache: Option<i64>, time: u64) -> bool
 }
 
 impl FetchKind {
-    /// Whether a client was told to recompute the item, once it was read.
+    /// Whether a client is to recompute the item, once it was read.
     fn is_sent_after(self, item: &Item, time: u64) -> bool
         ensures { result ≡ is_sent_after self item.now time }
     {

@@ -2,11 +2,11 @@
 //! - 1.
 //!
 //! Strangers choose the keys, and must not choose which keys meet in one place of the map. So each
-//! seven bytes of a key are a coefficient of a polynomial, whose value at a secret point stands for
-//! the key: two keys of at most 250 bytes have one value at no more than 36 of the 2^60 points. The
+//! seven bytes of a key are a coefficient of a polynomial, whose value at a secret point is the
+//! key's hash: two keys of at most 250 bytes have one value at no more than 36 of the 2^60 points. The
 //! value is then scaled and shifted by two more secret words, so that values that differ meet in
-//! one place no oftener than twice what chance gives. Who doesn't know the words can't do better,
-//! whichever keys he takes.
+//! one place no oftener than twice as often as by chance. A client that doesn't know the words
+//! can't do better, whichever keys it takes.
 ghost use Rattle.std.specs.Prelude.{◌≡◌, ◌+◌, ◌*◌, ◌%◌, ◌^◌, ◌<◌, ◌≤◌, length};
 ghost use Rattle.mc_store.specs.internal.Polynomial as polynomial;
 ghost use Rattle.mc_store.specs.internal.Secret.{drawn};

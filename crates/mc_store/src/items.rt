@@ -36,7 +36,7 @@ pub struct Items {
     cost: usize,
     /// What they may cost together, in bytes.
     budget: usize,
-    /// How many went to make room for others. The count starts anew after 2^64 - 1.
+    /// How many were evicted. The count starts again at 0 after 2^64 - 1.
     evicted: u64,
     /// For a copy of a value that is read, where it can't be shared. None is left once it was used,
     /// and where no memory was found for it.
@@ -57,7 +57,7 @@ impl Model for Items {
         IsCounted items.cache.entries items.cache.cap items.cost items.budget };
 }
 
-/// What an item becomes when it is marked stale where it stands.
+/// What an item becomes when it is marked stale in place.
 #[derive(Clone, Copy)]
 pub struct Staling {
     pub unique: u64,
@@ -94,8 +94,8 @@ fn freed_by(old: &Option<Item>, key_length: usize) -> usize
     }
 }
 
-/// Takes out the least recently used items, as long as the rest cost more than the budget; gives
-/// what the rest cost.
+/// Evicts the least recently used items, as long as the rest cost more than the budget. Returns
+/// what the rest cost, in bytes.
 fn evict(cache: &mut Cache, cost: usize, budget: usize) -> usize
     requires { cost ≡ listed_cost cache.old.entries }
     ensures left { cache.new ≡ lru_cache (within budget cache.old.entries) cache.old.cap }
@@ -146,7 +146,7 @@ fn use_item(cache: &mut Cache, key: &Key, new: Use)
     }
 }
 
-/// Gives the item under the key as it is, and makes it the most recently used one and what it
+/// Returns the item under the key as it is, and makes it the most recently used one and what it
 /// becomes by the access.
 #[inline(always)]
 fn read_item(
@@ -171,7 +171,7 @@ fn read_item(
     Some(found)
 }
 
-/// Marks the item under the key stale where it stands.
+/// Marks the item under the key stale in place.
 fn mark_stale(cache: &mut Cache, key: &Key, new: Staling)
     ensures marked { (item : TheItem) → lookup (same_key key.now) cache.old.entries ≡ Some item →
         cache.new ≡
@@ -193,7 +193,7 @@ fn mark_stale(cache: &mut Cache, key: &Key, new: Staling)
     }
 }
 
-/// Gives the item under the key another expiry, and notes in it whether a client was told to
+/// Sets another expiry of the item under the key, and notes in it whether a client is to
 /// recompute it. It stays where it is.
 fn mark_seen(cache: &mut Cache, key: &Key, new: Use)
     ensures marked { (item : TheItem) → lookup (same_key key.now) cache.old.entries ≡ Some item →
@@ -254,7 +254,7 @@ impl Items {
         self.budget
     }
 
-    /// How many went to make room for others.
+    /// How many were evicted.
     pub fn evicted(&self) -> u64
         ensures { result ≡ self.now.evicted }
     {
@@ -275,7 +275,7 @@ impl Items {
         self.cache.peek(key)
     }
 
-    /// Gives the item under the key as it is, unless it is dead, and makes it the most recently
+    /// Returns the item under the key as it is, unless it is dead, and makes it the most recently
     /// used one and what it becomes by the access. A dead item is taken out. Where memory is
     /// refused nothing changes.
     #[inline(always)]
@@ -299,7 +299,7 @@ impl Items {
         Ok(Some(item))
     }
 
-    /// Takes the item under the key out, and lets go what was read of it.
+    /// Takes the item under the key out, and drops what was read of it.
     #[cold]
     #[inline(never)]
     fn remove_read(&mut self, key: &Key, _read: Item)
@@ -309,8 +309,8 @@ impl Items {
         self.remove(key);
     }
 
-    /// The same as `read`, without a reserve. The item is looked up twice, since its copy may be
-    /// refused, and then nothing may have changed.
+    /// As `read`, without a reserve. The item is looked up twice, since its copy may be refused,
+    /// and then nothing may have changed.
     #[cold]
     #[inline(never)]
     fn read_after_copy(&mut self, key: &Key, access: Access) -> Result<Option<Item>, NoMemory>
@@ -332,7 +332,7 @@ impl Items {
         Ok(Some(item))
     }
 
-    /// Gives the item under the key as it is, unless it is dead, and makes it what it becomes by
+    /// Returns the item under the key as it is, unless it is dead, and makes it what it becomes by
     /// the access, but for what shows its use: its place in the order, its last access, and
     /// whether it was fetched. A dead item is taken out. Where memory is refused nothing changes.
     pub fn get_without_touch(&mut self, key: &Key, access: Access) -> Result<Option<Item>, NoMemory>
@@ -374,8 +374,8 @@ impl Items {
     }
 
     /// Puts the item under the key as the most recently used one. Then the least recently used ones
-    /// go, as long as the items cost more than the budget. Where memory is refused nothing changes;
-    /// over an item that is there it never is. Each that went is counted.
+    /// are evicted, as long as the items cost more than the budget, and counted. If memory is
+    /// refused nothing changes; over an item that is there it never is.
     pub fn put(&mut self, key: Key, item: Item) -> Result<(), NoMemory>
         requires fits { FitsBudget self.old.budget key item.value }
         ensures put { OnOk result (self.new ≡ put_in key item self.old) }
@@ -414,7 +414,7 @@ impl Items {
         use_item(&mut self.cache, key, new);
     }
 
-    /// Marks the item under the key stale where it stands.
+    /// Marks the item under the key stale in place.
     pub fn mark_stale(&mut self, key: &Key, new: Staling)
         ensures { (item : TheItem) → lookup (same_key key.now) self.old.entries ≡ Some item →
             self.new ≡
@@ -431,7 +431,7 @@ impl Items {
         mark_stale(&mut self.cache, key, new);
     }
 
-    /// Gives the item under the key another expiry, and notes in it whether a client was told to
+    /// Sets another expiry of the item under the key, and notes in it whether a client is to
     /// recompute it. It stays where it is.
     fn mark_seen(&mut self, key: &Key, new: Use)
         ensures { (item : TheItem) → lookup (same_key key.now) self.old.entries ≡ Some item →

@@ -1,4 +1,4 @@
-//! The laws of the step, for whoever reasons about runs of one shard or of several.
+//! The laws of the step, for proofs about runs of one shard or of several.
 ghost use Rattle.std.specs.Prelude.{◌≡◌};
 ghost use Rattle.mc_store.specs.Laws.{AnswersAreLawful, StepsAgree, OthersStay, DeadGo, UniquesRise, UniquesDiffer, UniquesTell, TokensAreTaken, TimeRises, WinnersAreFirst, SentStays};
 ghost use Rattle.mc_store.specs.State.{item_overhead};

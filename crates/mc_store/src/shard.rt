@@ -1,4 +1,4 @@
-//! The shard: what it holds, how its time moves, and which kind of operation goes where.
+//! The shard: what it holds, how its time moves, and which function runs which operation.
 ghost use Rattle.std.specs.FinMap;
 ghost use Rattle.std.specs.FinMap.{get};
 ghost use Rattle.std.specs.Prelude.{◌≡◌, ◌+◌, ◌*◌, ◌^◌, ◌<◌, ◌≤◌, ◌⊎◌, ◌||◌, ◌&&◌, ℕ, length, nat_lt, true, false, IfOk, IfErr, None, Some, is_none};
@@ -74,7 +74,7 @@ pub struct Shard {
 }
 
 impl Drop for Shard {
-    /// By hand, so that to let one go is one call for whoever holds it (docs/DECISIONS.md).
+    /// By hand, so that its drop is one call for each owner (docs/DECISIONS.md).
     fn drop(self) {
         let Shard {
             items: _items,
@@ -129,8 +129,8 @@ impl Shard {
         })
     }
 
-    /// The same, where no unique was given before; the hash of its keys has a secret of its own. It
-    /// fails too where the system gives no random bytes.
+    /// An empty shard that gave no unique before. The hash of its keys has a secret of its own. It
+    /// fails too if the system has no random bytes.
     pub fn empty<R: RandomSource>(
         rt: &R,
         alloc: Global,
@@ -177,7 +177,7 @@ impl Shard {
         }
     }
 
-    /// Whether a miss is to be filled, and no item that lives stands under the key.
+    /// Whether a miss is to be filled, and no item that lives is under the key.
     fn fills(&self, asked: bool, key: &Key) -> bool
         ensures { (state : State) → IsShard self.now state →
             result ≡
@@ -249,7 +249,7 @@ impl Shard {
         self.op_stats
     }
 
-    /// How many items went to make room for others since its counts began.
+    /// How many items were evicted since its counts began.
     pub fn evicted(&self) -> u64
         ensures { (state : State) → IsShard self.now state → result ≡ state.evicted }
     {

@@ -1,18 +1,18 @@
--- The expiry that a number of eight bytes stands for.
+-- The expiry that a number of eight bytes means.
 use Rattle.std.specs.Prelude.{◌≡◌, ℕ, ◌==◌, ◌-◌, ◌^◌, Bool, true, false, if◌then◌else◌}
 use Rattle.std.proofs.Common.{refl, sym, eqb-true}
 use Rattle.mc_item.specs.declared.item.Expiry.{Expiry}
 use Rattle.mc_item.specs.declared.item.Expiry.TheVariants.{Never, At}
 
--- the number that stands for never
+-- the number that means never
 abbrev pub never : ℕ
 never = 2 ^ 64 - 1
 
--- the expiry that a number stands for
+-- the expiry that a number means
 abbrev pub unpacked : ℕ → Expiry
 unpacked second = if second == never then Never else At second
 
--- the number that stands for an expiry
+-- the number that means an expiry
 abbrev pub packed : Expiry → ℕ
 packed Never = never
 packed (At second) = second

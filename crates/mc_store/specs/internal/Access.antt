@@ -12,7 +12,7 @@ use Rattle.mc_store.specs.Shelf.{Shelf}
 use Rattle.mc_store.specs.internal.Found.{live}
 use Rattle.mc_store.specs.internal.Listed.{ListedItem}
 
--- whether a client was told to recompute the item, once it was read
+-- whether a client is to recompute the item, once it was read
 abbrev pub is_sent_after : FetchKind → Item → ℕ → Bool
 is_sent_after Classic item time = item.sent
 is_sent_after (Meta recache) item time = item.sent || is_won item recache time
@@ -50,7 +50,7 @@ abbrev pub read_shelf : Access → List ℕ → Shelf → Shelf
 read_shelf access key shelf =
     record shelf { entries = read_entries access key shelf.entries (met access key shelf.entries) }
 
--- the same once it was looked at: it stays where it is
+-- the shelf once the item was looked at, which stays where it is
 abbrev pub seen_entries : Access → List ℕ → List ListedItem → Option Item → List ListedItem
 seen_entries access key entries None = remove_entry (same_key key) entries
 seen_entries access key entries (Some item) = set_value (same_key key) entries (seen_item access item)

@@ -13,7 +13,7 @@ abbrev pub live : ℕ → Option Item → Option Item
 live time None = None
 live time (Some item) = if is_dead item.expiry time then None else Some item
 
--- whether a mode joins values, and then whether the new one goes after the old
+-- whether a mode joins values, and then whether the new one follows the old
 abbrev pub joining : StoreMode → Option Bool
 joining Append = Some true
 joining Prepend = Some false
@@ -21,7 +21,7 @@ joining Set = None
 joining Add = None
 joining Replace = None
 
--- whether storing in this mode and at this unique goes whatever is there
+-- whether this mode at this unique stores whatever is there
 abbrev pub is_unconditional : StoreMode → Option ℕ → Bool
 is_unconditional Set None = true
 is_unconditional Set (Some unique) = false

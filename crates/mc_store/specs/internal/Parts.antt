@@ -1,4 +1,4 @@
--- What the parts of an operation do, at the shard's own time and before the item under the key goes where it is dead.
+-- What the parts of an operation do, at the shard's own time and before a dead item under the key is removed.
 use Rattle.std.specs.Prelude.{◌≡◌, List, Some, Result, Ok, Err, ◌⊎◌, ℕ}
 use Rattle.mc_item.specs.declared.op.Op.{Op}
 use Rattle.mc_item.specs.declared.answer.Answer.{Answer}

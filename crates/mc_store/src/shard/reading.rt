@@ -52,7 +52,7 @@ fn shown(item: Item, access: Access, recache: Option<i64>) -> Answer
     })
 }
 
-/// An empty item that a client is told to fill. It has no unique yet.
+/// An empty item that a client is to fill. It has no unique yet.
 fn empty_item(expiry: PackedExpiry) -> Item
     ensures { result ≡
         record {
@@ -194,7 +194,7 @@ impl Shard {
     }
 
     /// `mg` of a key that is not there: with an exptime it makes an empty item, and this client is
-    /// told to fill it.
+    /// to fill it.
     #[tactic(auto, unfolding(mc_item::specs::Kind::is_lawful))]
     fn meta_get_absent(&mut self, key: Key, vivify: Option<i64>) -> Answer
         ensures does { Does self.old key (λ settled. absent_meta_get settled key vivify) result

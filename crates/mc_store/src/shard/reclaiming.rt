@@ -1,5 +1,4 @@
-//! Dead items, which give their room back: an item with an expiry waits for its turn to be looked
-//! at.
+//! Removal of dead items: an item with an expiry waits for its turn to be looked at.
 ghost use Rattle.std.specs.Prelude.{◌≡◌, ◌<◌, ◌≤◌, ◌&&◌, ◌==◌, not, ℕ, List, Option, IfOk};
 ghost use Rattle.std.specs.Option.{IsSome};
 ghost use Rattle.std.specs.VecDeque.{deque_len, deque_capacity};
@@ -38,7 +37,7 @@ pub(super) fn make_turn(
     Ok(Some(copy))
 }
 
-/// Whether the item goes: it is dead, and it isn't the one that enters, which has the unique
+/// Whether the item is removed: it is dead, and it isn't the one that enters, which has the unique
 /// `entering`.
 fn is_reclaimed(item: &Item, entering: u64, time: u64) -> bool
     ensures { result ≡ (is_dead item.now.expiry time && not (item.now.unique == entering)) }
@@ -58,16 +57,31 @@ impl Shard {
             IsShard self.old state → turn ≡ turn_of token key item.expiry → item.unique ≡ unique →
             IsShard self.new (with_turn (looked unique (looked unique state)) token key item) }
     {
-        self.look(unique);
-        self.look(unique);
+        self.look_twice(unique);
         if let Some(own) = turn {
             self.turns.push_back_reserved((own, unique));
         }
     }
 
-    /// Looks at the next turn, for the item of this unique, which entered. Where the turn's item is
-    /// dead, both go, and it is counted. Where it lives, its turn comes again after all others.
-    /// Where it was stored anew or is gone, the turn is dropped.
+    /// Looks at the next two turns, for the item of this unique, which entered.
+    // Where no item has an expiry no turn waits, and a look costs more than this test.
+    #[inline(always)]
+    fn look_twice(&mut self, entering: u64)
+        ensures looked { (state : State) → IsShard self.old state →
+            IsShard self.new (looked entering (looked entering state)) }
+        ensures len { deque_len self.new.turns ≤ deque_len self.old.turns }
+        ensures capacity { deque_capacity self.new.turns ≡ deque_capacity self.old.turns }
+    {
+        if self.turns.is_empty() {
+            return;
+        }
+        self.look(entering);
+        self.look(entering);
+    }
+
+    /// Looks at the next turn, for the item of this unique, which entered. If the turn's item is
+    /// dead, both are removed, and it is counted. If it lives, its turn comes again after all others.
+    /// If it was stored again or is gone, the turn is dropped.
     fn look(&mut self, entering: u64)
         ensures looked { (state : State) → IsShard self.old state →
             IsShard self.new (looked entering state) }

@@ -30,7 +30,7 @@ impl Shard {
         }
     }
 
-    /// `stats reset`: the counts begin anew.
+    /// `stats reset`: the counts begin at 0 again.
     #[tactic(auto, unfolding(mc_item::specs::Kind::is_lawful))]
     pub(super) fn reset_stats(&mut self) -> Answer
         ensures acts { Acts self.old op.ResetStats result self.new }

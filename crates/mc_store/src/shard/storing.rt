@@ -15,7 +15,7 @@ use mc_item::{Answer, Item, Kind, MetaDone, PackedExpiry, Value};
 use mc_wire::Key;
 use std::alloc::Global;
 
-/// Whether the mode joins values, and then whether the new one goes after the old.
+/// Whether the mode joins values, and then whether the new one follows the old.
 fn joining(mode: StoreMode) -> Option<bool>
     ensures { result ≡ joining mode }
 {

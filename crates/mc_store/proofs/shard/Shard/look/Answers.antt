@@ -1,4 +1,4 @@
--- A turn is dropped, comes again, or goes with its item.
+-- A turn is dropped, comes again, or is removed with its item.
 use Rattle.std.proofs.Common.{◌≡◌, ◌==◌, ◌&&◌, true, false, Some, None, sym, ap, ◌∙◌, subst}
 use Rattle.std.specs.Prelude.{not}
 use Rattle.std.specs.FinMap.{get}

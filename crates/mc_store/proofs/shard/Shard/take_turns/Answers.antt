@@ -8,7 +8,7 @@ use Rattle.mc_store.proofs.shard.Shard.take_turns.Goals as goal
 pub returns-in-Some : goal.returns-in-Some
 unfolding IsShard
 returns-in-Some c = λ state token key item h is same.
-    let shown = c.look-2.ensures.looked (looked c.args.unique state) (c.look.ensures.looked state h) in
+    let shown = c.look_twice.ensures.looked state h in
     rw c.push_back_reserved.ensures.items
-    (turn_waits (held_of c.look-2.new.self) (looked c.args.unique (looked c.args.unique state)) token key c.in-Some.own
-    item c.args.unique shown (sym c.in-Some.is ∙ is) same)
+    (turn_waits (held_of c.look_twice.new.self) (looked c.args.unique (looked c.args.unique state)) token key
+    c.in-Some.own item c.args.unique shown (sym c.in-Some.is ∙ is) same)

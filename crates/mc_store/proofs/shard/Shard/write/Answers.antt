@@ -1,5 +1,5 @@
--- What is written has the unique that was asked for or is next, where the items took it; else nothing but a dead item
--- goes.
+-- What is written has the client's unique or the next one, where the items took it; else nothing but a dead item is
+-- removed.
 use Rattle.std.proofs.Common.{Some, refl, inl, inr}
 use Rattle.std.proofs.lemmas.Bool.{false≢true}
 use Rattle.mc_store.specs.State.{first, evicting, without_dead, entered}
