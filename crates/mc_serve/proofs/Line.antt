@@ -22,33 +22,6 @@ use Rattle.mc_serve.proofs.Tying.{Agrees, channel_agrees, channel_came, none_cam
 use Rattle.mc_serve.proofs.Joined.{worker_at}
 use Rattle.mc_model.proofs.Alone.{ran_of}
 
--- What one shard ran for the line.
-pub shard_agrees : (sizes : Sizes) (shard : ℕ) (ends : Ends Near) (worker_states : List WorkerState)
-    (logs : List (List Entry)) (taken : List Taken) (got : ℕ → List Shown)
-    → shard < sizes.shards → ends.number < sizes.seats → length worker_states ≡ sizes.shards
-    → AreLogsFrom sizes 0 worker_states logs → AreTied ends worker_states → HasAsked sizes.shards ends taken got
-    → Agrees sizes.shards shard ends.number taken (got shard) (on_shard shard (together logs))
-shard_agrees sizes shard ends worker_states logs taken got below seat count are tied asked =
-    let worker = worker_at sizes 0 shard worker_states logs are (omega arith) in
-    let at : 0 + shard ≡ shard = omega arith in
-    let is : IsLogOf sizes shard worker.worker_state worker.log = rw at at worker.is in
-    let its : on_shard shard (together logs) ≡ worker.log = rw at at worker.its in
-    rw its (channel_agrees sizes shard ends worker.worker_state taken got worker.log below seat asked is
-    (tied shard worker.worker_state worker.here))
-
--- Each reply came from the shard whose piece it answers.
-pub keys_fit : (sizes : Sizes) (ends : Ends Near) (worker_states : List WorkerState) (logs : List (List Entry))
-    (taken : List Taken) (got : ℕ → List Shown)
-    → 0 < sizes.shards → ends.number < sizes.seats → length worker_states ≡ sizes.shards
-    → AreLogsFrom sizes 0 worker_states logs → AreTied ends worker_states → HasAsked sizes.shards ends taken got
-    → KeysFit sizes.shards taken got
-keys_fit sizes ends worker_states logs taken got some seat count are tied asked =
-    keys_came sizes.shards taken got (λ shard. elim (cases_lt shard sizes.shards) [
-      | inl below ↦ channel_came sizes.shards shard ends.number taken (got shard) (on_shard shard (together logs))
-          (shard_agrees sizes shard ends worker_states logs taken got below seat count are tied asked)
-      | inr beyond ↦ none_came sizes.shards shard taken (got shard) some beyond (asked.as_many shard)
-    ])
-
 -- what was run, for a line
 abbrev pub entry_for : ℕ → Ran → Entry
 entry_for asker ran = record { shard = ran.shard; asker = asker; piece = ran.piece; answer = ran.answer }
