@@ -1,25 +1,12 @@
 -- One line, once all workers are joined and its seat is tied to each of them.
-use Rattle.std.proofs.Common.{◌≡◌, ℕ, ◌<◌, ◌+◌, ◌==◌, inl, inr, Bool, true, false, cond, List, [], ◌∷◌, length, map}
-use Rattle.std.proofs.Common.{refl, sym, ap, ◌∙◌, arith}
+use Rattle.std.proofs.Common.{◌≡◌, ℕ, ◌==◌, inl, inr, Bool, true, false, cond, List, [], ◌∷◌, map}
+use Rattle.std.proofs.Common.{refl, sym, ap, ◌∙◌}
 use Rattle.std.specs.List.{AllByRecursion}
 use Rattle.std.specs.Prelude.{filter}
-use Rattle.std.proofs.lemmas.Bool.{cases_lt}
 use Rattle.std.proofs.lemmas.Bool.Decides.{eqb_tells}
-use Rattle.mc_sizes.specs.declared.sizes.Sizes.{Sizes}
-use Rattle.mc_conn.specs.History.{Taken}
 use Rattle.mc_conn.specs.Due as due
 use Rattle.mc_conn.specs.Due.{Ran}
-use Rattle.mc_conn.specs.Fits.{KeysFit}
-use Rattle.mc_conn.proofs.Serving.{keys_came}
 use Rattle.mc_model.specs.Log.{Entry, of_asker, on_shard}
-use Rattle.mc_worker.specs.WorkerState.{WorkerState}
-use Rattle.mc_ring.specs.Channel.{Near}
-use Rattle.mc_ring.specs.Ends.{Ends}
-use Rattle.mc_ring.specs.Reply.{Shown}
-use Rattle.mc_serve.specs.Asking.{AreTied, HasAsked}
-use Rattle.mc_serve.specs.Logs.{AreLogsFrom, IsLogOf, together}
-use Rattle.mc_serve.proofs.Tying.{Agrees, channel_agrees, channel_came, none_came}
-use Rattle.mc_serve.proofs.Joined.{worker_at}
 use Rattle.mc_model.proofs.Alone.{ran_of}
 
 -- what was run, for a line

@@ -4,9 +4,9 @@ use Rattle.std.specs.List.{slice_get}
 use Rattle.std.proofs.lemmas.Option.{same_Some, slice_get_within}
 use Rattle.mc_sizes.specs.declared.sizes.Sizes.{Sizes}
 use Rattle.mc_ring.specs.Channel.{Channel, Far, Near}
-use Rattle.mc_ring.specs.Ends.{Ends, channels_of, received_on, sent_on}
+use Rattle.mc_ring.specs.Ends.{Ends, channels_of}
 use Rattle.mc_ring.specs.Made.{AreChannels, AreRouted}
-use Rattle.mc_ring.specs.Route.{Name, Route}
+use Rattle.mc_ring.specs.Route.{Name}
 use Rattle.mc_ring.proofs.Lists.{get_below, get_map}
 use Rattle.mc_model.specs.Sized.{empty_shard}
 use Rattle.mc_history.specs.declared.knowledge.Role.TheVariants.{Seat, Shard}

@@ -1,23 +1,10 @@
 -- One channel, once both its ends are joined.
-use Rattle.std.proofs.Common.{◌≡◌, ℕ, suc, ◌<◌, ◌≤◌, List, [], ◌∷◌, ◌++◌, length, map, refl, sym, ap, ◌∙◌, arith}
-use Rattle.std.proofs.Common.{append-nil}
-use Rattle.mc_sizes.specs.declared.sizes.Sizes.{Sizes}
-use Rattle.mc_conn.specs.History.{Taken}
-use Rattle.mc_conn.specs.Due.{Ran, due}
-use Rattle.mc_conn.specs.Fits.{CameFrom}
-use Rattle.mc_conn.proofs.Counting.{due_beyond}
-use Rattle.mc_model.specs.Log.{Entry, of_asker, pieces_in, replies_in}
-use Rattle.mc_worker.specs.WorkerState.{WorkerState, end_come}
+use Rattle.std.proofs.Common.{◌≡◌, suc, List, [], ◌∷◌, ◌++◌, length, map, refl, ap, ◌∙◌, arith}
+use Rattle.mc_model.specs.Log.{Entry, pieces_in, replies_in}
 use Rattle.mc_ring.specs.declared.request.Request.{Request}
 use Rattle.mc_ring.specs.declared.request.Request.TheVariants as request
-use Rattle.mc_ring.specs.Channel.{Near}
-use Rattle.mc_ring.specs.Ends.{Ends, received_on, sent_on}
 use Rattle.mc_ring.specs.Reply.{Shown}
 use Rattle.mc_split.specs.declared.plan.Piece.{Piece}
-use Rattle.mc_serve.specs.Asking.{HasAsked, IsTied}
-use Rattle.mc_serve.specs.Logs.{IsLogOf}
-use Rattle.mc_model.proofs.Alone.{ran_of, pieces_of_ran, replies_of_ran}
-use Rattle.mc_serve.proofs.Zipped.{empty_when}
 
 -- the requests of these pieces, and then End
 abbrev pub to_end : List Piece → List Request

@@ -1,10 +1,7 @@
 -- What a seat did on its channels, and how its ends and a worker's tell of one channel.
-use Rattle.std.specs.Prelude.{ℕ, ◌≡◌, ◌<◌, List, [], ◌∷◌, ◌++◌, length, map, Some}
+use Rattle.std.specs.Prelude.{ℕ, ◌≡◌, List, ◌++◌, map, Some}
 use Rattle.std.specs.List.{slice_get}
-use Rattle.mc_conn.specs.History.{Taken}
-use Rattle.mc_conn.specs.Due.{due}
 use Rattle.mc_ring.specs.declared.request.Request.{Request}
-use Rattle.mc_ring.specs.declared.request.Request.TheVariants as request
 use Rattle.mc_ring.specs.Reply.{Shown}
 use Rattle.mc_ring.specs.Channel.{Far, Near, Past, Side}
 use Rattle.mc_ring.specs.Ends.{Ends, received_on, sent_on}

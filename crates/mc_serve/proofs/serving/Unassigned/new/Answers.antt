@@ -35,7 +35,8 @@ returns g c =
     let workers = c.in_ok-workers-2.workers.items in
     let A : List (Ends Near) → List (Ends Far) → Type 0 =
     λ near far. AreChannels c.args.sizes.seats c.args.sizes.shards c.args.sizes.ring near far in
-    let far : map ends_of (map (λ one. one.worker) workers) ≡ c.in_ok-near.far.items = ap (map ends_of) set ∙ made.ends in
+    let far : map ends_of (map (λ one. one.worker) workers) ≡ c.in_ok-near.far.items = ap (map ends_of) set
+    ∙ made.ends in
     let all : A (map (λ one. seat_ends one.session) seats) (map ends_of (map (λ one. one.worker) workers)) =
     subst (λ near. A near (map ends_of (map (λ one. one.worker) workers))) (sym sat.ends)
     (subst (λ far. A near far) (sym far) channels) in
