@@ -196,8 +196,8 @@ module _ (shards : ℕ) (rules : Rules) (may_answer : ℕ → Type 0) where
     pub ends : seat_ends new ≡ seat_ends old
 
   -- The line that was out was served and went back. Each reply was the answer to its piece, so the session is renewed.
-  module _ {T C : Type 0} {g : Ghosts C T} (keeps : g.keeps) (sat : SeatAt) (source source' : SourceTold)
-      (now now' : Sight) (commands : ℕ) (broke another : Bool) (session session' last : Session T C g)
+  module _ {T C : Type 0} {g : Ghosts C T} (sat : SeatAt) (source source' : SourceTold) (now now' : Sight)
+      (commands : ℕ) (broke another : Bool) (session session' last : Session T C g) (keeps : g.keeps)
       (goes : (begin : Sight) (before : Ends Near) → IsServingLine shards rules may_answer begin now before session
       → HasServed shards rules may_answer begin now' before session' commands broke)
       (back : source' ≡ took_back now' commands broke source) (renews : Renews another session' last)

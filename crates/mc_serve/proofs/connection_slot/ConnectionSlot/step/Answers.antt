@@ -34,7 +34,7 @@ returns-in-Ended g c shards rules sat stands =
     let held : c.in-Out-replace.line ≡ c.step.new.line =
     (let had = c.replace.ensures.value in let is = c.in-Out-replace.is in cc) in
     rw c.replace.ensures.after
-    (serves_another shards rules may_answer tt sat _ _ _ _ _ _ _ c.args.self.now.session c.step.new.self
-    c.renew.new.self (λ begin before. c.in-Ended.ensures.says shards rules begin before) (rw held at c.give_back.ensures)
+    (serves_another shards rules may_answer sat _ _ _ _ _ _ _ c.args.self.now.session c.step.new.self c.renew.new.self
+    tt (λ begin before. c.in-Ended.ensures.says shards rules begin before) (rw held at c.give_back.ensures)
     (record { when = c.renew.ensures.when; vacant = c.renew.ensures.vacant; ends = c.renew.ensures.ends })
     (rw c.if-not-begun.false at out))
