@@ -6,6 +6,7 @@ use Rattle.mc_sizes.specs.declared.sizes.Sizes.{Sizes}
 use Rattle.mc_ring.specs.Channel.{Channel, Far, Near}
 use Rattle.mc_ring.specs.Ends.{Ends, channels_of}
 use Rattle.mc_ring.specs.Made.{AreChannels, AreRouted}
+use Rattle.mc_ring.specs.Reply.{Shown}
 use Rattle.mc_ring.specs.Route.{Name}
 use Rattle.mc_ring.proofs.Lists.{get_below, get_map}
 use Rattle.mc_model.specs.Sized.{empty_shard}
@@ -36,13 +37,13 @@ module _ (sizes : Sizes) (name : Name) (capacity : ℕ) (near : List (Ends Near)
         routes =
             record {
               each = λ shard end at. routed number shard seat end here at;
-              shards = λ shard. ap (λ s. s.shards) same ∙ sym new.counted;
+              shards = λ shard. ap (λ (s : Sizes). s.shards) same ∙ sym new.counted;
             };
         past =
             record {
               settled = λ shard below. ap length (received shard) ∙ ap length (sym (sent shard));
               work_is = λ shard below. sym (sent shard);
-              came = λ shard below. ([], ap (λ xs. xs ++ []) (sym (received shard)));
+              came = λ shard below. ([], ap (λ (xs : List Shown). xs ++ []) (sym (received shard)));
             };
       }
 
@@ -96,7 +97,7 @@ module _ (sizes : Sizes) (name : Name) (capacity : ℕ) (near : List (Ends Near)
                   far_route c number seat.0 shard end seat.1 here at;
               shard = λ c. sym new.number_is;
             };
-        begin_is = ap (λ s. empty_shard s number) same ∙ ap (λ n. empty_shard sizes n) (sym new.number_is);
+        begin_is = ap (λ (s : Sizes). empty_shard s number) same ∙ ap (λ n. empty_shard sizes n) (sym new.number_is);
         none = refl;
       }
 
