@@ -20,8 +20,8 @@ returns-then-not-begun g c shards rules sat stands =
     c.args.self.now.session c.begin.new.self c.begin.result c.begin.ensures.serving c.begin.ensures.refused
     c.after_begin.ensures.told c.after_begin.ensures.line (rw c.if-not-begun.true at out))
 
-pub returns-in-Ended : goal.returns-in-Ended
-returns-in-Ended g c shards rules sat stands =
+pub returns-in-Out-replace : goal.returns-in-Out-replace
+returns-in-Out-replace g c shards rules sat stands =
     let may_answer = g.K.Clock.may_answer c.args.clock.now in
     let line : g.D.Transport.Sink.sight c.match-ready.line ≡ g.D.Transport.Sink.sight c.in-Out.line =
     elim c.match-ready.branch [

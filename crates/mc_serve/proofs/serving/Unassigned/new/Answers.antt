@@ -7,6 +7,8 @@ use Rattle.mc_ring.specs.Made.{AreChannels}
 use Rattle.mc_threads.specs.Workers.{ends_of}
 use Rattle.mc_threads.proofs.Fresh.{all_fresh}
 use Rattle.mc_threads.specs.Session.{seat_ends}
+use Rattle.mc_serve.specs.Recorded.{IsRecorderOf}
+use Rattle.mc_serve.proofs.Zipped.{zips_each}
 use Rattle.mc_serve.proofs.serving.Unassigned.new.Goals as goal
 
 pub make_recorded_workers-requires-clause-sizes : goal.make_recorded_workers-requires-clause-sizes
@@ -17,16 +19,21 @@ sit_down-requires-clause-sizes g c = c.requires.sizes.lines
 
 pub make_recorded_workers-requires-clause-fresh : goal.make_recorded_workers-requires-clause-fresh
 make_recorded_workers-requires-clause-fresh g c =
-    all_fresh _ _ _ c.in_ok-near.near.items c.in_ok-near.far.items c.in_ok-near.ensures.channels
+    all_fresh _ _ _ c.in_ok-near.field-0.near.items c.in_ok-near.field-0.far.items c.in_ok-near.ensures.channels
+
+pub make_recorded_workers-requires-clause-records : goal.make_recorded_workers-requires-clause-records
+make_recorded_workers-requires-clause-records g c =
+    zips_each (IsRecorderOf c.args.sizes) _ c.in_ok-near.field-0.far.items c.in_ok-near.field-0.recorders.items
+    c.in_ok-near.ensures.recorders (λ i ends recorder here there is keeps. is)
 
 pub sit_down-requires-clause-width : goal.sit_down-requires-clause-width
 sit_down-requires-clause-width g c =
-    all_from (λ seat. length seat.channels ≡ c.args.sizes.shards) c.in_ok-near.near.items
+    all_from (λ seat. length seat.channels ≡ c.args.sizes.shards) c.in_ok-near.field-0.near.items
     (λ i seat here. (c.in_ok-near.ensures.channels.each_seat i seat here).counted)
 
 pub returns : goal.returns
 returns g c =
-    let near = c.in_ok-near.near.items in
+    let near = c.in_ok-near.field-0.near.items in
     let channels = c.in_ok-near.ensures.channels in
     let made = c.in_ok-workers.ensures in
     let set = c.in_ok-workers-2.ensures in
@@ -35,7 +42,7 @@ returns g c =
     let workers = c.in_ok-workers-2.workers.items in
     let A : List (Ends Near) → List (Ends Far) → Type 0 =
     λ near far. AreChannels c.args.sizes.seats c.args.sizes.shards c.args.sizes.ring near far in
-    let far : map ends_of (map (λ one. one.worker) workers) ≡ c.in_ok-near.far.items = ap (map ends_of) set
+    let far : map ends_of (map (λ one. one.worker) workers) ≡ c.in_ok-near.field-0.far.items = ap (map ends_of) set
     ∙ made.ends in
     let all : A (map (λ one. seat_ends one.session) seats) (map ends_of (map (λ one. one.worker) workers)) =
     subst (λ near. A near (map ends_of (map (λ one. one.worker) workers))) (sym sat.ends)
