@@ -186,6 +186,18 @@ impl Conn {
         }
     }
 
+    /// Whether a piece has not left. Allocates nothing.
+    #[inline(always)]
+    pub fn has_piece(&self) -> bool {
+        self.put_back.is_some() || !self.dispatcher.unsent.is_empty()
+    }
+
+    /// Whether a reply is to be handed out. Allocates nothing.
+    #[inline(always)]
+    pub fn has_due(&self) -> bool {
+        self.dispatcher.reorder_buffer.has_due()
+    }
+
     /// Takes out the oldest piece that has not left, with its shard. It takes no memory.
     #[tactic(auto, unfolding(crate::specs::Conn::IsConn))]
     pub fn next_piece(&mut self) -> Option<(usize, Piece)>

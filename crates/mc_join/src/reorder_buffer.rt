@@ -201,6 +201,15 @@ impl ReorderBuffer {
         texts_len(&self.pending_replies)
     }
 
+    /// Whether the first open ticket is completely answered.
+    #[inline(always)]
+    pub fn has_due(&self) -> bool {
+        match self.pending_replies.get(0) {
+            Some(pending_reply) => pending_reply.slots.is_filled(),
+            None => false,
+        }
+    }
+
     /// Number of open tickets.
     pub fn waiting(&self) -> usize
         ensures count { result ≡ length self.now.pending_replies }

@@ -91,8 +91,9 @@ impl BufferedConn {
     pub fn take_all<K: Clock>(&mut self, clock: &K)
         ensures { TakesFor (K.may_answer clock.now) self.old self.new }
     {
+        let now = clock.now();
         for _ in 0..u64::MAX {
-            match self.conn.take(self.alloc, clock.now(), clock) {
+            match self.conn.take(self.alloc, now, clock) {
                 Taken::Opened(ticket) => self.commands = ticket.0.saturating_add(1),
                 stop => {
                     self.stop = stop;
@@ -118,6 +119,9 @@ impl BufferedConn {
             (L.sight line.new) }
         ensures waits { result ≡ LineStep.Waits → WaitsForLine self.new }
     {
+        if self.unwritten.is_clear() && !self.conn.has_due() {
+            return self.go_on_reading(line, clock, pool);
+        }
         self.unwritten.borrow_room(pool);
         if let Err(_refused) = self.conn.hand(&mut self.unwritten) {
             return self.ended(true);

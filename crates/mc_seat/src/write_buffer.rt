@@ -127,6 +127,12 @@ impl WriteBuffer {
         self.front.bytes().split_at(self.sent).1
     }
 
+    /// Whether nothing waits.
+    #[inline(always)]
+    pub(crate) fn is_clear(&self) -> bool {
+        self.rest().is_empty() && self.is_last()
+    }
+
     /// Whether nothing stands behind the front.
     fn is_last(&self) -> bool
         ensures { IsTrue result → (self.now.later.items ≡ []) × (self.now.tail.items ≡ []) }

@@ -12,7 +12,7 @@ ghost use Rattle.mc_serve.specs.declared.connection_slot.SlotState.TheVariants a
 
 use mc_doors::{Accept, ConnectionSource};
 use mc_ring::{SeatEnds, Token};
-use mc_seat::{BufferPool, Clerk, Clock, LineStep, Ready, Transport};
+use mc_seat::{BufferPool, Clerk, Clock, LineStep, Ready, Served, Transport};
 use mc_sizes::Sizes;
 use mc_threads::Session;
 use mc_wake::Wakers;
@@ -149,14 +149,7 @@ impl<D: ConnectionSource + Drop, T: Token + Drop, C: Clerk<T> + Drop> Connection
             (D.told self.new.source) self.new.session self.new.slot_state }
     {
         match &mut self.slot_state {
-            SlotState::Free => {
-                self.slot_state = match self.source.accept() {
-                    Accept::Came(line) => SlotState::Out { line, begun: false },
-                    Accept::NotYet => return Stepped::Waits,
-                    Accept::Over => SlotState::Closing(0),
-                };
-                Stepped::Did
-            }
+            SlotState::Free => self.accept_next(),
             SlotState::Out { line, begun } => {
                 if let Some(ready) = ready {
                     line.rouse(ready);
@@ -168,19 +161,7 @@ impl<D: ConnectionSource + Drop, T: Token + Drop, C: Clerk<T> + Drop> Connection
                 match self.session.step(line, clock, pool) {
                     LineStep::Did => Stepped::Did,
                     LineStep::Waits => Stepped::Waits,
-                    LineStep::Ended(served) => {
-                        let SlotState::Out { line, .. } = mem::replace(
-                            &mut self.slot_state,
-                            SlotState::Free,
-                        ) else {
-                            unreachable!()
-                        };
-                        self.source.give_back(line, served.commands, served.broke);
-                        if !self.session.renew() {
-                            self.slot_state = SlotState::Closing(0);
-                        }
-                        Stepped::Did
-                    }
+                    LineStep::Ended(served) => self.finish(served),
                 }
             }
             SlotState::Closing(count) => {
@@ -189,6 +170,32 @@ impl<D: ConnectionSource + Drop, T: Token + Drop, C: Clerk<T> + Drop> Connection
             }
             SlotState::Over => Stepped::Waits,
         }
+    }
+
+    /// Asks the source for a line.
+    #[cold]
+    #[inline(never)]
+    fn accept_next(&mut self) -> Stepped {
+        self.slot_state = match self.source.accept() {
+            Accept::Came(line) => SlotState::Out { line, begun: false },
+            Accept::NotYet => return Stepped::Waits,
+            Accept::Over => SlotState::Closing(0),
+        };
+        Stepped::Did
+    }
+
+    /// Returns the line, which was served.
+    #[cold]
+    #[inline(never)]
+    fn finish(&mut self, served: Served) -> Stepped {
+        let SlotState::Out { line, .. } = mem::replace(&mut self.slot_state, SlotState::Free) else {
+            return Stepped::Waits;
+        };
+        self.source.give_back(line, served.commands, served.broke);
+        if !self.session.renew() {
+            self.slot_state = SlotState::Closing(0);
+        }
+        Stepped::Did
     }
 
     /// Closes the next channel, where it has room for End and the first `count` are closed.

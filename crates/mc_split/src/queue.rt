@@ -103,6 +103,7 @@ impl PieceQueue {
     }
 
     /// Whether no piece is queued.
+    #[inline(always)]
     pub fn is_empty(&self) -> bool
         ensures { result ≡ (length self.now.items == 0) }
     {

@@ -142,6 +142,15 @@ impl<T: Token + Drop, C: Clerk<T> + Drop> ShardLink<T, C> {
         ensures places { self.new.places ≡ self.old.places }
     {
         self.blocked = false;
+        if !conn.has_piece() {
+            return false;
+        }
+        self.send_piece(conn)
+    }
+
+    /// Sends the next piece.
+    #[inline(always)]
+    fn send_piece(&mut self, conn: &mut Conn) -> bool {
         let Some((shard, piece)) = conn.next_piece() else {
             return false;
         };

@@ -21,6 +21,7 @@ use crate::scribe::Scribe;
 use mc_reply::Ticket;
 use mc_ring::{Reply, Request, SeatEnds, ShardEnds, Token, beside};
 use mc_sizes::Sizes;
+use mc_split::Piece;
 use mc_store::Shard;
 use std::alloc::{AllocError, Global};
 use std::marker::Model;
@@ -326,8 +327,16 @@ impl<T: Token + Drop, S: Scribe<T> + Drop> Worker<T, S> {
         requires { seat < length self.old.ends.channels }
         ensures { Turned self.old seat result self.new }
     {
-        let Some(Hand { seat, reply }) = self.hand.take() else {
+        if self.hand.is_none() {
             return self.take_from(alloc, seat, gate);
+        }
+        self.give_hand()
+    }
+
+    /// Gives the reply in the hand.
+    fn give_hand(&mut self) -> Turn {
+        let Some(Hand { seat, reply }) = self.hand.take() else {
+            return Turn::Nothing;
         };
         let token = self.scribe.token();
         match self.ends.give_with(seat, reply, token) {
@@ -355,6 +364,19 @@ impl<T: Token + Drop, S: Scribe<T> + Drop> Worker<T, S> {
             self.live[seat] = false;
             return Turn::Ended;
         };
+        self.run_piece(alloc, seat, piece, token, gate)
+    }
+
+    /// Runs a piece.
+    #[inline(always)]
+    fn run_piece<G: Gate>(
+        &mut self,
+        alloc: Global,
+        seat: usize,
+        piece: Piece,
+        token: T,
+        gate: &G,
+    ) -> Turn {
         let (ticket, part, moment) = (piece.ticket, piece.part, piece.moment);
         let sent = Snapshot::of(&piece);
         let op = piece.into_op();
