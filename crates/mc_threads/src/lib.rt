@@ -9,5 +9,5 @@ mod working;
 
 pub use session::Session;
 pub use shard_link::ShardLink;
-pub use workers::{make_recorded_workers, make_workers};
+pub use workers::make_recorded_workers;
 pub use working::Working;

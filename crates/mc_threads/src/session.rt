@@ -38,28 +38,6 @@ impl<T: Token + Drop, C: Clerk<T> + Drop> Drop for Session<T, C> {
     }
 }
 
-impl Session<(), ()> {
-    ghost use Rattle.mc_threads.specs.Session.{IsVacant, seat_ends, seat_ring};
-
-    /// A seat that serves no line yet, over new ends of its channels. The wakers are those of the
-    /// shards. Nothing is recorded.
-    pub fn new(
-        alloc: Global,
-        ends: SeatEnds,
-        shards: Wakers,
-        sizes: Sizes,
-    ) -> Result<Session, AllocError>
-        requires sizes { SuitLines sizes }
-        requires width { length ends.channels ≡ sizes.shards }
-        ensures vacant { IfOk result
-            (λ session. IsVacant (rules_of sizes) sizes.window session) }
-        ensures ends { IfOk result (λ session. seat_ends session ≡ ends) }
-        ensures ring { IfOk result (λ session. seat_ring session ≡ sizes.ring) }
-    {
-        Session::recorded(alloc, ends, (), shards, sizes)
-    }
-}
-
 impl<T: Token + Drop, C: Clerk<T> + Drop> Session<T, C> {
     ghost use Rattle.mc_wire.specs.Sink.{Sight};
     ghost use Rattle.mc_ring.specs.Channel.{Near};

@@ -11,26 +11,6 @@ use mc_worker::{Scribe, Worker};
 use std::alloc::{AllocError, Global};
 use std::random::RandomSource;
 
-/// A worker for the ends of each shard, over an empty shard. Nothing is recorded.
-pub fn make_workers<R: RandomSource>(
-    rt: &R,
-    alloc: Global,
-    ends: Vec<ShardEnds>,
-    sizes: Sizes,
-) -> Result<Vec<Worker>, AllocError>
-    requires sizes { SuitShards sizes }
-    requires fresh { AllByRecursion (AreFresh sizes.shards) ends.items }
-    ensures ends { IfOk result (λ workers. map ends_of workers.items ≡ ends.items) }
-    ensures fresh { IfOk result (λ workers. AllByRecursion (IsFresh sizes) workers.items) }
-{
-    let mut workers = Vec::with_capacity(alloc, ends.len())?;
-    for ends in ends {
-        let worker = Worker::start(rt, alloc, ends, sizes)?;
-        workers.push(worker)?;
-    }
-    Ok(workers)
-}
-
 /// A worker for the ends of each shard, over an empty shard, with the scribe in the same place. The
 /// scribes have recorded nothing, and are for the channels of these ends.
 pub fn make_recorded_workers<R: RandomSource, T: Token + Drop, S: Scribe<T> + Drop>(
