@@ -1,7 +1,7 @@
 -- A line that is served over channels, turn by turn.
 use Rattle.std.proofs.Common.{◌≡◌, ℕ, ◌≤◌, ◌==◌, ◌&&◌, inl, inr, Bool, true, false, List, [], ◌∷◌, ◌++◌, length, map}
-use Rattle.std.proofs.Common.{refl, sym, ap, subst, ◌∙◌, arith, append-nil}
-use Rattle.std.specs.List.{list_all}
+use Rattle.std.proofs.Common.{refl, sym, ap, subst, ◌∙◌, arith, append-nil, append_assoc}
+use Rattle.std.specs.List.{concat, list_all}
 use Rattle.std.proofs.lemmas.Bool.{cases_lt, eqb-true}
 use Rattle.std.proofs.lemmas.List.{take_all}
 use Rattle.mc_wire.specs.Sink.{Sight}
@@ -15,7 +15,7 @@ use Rattle.mc_conn.specs.Conn.{IsConn}
 use Rattle.mc_conn.specs.Due.{due, channel}
 use Rattle.mc_conn.specs.Fits.{KeysFit, Serves}
 use Rattle.mc_conn.specs.History.{Taken}
-use Rattle.mc_conn.specs.Told.{IsAllTaken, IsAtRest, Told, all_pieces, all_texts, told_nothing}
+use Rattle.mc_conn.specs.Told.{IsAllTaken, IsAtRest, Told, all_pieces, all_texts, told_nothing, waiting_text}
 use Rattle.mc_conn.proofs.Counting.{count_from_come, due_beyond}
 use Rattle.mc_conn.proofs.Serving.{serves_none, serves_take}
 use Rattle.mc_conn.proofs.Staying.{is_sound}
@@ -25,11 +25,14 @@ use Rattle.mc_seat.specs.declared.buffered_conn.LineStep.{LineStep}
 use Rattle.mc_seat.specs.declared.buffered_conn.LineStep.TheVariants as stepped
 use Rattle.mc_seat.specs.LineServed.{LineServed}
 use Rattle.mc_seat.specs.BufferedConn.{IsNew, ServesOn, ServiceSays, TakesFor, WasServed, told_on}
-use Rattle.mc_seat.specs.internal.Stands.{IsComplete}
+use Rattle.mc_seat.specs.Clerk.{IsOwed}
+use Rattle.mc_seat.specs.Later.{text_in}
+use Rattle.mc_seat.specs.Place.{Place}
+use Rattle.mc_seat.specs.internal.Stands.{IsComplete, handed_texts}
 use Rattle.mc_seat.proofs.More.{out_more, with_more}
-use Rattle.mc_seat.proofs.Serving.{serving_first, stops_carried}
+use Rattle.mc_seat.proofs.Serving.{handed_and_waiting, serving_first, stops_carried}
 use Rattle.mc_threads.specs.declared.shard_link.ShardLink.{ShardLink}
-use Rattle.mc_threads.specs.Records.{RecordsAllOf, RecordsLineOf, RecordsPastOf}
+use Rattle.mc_threads.specs.Records.{IsLineOf, RecordsAll, RecordsAllOf, RecordsLineOf, RecordsPastOf}
 use Rattle.mc_threads.specs.Service.{IsServedBy, LineSays}
 use Rattle.mc_threads.specs.Serving.{IsIdle}
 use Rattle.mc_threads.specs.internal.Carrying.{AllOutWhere, CanCarry, CanRecord, Carries, ShardLinkGoesOn}
@@ -137,6 +140,13 @@ at_rest told false handed sent rest whole = record { sent = sent; done = ((rest 
 same_carries : (before ends ends' : Ends Near) (ways ways' : List ℕ) (told : Told) (received : ℕ → List Shown) → ends'
     ≡ ends → ways' ≡ ways → Carries before ends ways told received → Carries before ends' ways' told received
 same_carries before ends ends' ways ways' told received same counts carries = rw (same, counts) carries
+
+-- what waits and what is handed out next are all that is left
+owed_next : (written waits out next all : List ℕ) → written ++ waits ≡ out → out ++ next ≡ all
+    → written ++ ((waits ++ next) ++ []) ≡ all
+owed_next written waits out next all in_order then_all =
+    ap (λ l. written ++ l) (append-nil (waits ++ next))
+    ∙ (sym (append_assoc written waits next) ∙ (ap (λ l. l ++ next) in_order ∙ then_all))
 
 module _ {T C : Type 0} {g : Ghosts C T} where
   -- bytes were fed, replies handed out and commands taken: what was carried is the same, and the line is served on over
@@ -346,6 +356,87 @@ module _ {T C : Type 0} {g : Ghosts C T} where
       let serves = settled.serves in
       complete_all serves.told serves.received buffered_conn.conn serves.stopped.serves.conn_is serves.carries.serves
       (settled_all shards rules may_answer begin now before shard_link buffered_conn settled)
+
+  -- Another shard link with the same ends and the same record is settled too.
+  pub settled_same : (shards : ℕ) (rules : Rules) (may_answer : ℕ → Type 0) (begin now : Sight) (before : Ends Near)
+      (shard_link shard_link' : ShardLink T C g) (buffered_conn : BufferedConn) → shard_link'.ends ≡ shard_link.ends
+      → shard_link'.under_way ≡ shard_link.under_way → shard_link'.clerk ≡ shard_link.clerk
+      → Settled shards rules may_answer begin now before shard_link buffered_conn
+      → Settled shards rules may_answer begin now before shard_link' buffered_conn
+  settled_same shards rules may_answer begin now before shard_link shard_link' buffered_conn ends ways clerk settled =
+      let serves = settled.serves in
+      let counts : shard_link'.under_way.items ≡ shard_link.under_way.items = ap (λ counts. counts.items) ways in
+      let carries = same_carries before shard_link.ends shard_link'.ends shard_link.under_way.items
+      shard_link'.under_way.items serves.told serves.received ends counts serves.carries in
+      let all : RecordsAllOf shard_link' before serves.told serves.received =
+      subst (λ k. RecordsAll g k before serves.told serves.received) (sym clerk) settled.recorded in
+      record {
+        serves = record {
+          told = serves.told;
+          received = serves.received;
+          shards_is = serves.shards_is;
+          rules_are = serves.rules_are;
+          carries = carries;
+          stopped = serves.stopped;
+          credit =
+              credit_by_counts shard_link'.places before shard_link'.ends shard_link'.under_way.items serves.told
+              serves.received shard_link'.in_credit carries;
+          recorded = recorded_line shard_link' before serves.told serves.received all;
+        };
+        recorded = all;
+        all = settled.all;
+        idle = subst IsIdle (sym counts) settled.idle;
+      }
+
+  -- The line is owed what waits, and then all replies whose turn has come.
+  pub owes_all : (shards : ℕ) (rules : Rules) (may_answer : ℕ → Type 0) (begin now : Sight) (before : Ends Near)
+      (shard_link : ShardLink T C g) (buffered_conn : BufferedConn) (place : Place)
+      → (settled : Settled shards rules may_answer begin now before shard_link buffered_conn)
+      → IsLineOf shard_link rules place begin → g.keeps
+      → (place ≡ g.place shard_link.clerk begin) × g.opened shard_link.clerk
+      × IsOwed (g.route shard_link.clerk 0).name.sizes (g.work shard_link.clerk) (g.taken shard_link.clerk)
+      (g.answers shard_link.clerk) begin now (text_in buffered_conn.unwritten ++ waiting_text settled.serves.told)
+  owes_all shards rules may_answer begin now before shard_link buffered_conn place settled line keeps =
+      let has = settled.recorded keeps in
+      let serves = settled.serves in
+      let served = serves.stopped.serves in
+      let told = serves.told in (
+        line.placed keeps,
+        has.0.0,
+        record {
+          told = told;
+          before = before;
+          received = serves.received;
+          kept = has.0.1;
+          sound = is_sound buffered_conn.conn told served.conn_is;
+          some_shards = some_shards buffered_conn.conn told served.conn_is;
+          shards_are = sym serves.carries.width ∙ sym ((shard_link.routed keeps).shards 0);
+          rules_are = serves.rules_are ∙ line.ruled keeps;
+          recorded = has.1;
+          unread = buffered_conn.seat.unread;
+          read_is = served.serving.read_is;
+          written = served.written;
+          written_is = served.written_is;
+          rest = [];
+          next =
+              owed_next served.written (text_in buffered_conn.unwritten) (concat (handed_texts told))
+              (waiting_text told) (concat (all_texts told)) served.in_order (handed_and_waiting told);
+        },
+      )
+
+  -- What is served may be recorded.
+  pub can_record : (shards : ℕ) (rules : Rules) (may_answer : ℕ → Type 0) (begin now : Sight) (before : Ends Near)
+      (shard_link : ShardLink T C g) (buffered_conn : BufferedConn)
+      → IsServedBy shards rules may_answer begin now before shard_link buffered_conn
+      → CanRecord shard_link buffered_conn.conn
+  can_record shards rules may_answer begin now before shard_link buffered_conn served = record {
+    before = before;
+    told = served.told;
+    received = served.received;
+    conn_is = served.stopped.serves.conn_is;
+    carries = served.carries;
+    as_recorded = served.recorded;
+  }
 
   -- the line is served on
   settled_on : (shards : ℕ) (rules : Rules) (may_answer : ℕ → Type 0) (begin now after : Sight) (before : Ends Near)

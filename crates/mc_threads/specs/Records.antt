@@ -1,11 +1,15 @@
 -- What a clerk has recorded of the line that a shard link serves. A clerk that keeps no record has nothing to say.
 use Rattle.std.specs.Prelude.{ℕ, ◌≡◌, List, map}
+use Rattle.mc_wire.specs.Sink.{Sight}
+use Rattle.mc_command.specs.declared.rules.Rules.{Rules}
+use Rattle.mc_sizes.specs.Sizes.{rules_of}
 use Rattle.mc_ring.specs.Ends.{Ends}
 use Rattle.mc_ring.specs.Channel.{Near}
 use Rattle.mc_ring.specs.Reply.{Shown}
 use Rattle.mc_conn.specs.History.{carried_out}
 use Rattle.mc_conn.specs.Told.{Told}
 use Rattle.mc_seat.specs.Clerk.{IsKept}
+use Rattle.mc_seat.specs.Place.{Place}
 use Rattle.mc_seat.specs.declared.clerk.Clerk.{Ghosts}
 use Rattle.mc_threads.specs.Routes.{IsUpToDate}
 use Rattle.mc_threads.specs.declared.shard_link.ShardLink.{ShardLink}
@@ -36,3 +40,17 @@ module _ {T C : Type 0} {g : Ghosts C T} where
 
   abbrev pub RecordsPastOf : ShardLink T C g → Ends Near → Type 0
   RecordsPastOf shard_link = RecordsPast g shard_link.clerk
+
+  -- Where a record is kept, it is of a server by these rules.
+  abbrev pub IsRuledBy : ShardLink T C g → Rules → Type 0
+  IsRuledBy shard_link rules = g.keeps → rules ≡ rules_of (g.route shard_link.clerk 0).name.sizes
+
+  -- And the line in this place is that of the last connection in it. It began so.
+  pub record IsLineOf (shard_link : ShardLink T C g) (rules : Rules) (place : Place) (begin : Sight) : Type 0 where
+    pub ruled : IsRuledBy shard_link rules
+    pub placed : g.keeps → place ≡ g.place shard_link.clerk begin
+
+  -- The record is of the same server, and of the same connection.
+  pub record KeepsPlace (old new : ShardLink T C g) : Type 0 where
+    pub route : g.route new.clerk ≡ g.route old.clerk
+    pub place : g.keeps → g.place new.clerk ≡ g.place old.clerk

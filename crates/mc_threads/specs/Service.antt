@@ -13,11 +13,12 @@ use Rattle.mc_seat.specs.declared.buffered_conn.LineStep.{LineStep}
 use Rattle.mc_seat.specs.declared.buffered_conn.LineStep.TheVariants as stepped
 use Rattle.mc_seat.specs.LineServed.{LineServed}
 use Rattle.mc_seat.specs.BufferedConn.{HasStopped}
+use Rattle.mc_seat.specs.Place.{Place}
 use Rattle.mc_threads.specs.declared.shard_link.ShardLink.{ShardLink}
 use Rattle.mc_threads.specs.Credit.{IsInCredit}
-use Rattle.mc_threads.specs.Records.{RecordsLineOf, RecordsPastOf}
+use Rattle.mc_threads.specs.Records.{IsLineOf, RecordsLineOf, RecordsPastOf}
 use Rattle.mc_threads.specs.Serving.{IsIdle}
-use Rattle.mc_threads.specs.internal.Carrying.{CanRecord, Carries}
+use Rattle.mc_threads.specs.internal.Carrying.{Carries}
 use Rattle.mc_command.specs.declared.rules.Rules.{Rules}
 
 module _ {T C : Type 0} {g : Ghosts C T} where
@@ -60,6 +61,12 @@ module _ {T C : Type 0} {g : Ghosts C T} where
   abbrev pub AwaitsShards : ShardLink T C g → Type 0
   AwaitsShards shard_link = list_all (λ count. count == 0) shard_link.under_way.items ≡ false
 
-  -- Some line is being served.
-  abbrev pub ServesSomeLine : ShardLink T C g → BufferedConn → Type 0
-  ServesSomeLine shard_link buffered_conn = CanRecord shard_link buffered_conn.conn
+  -- Some line is being served, which is so now and in this place.
+  pub record ServesSomeLine (may_answer : ℕ → Type 0) (place : Place) (now : Sight) (shard_link : ShardLink T C g)
+      (buffered_conn : BufferedConn) : Type 0 where
+    pub shards : ℕ
+    pub rules : Rules
+    pub begin : Sight
+    pub before : Ends Near
+    pub serves : IsServedBy shards rules may_answer begin now before shard_link buffered_conn
+    pub line : IsLineOf shard_link rules place begin

@@ -9,8 +9,9 @@ use Rattle.mc_seat.specs.declared.buffered_conn.BufferedConn.{BufferedConn}
 use Rattle.mc_seat.specs.declared.buffered_conn.LineStep.{LineStep}
 use Rattle.mc_seat.specs.declared.buffered_conn.LineStep.TheVariants as stepped
 use Rattle.mc_seat.specs.BufferedConn.{IsNew}
+use Rattle.mc_seat.specs.Place.{Place}
 use Rattle.mc_threads.specs.declared.session.Session.{Session}
-use Rattle.mc_threads.specs.Records.{RecordsPastOf}
+use Rattle.mc_threads.specs.Records.{IsLineOf, IsRuledBy, RecordsPastOf}
 use Rattle.mc_threads.specs.Serving.{IsIdle}
 use Rattle.mc_threads.specs.Service.{IsServedBy, ServesSomeLine, WasServedBy}
 use Rattle.mc_command.specs.declared.rules.Rules.{Rules}
@@ -57,6 +58,15 @@ module _ {T C : Type 0} {g : Ghosts C T} where
   StepSays (stepped.Ended served) shards rules may_answer begin now before session =
       HasServed shards rules may_answer begin now before session served.commands served.broke
 
-  -- It serves some line.
-  abbrev pub MayStep : Session T C g → Type 0
-  MayStep session = IsSomeAnd session.buffered_conn (ServesSomeLine session.shard_link)
+  -- It serves some line, which is so now and in this place.
+  abbrev pub MayStep : (ℕ → Type 0) → Place → Sight → Session T C g → Type 0
+  MayStep may_answer place now session =
+      IsSomeAnd session.buffered_conn (ServesSomeLine may_answer place now session.shard_link)
+
+  -- Where a record is kept, it is of a server by these rules,
+  abbrev pub IsRuled : Rules → Session T C g → Type 0
+  IsRuled rules session = IsRuledBy session.shard_link rules
+
+  -- and the line in this place is that of the last connection in it. It began so.
+  abbrev pub IsLineAt : Rules → Place → Sight → Session T C g → Type 0
+  IsLineAt rules place begin session = IsLineOf session.shard_link rules place begin

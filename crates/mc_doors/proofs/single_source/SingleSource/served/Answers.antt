@@ -4,4 +4,8 @@ use Rattle.std.proofs.Common.{refl}
 
 pub returns-in-Some : goal.returns-in-Some
 returns-in-Some g c =
-    (g.L.Sink.sight c.in-Some.returned.begin.value, c.args.self.over, rw (c.in-Some.is, c.into_served.ensures) refl)
+    (
+      g.L.Transport.sight c.in-Some.returned.begin.value,
+      c.args.self.over,
+      rw (c.in-Some.is, c.into_served.ensures) refl,
+    )

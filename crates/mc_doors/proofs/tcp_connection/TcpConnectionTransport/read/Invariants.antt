@@ -8,5 +8,6 @@ abbrev pub invariant-loop : goal.invariant-loop
 invariant-loop g l = record {
   sight : sight_of l.self ≡ sight_of l.initial.self;
   stream : Keeps (g.S.Stream.remaining l.initial.self.tap.stream) (g.S.Stream.remaining l.self.tap.stream);
+  begun : l.self.begun ≡ l.initial.self.begun;
   room : length l.room ≡ length l.initial.room;
 }

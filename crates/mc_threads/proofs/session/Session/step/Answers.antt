@@ -8,7 +8,7 @@ pub returns-clause-says : goal.returns-clause-says
 returns-clause-says g c shards rules begin before serving =
     let may_answer = g.K.Clock.may_answer c.args.clock.now in
     let served = some_is _ _
-    (IsServedBy shards rules may_answer begin (g.L.Sink.sight c.args.line.now) before c.args.self.now.shard_link)
+    (IsServedBy shards rules may_answer begin (g.L.Transport.sight c.args.line.now) before c.args.self.now.shard_link)
     c.in-Some.is serving in
     steps_on c.step.result shards rules may_answer begin _ before _ c.step.new.buffered_conn refl
     (c.step.ensures.says shards rules begin before served)

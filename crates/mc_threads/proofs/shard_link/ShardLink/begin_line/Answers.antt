@@ -1,6 +1,8 @@
 -- The clerk has opened a connection, of which nothing is recorded.
 use Rattle.mc_threads.proofs.Recording.{line_begins, routes_still}
 use Rattle.mc_ring.specs.EndsLaws.{same_ends-refl}
+use Rattle.std.proofs.Common.{◌∙◌}
+use Rattle.mc_threads.proofs.Placing.{ruled_route}
 use Rattle.mc_threads.proofs.shard_link.ShardLink.begin_line.Goals as goal
 
 pub returns-clause-begins : goal.returns-clause-begins
@@ -11,3 +13,9 @@ returns-clause-begins g c before told none nothing width past =
 pub invariant_of-self-clause-routed : goal.invariant_of-self-clause-routed
 invariant_of-self-clause-routed g c keeps =
     routes_still _ _ _ _ c.«open».ensures.route (same_ends-refl c.args.self.now.ends) (c.args.self.now.routed keeps)
+
+pub returns-clause-line : goal.returns-clause-line
+returns-clause-line g c rules ruled = record {
+  ruled = ruled_route _ _ rules c.«open».ensures.route ruled;
+  placed = λ keeps. c.begin.ensures.place ∙ c.«open».ensures.place keeps _;
+}
