@@ -138,6 +138,12 @@ opens old new is lawful' adds =
     } in
     subst (λ (a : Acting). OpensConnection old a) (sym (is_with old new adds.name adds.role)) opened
 
+-- And it is so once the actor has shown it.
+pub opens_shown : (old new shown : Acting) → IsSeatActor old → IsHistory new.name.sizes new.events
+    → Adds (Opened (seat_of old.role)) old new → shown ≡ new → OpensConnection old shown
+opens_shown old new shown is lawful adds same =
+    subst (λ (a : Acting). OpensConnection old a) (sym same) (opens old new is lawful adds)
+
 -- what taking commands makes of it
 pub record TakesCommands (taken : List Taken) (old new : Acting) : Type 0 where
   pub opened : HasOpened new
