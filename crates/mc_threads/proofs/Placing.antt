@@ -10,6 +10,14 @@ use Rattle.mc_seat.specs.Place.{Place}
 use Rattle.mc_threads.specs.declared.shard_link.ShardLink.{ShardLink}
 use Rattle.mc_threads.specs.Records.{IsLineOf, IsRuledBy, KeepsPlace}
 
+-- A clerk with the same channels keeps its record for a server by the same rules.
+pub route_rules : {T C : Type 0} (g : Ghosts C T) (clerk clerk' : C) (rules : Rules) → g.route clerk' ≡ g.route clerk
+    → (g.keeps → rules ≡ rules_of (g.route clerk 0).name.sizes) → g.keeps
+    → rules ≡ rules_of (g.route clerk' 0).name.sizes
+route_rules g clerk clerk' rules same ruled keeps =
+    let sizes_rules : (ℕ → Route) → Rules = λ r. rules_of (r 0).name.sizes in
+    ruled keeps ∙ ap sizes_rules (sym same)
+
 module _ {T C : Type 0} {w : Warrants T} {g : Ghosts C T} where
   -- It keeps what it has.
   pub kept_refl : (one : ShardLink T C w g) → KeepsPlace one one
@@ -29,14 +37,23 @@ module _ {T C : Type 0} {w : Warrants T} {g : Ghosts C T} where
   -- A record with the same channels is for a server by the same rules.
   pub ruled_route : (one two : ShardLink T C w g) (rules : Rules) → g.route two.clerk ≡ g.route one.clerk
       → IsRuledBy one rules → IsRuledBy two rules
-  ruled_route one two rules same ruled keeps =
-      let sizes_rules : (ℕ → Route) → Rules = λ r. rules_of (r 0).name.sizes in
-      ruled keeps ∙ ap sizes_rules (sym same)
+  ruled_route one two rules same ruled = route_rules g one.clerk two.clerk rules same ruled
+
+  -- The same clerk's record is for a server by the same rules.
+  pub ruled_same : (one two : ShardLink T C w g) (rules : Rules) → two ≡ one → IsRuledBy one rules → IsRuledBy two rules
+  ruled_same one two rules same ruled =
+      ruled_route one two rules (ap (λ (k : ShardLink T C w g). g.route k.clerk) same) ruled
+
+  -- So is that of a clerk that comes of it with the same channels.
+  pub ruled_then : (one two three : ShardLink T C w g) (rules : Rules) → two ≡ one → g.route three.clerk
+      ≡ g.route two.clerk → IsRuledBy one rules → IsRuledBy three rules
+  ruled_then one two three rules same route ruled =
+      ruled_route two three rules route (ruled_same one two rules same ruled)
 
   -- So its line is the line still.
   pub line_kept : (one two : ShardLink T C w g) (rules : Rules) (place : Place) (begin : Sight) → KeepsPlace one two
       → IsLineOf one rules place begin → IsLineOf two rules place begin
   line_kept one two rules place begin kept line = record {
     ruled = ruled_route one two rules kept.route line.ruled;
-    placed = λ keeps. line.placed keeps ∙ ap (λ p. p begin) (sym (kept.place keeps));
+    placed = λ keeps. line.placed keeps ∙ ap (λ (p : Sight → Place). p begin) (sym (kept.place keeps));
   }

@@ -273,8 +273,8 @@ module _ {T C : Type 0} {w : Warrants T} {g : Ghosts C T} where
 
   -- Pieces and replies were carried: the line is served as before.
   pub serves_carried : (says : Told → ℕ → Type 0) (shards : ℕ) (rules : Rules) (may_answer : ℕ → Type 0)
-      (begin now : Sight) (before : Ends Near) (shard_link shard_link' : ShardLink T C w g) (buffered_conn : BufferedConn)
-      (conn : Conn) → ShardLinkGoesOn says shard_link buffered_conn.conn shard_link' conn
+      (begin now : Sight) (before : Ends Near) (shard_link shard_link' : ShardLink T C w g)
+      (buffered_conn : BufferedConn) (conn : Conn) → ShardLinkGoesOn says shard_link buffered_conn.conn shard_link' conn
       → IsRecordedBy shards rules may_answer begin now before shard_link buffered_conn
       → IsRecordedBy shards rules may_answer begin now before shard_link' (record buffered_conn { conn = conn })
   serves_carried says shards rules may_answer begin now before shard_link shard_link' buffered_conn conn goes all =
@@ -370,7 +370,7 @@ module _ {T C : Type 0} {w : Warrants T} {g : Ghosts C T} where
       let carries = same_carries before shard_link.ends shard_link'.ends shard_link.under_way.items
       shard_link'.under_way.items serves.told serves.received ends counts serves.carries in
       let all : RecordsAllOf shard_link' before serves.told serves.received =
-      subst (λ k. RecordsAll g k before serves.told serves.received) (sym clerk) settled.recorded in
+      subst (λ (k : C). RecordsAll g k before serves.told serves.received) (sym clerk) settled.recorded in
       record {
         serves = record {
           told = serves.told;

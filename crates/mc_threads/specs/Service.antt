@@ -49,8 +49,8 @@ module _ {T C : Type 0} {w : Warrants T} {g : Ghosts C T} where
     pub fits : g.keeps → KeysFit served.told.shards served.told.taken served.received
 
   -- What a step says of the line.
-  abbrev pub LineSays : LineStep → ℕ → Rules → (ℕ → Type 0) → Sight → Sight → Ends Near → ShardLink T C w g → BufferedConn
-      → Type 0
+  abbrev pub LineSays : LineStep → ℕ → Rules → (ℕ → Type 0) → Sight → Sight → Ends Near → ShardLink T C w g
+      → BufferedConn → Type 0
   LineSays stepped.Did shards rules may_answer begin now before shard_link buffered_conn =
       IsServedBy shards rules may_answer begin now before shard_link buffered_conn
   LineSays stepped.Waits shards rules may_answer begin now before shard_link buffered_conn =

@@ -80,3 +80,9 @@ returns-clause-kept g c = record {
   route = c.hear.ensures.route;
   place = λ keeps. c.hear.ensures.place keeps (c.requires.carries.as_recorded keeps).0.0;
 }
+
+pub returns-in_default-clause-kept : goal.returns-in_default-clause-kept
+returns-in_default-clause-kept g c = record { route = refl; place = λ keeps. refl }
+
+pub returns-in_default-receive_with-clause-kept : goal.returns-in_default-receive_with-clause-kept
+returns-in_default-receive_with-clause-kept g c = record { route = refl; place = λ keeps. refl }

@@ -65,7 +65,7 @@ go_on-requires g c =
         conn_is = served.conn_is;
         unbroken = served.unbroken;
         may =
-            c.evidence.ensures.may _ some.begin _ _
+            c.evidence-seen.ensures.may _ some.begin _ _
             (owes_all some.shards some.rules _ some.begin _ some.before c.send_all.new.self _ _ settled line);
       };
     }
@@ -78,8 +78,8 @@ returns-clause-says g c shards rules begin before serves =
     let received = serves_carried _ shards rules _ begin _ before _ c.receive_all.new.self _ _
     c.receive_all.ensures.goes recorded in
     let idle = all_zero c.send_all.new.self.under_way.items (sym c.if-not-is_idle.ensures) in
-    let settled = settled_same shards rules _ begin _ before c.send_all.new.self c.evidence.new.self _
-    c.evidence.ensures.ends c.evidence.ensures.under_way c.evidence.ensures.clerk
+    let settled = settled_same shards rules _ begin _ before c.send_all.new.self c.evidence-seen.new.self _
+    c.evidence-seen.ensures.ends c.evidence-seen.ensures.under_way c.evidence-seen.ensures.clerk
     (settles _ shards rules _ begin _ before _ c.send_all.new.self _ _ c.send_all.ensures.goes c.if-self.false idle
     received) in
     let says = c.go_on.ensures.says settled.serves.received begin settled.serves.told settled.serves.stopped
@@ -88,7 +88,7 @@ returns-clause-says g c shards rules begin before serves =
 
 pub returns-clause-called : goal.returns-clause-called
 returns-clause-called g c waits =
-    c.evidence.new.self.all_called (c.evidence.ensures.called ∙ c.send_all.ensures.called)
+    c.evidence-seen.new.self.all_called (c.evidence-seen.ensures.called ∙ c.send_all.ensures.called)
 
 pub returns-clause-waits : goal.returns-clause-waits
 returns-clause-waits g c waits = inr (c.go_on.ensures.waits waits)
@@ -104,4 +104,4 @@ returns-then-self-clause-kept g c =
 pub returns-clause-kept : goal.returns-clause-kept
 returns-clause-kept g c =
     kept_then _ _ _ c.note_taken.ensures.kept (kept_then _ _ _ c.receive_all.ensures.kept
-    (kept_then _ _ _ c.send_all.ensures.kept (kept_same _ _ c.evidence.ensures.clerk)))
+    (kept_then _ _ _ c.send_all.ensures.kept (kept_same _ _ c.evidence-seen.ensures.clerk)))
