@@ -18,7 +18,7 @@ use std::time;
 /// A served and closed connection, as contracts see it: its state when it was accepted, and just
 /// before it was closed.
 #[derive(Drop)]
-pub struct ClosedConnection<S: Stream, T: Warrant = ()> {
+pub struct ClosedConnection<S: Stream, T = ()> {
     begin: Snapshot<TcpConnection<S, T>>,
     line: Snapshot<TcpConnection<S, T>>,
     commands: u64,
@@ -27,7 +27,7 @@ pub struct ClosedConnection<S: Stream, T: Warrant = ()> {
 
 /// Accepts the streams of one slot as lines, and closes them after they were served. Contracts see
 /// the list of closed ones; at run time none is kept.
-pub struct StreamSource<R, A: Arrivals, T: Warrant = ()> {
+pub struct StreamSource<R, A: Arrivals, T = ()> {
     rt: R,
     arrivals: A,
     /// Whether connections of other protocols are detected and closed, as by memcached's rules. See
@@ -50,7 +50,7 @@ pub struct StreamSource<R, A: Arrivals, T: Warrant = ()> {
     ghost counted: { ended ≡ min (length gone.items) (2 ^ 64 - 1) },
 }
 
-impl<R: Drop, A: Arrivals + Drop, T: Warrant + Drop> Drop for StreamSource<R, A, T> {
+impl<R: Drop, A: Arrivals + Drop, T: Drop> Drop for StreamSource<R, A, T> {
     /// Written by hand, so that its owners drop it by a single call (docs/DECISIONS.md, F20).
     fn drop(self) {
         let StreamSource {

@@ -25,7 +25,7 @@ const TOO_LONG: &[u8] = b"CLIENT_ERROR line too long\r\n";
 
 /// A connection over a stream. Its history of all bytes read and written is visible to contracts
 /// alone.
-pub struct TcpConnection<S: Stream, T: Warrant = ()> {
+pub struct TcpConnection<S: Stream, T = ()> {
     pub(crate) tap: Tap<S>,
     /// Whether a poll reports events of the stream. If so, it is only used after an event.
     is_polled: bool,
@@ -50,7 +50,7 @@ pub struct TcpConnection<S: Stream, T: Warrant = ()> {
     begun: Beginning<T>,
 }
 
-impl<S: Stream + Drop, T: Warrant + Drop> Drop for TcpConnection<S, T> {
+impl<S: Stream + Drop, T: Drop> Drop for TcpConnection<S, T> {
     /// Written by hand, so that its owners drop it by a single call (docs/DECISIONS.md, F20).
     fn drop(self) {
         let TcpConnection {
@@ -243,7 +243,7 @@ impl<S: Stream, T: Warrant + Drop> TcpConnection<S, T> {
     }
 }
 
-impl<S: Stream + Drop, T: Warrant + Drop> TcpConnection<S, T> {
+impl<S: Stream + Drop, T: Drop> TcpConnection<S, T> {
     /// The stream, if it is still usable: its input has not ended, and it has neither failed nor
     /// been given up, except by the server's shutdown.
     pub(crate) fn into_open(self, given_up: bool) -> Option<S>
@@ -303,7 +303,9 @@ impl<S: Stream, T: Warrant + Drop> Transport for TcpConnection<S, T> {
     ghost place = { λ line. place_of T.place_at line.begun };
 
     fn begin(&mut self, seen: T) {
-        self.begun = Beginning::new(seen, &self.tap.given, &self.tap.taken);
+        let tap = &self.tap;
+        let begun = Beginning::new(seen, &tap.given, &tap.taken);
+        self.begun = begun;
     }
 
     fn read(&mut self, room: &mut [u8]) -> Result<usize, TransportError>
