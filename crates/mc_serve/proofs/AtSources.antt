@@ -21,20 +21,15 @@ use Rattle.mc_threads.specs.Working.{Finishes}
 use Rattle.mc_serve.proofs.Joined.{IsOwned, lawful, own_all}
 use Rattle.mc_serve.proofs.Channels.{map_map}
 use Rattle.mc_serve.proofs.Served.{IsJoined}
-use Rattle.mc_serve.proofs.Zipped.{all_map, met_at, zips_each, zips_length}
+use Rattle.mc_serve.proofs.Zipped.{all_map, met_at, zips_length}
 use Rattle.mc_serve.proofs.WorkerLogs.{have_logs}
 use Rattle.mc_doors.specs.Told.{SourceTold}
-use Rattle.mc_serve.specs.Seats.{AllFit, SeatAt, SeatServes}
+use Rattle.mc_serve.specs.Seats.{SeatAt, SeatServes}
 use Rattle.mc_serve.specs.Served.{ExplainsSeat, PassEach, ServesSources}
 use Rattle.mc_serve.proofs.Chain.{lines_same}
-use Rattle.mc_serve.proofs.Segments.{IsSeatKnown, explains_seat}
+use Rattle.mc_serve.proofs.Segments.{explains_seat}
 use Rattle.mc_command.specs.declared.rules.Rules.{Rules}
 use Rattle.mc_ring.proofs.Lists.{get_map, all_weaken, all_at}
-
--- A seat of which more is known: the keys of all replies to its lines fit.
-record SeatFits (shards : ℕ) (rules : Rules) (may_answer : ℕ → Type 0) (sat rose : SeatAt) : Type 0 where
-  serves : SeatServes shards rules may_answer sat rose
-  fits : AllFit shards rules may_answer serves.lines sat.ends serves.served serves.lines_are
 
 -- A seat by its number, before and after, and its lines.
 record IsSeatAt (shards : ℕ) (rules : Rules) (may_answer : ℕ → Type 0) (sats roses : List SeatAt) (number : ℕ)
@@ -81,15 +76,15 @@ seat_here shards rules may_answer sat rose sats roses serves seats at (suc numbe
     }
 
 have_lines : (shards : ℕ) (rules : Rules) (may_answer : ℕ → Type 0) (sats roses : List SeatAt)
-    → Zips (SeatFits shards rules may_answer) sats roses → HaveLines shards rules may_answer sats roses
+    → Zips (SeatServes shards rules may_answer) sats roses → HaveLines shards rules may_answer sats roses
 have_lines shards rules may_answer [] [] zips =
     record { seats = []; back = tt; count = refl; at = λ number lines here. absurd (cc) }
 have_lines shards rules may_answer [] (rose ∷ roses) zips = absurd zips
 have_lines shards rules may_answer (sat ∷ sats) [] zips = absurd zips
 have_lines shards rules may_answer (sat ∷ sats) (rose ∷ roses) zips =
     let rest = have_lines shards rules may_answer sats roses zips.1 in
-    let serves = zips.0.serves in
-    let over = serves.over zips.0.fits in
+    let serves = zips.0 in
+    let over = serves.over in
     record {
       seats = serves.lines ∷ rest.seats;
       back = (record { passed = serves.passed; passes = serves.source; done = over.done; over = over.now }, rest.back);
@@ -159,15 +154,11 @@ serves_sources sizes may_answer sats roses begun ended some started served finis
       are = have.are;
       tied = all_at (λ (rose : SeatAt). AreTied rose.ends ended) roses number rose tied at_rose;
     } in
-    let K : ℕ → Type 0 = λ n. IsSeatKnown sizes may_answer (together have.logs) n sat rose serves in
+    let K : ℕ → Type 0 = λ n. ExplainsSeat sizes may_answer (together have.logs) n serves.lines in
     let is : K number = subst K place
     (explains_seat sizes sizes.ring number may_answer sat rose ended have.logs serves new joined) in
     is) in
-    let fit : Zips (SeatFits sizes.shards (rules_of sizes) may_answer) sats roses =
-    zips_each (SeatServes sizes.shards (rules_of sizes) may_answer) (SeatFits sizes.shards (rules_of sizes) may_answer)
-    sats roses served (λ number sat rose at_sat at_rose serves.
-    record { serves = serves; fits = (known number sat rose at_sat at_rose serves).fits }) in
-    let all = have_lines sizes.shards (rules_of sizes) may_answer sats roses fit in
+    let all = have_lines sizes.shards (rules_of sizes) may_answer sats roses served in
     let told : length all.seats ≡ sizes.seats = all.count ∙ seats in
     record {
       seats = all.seats;
@@ -185,7 +176,7 @@ serves_sources sizes may_answer sats roses begun ended some started served finis
       each = λ number lines here.
           let at = all.at number lines here in
           let E : List LineTold → Type 0 = λ told. ExplainsSeat sizes may_answer (together have.logs) number told in
-          subst E at.lines_are (known number at.sat at.rose at.at_sat at.at_rose at.serves).explains;
+          subst E at.lines_are (known number at.sat at.rose at.at_sat at.at_rose at.serves);
     }
 
 -- The same, of whatever holds the sources: seats and workers before and after.

@@ -1,7 +1,6 @@
 -- The lines of a seat, one after another.
-use Rattle.std.proofs.Common.{◌≡◌, ℕ, Bool, false, List, [], ◌∷◌, ◌++◌, map, Option, Some, None, refl, sym, ap, subst}
+use Rattle.std.proofs.Common.{◌≡◌, ℕ, Bool, List, [], ◌∷◌, ◌++◌, map, Option, Some, None, refl, sym, ap, subst}
 use Rattle.std.proofs.Common.{◌∙◌, append_assoc, append-nil}
-use Rattle.std.proofs.Math.Path.{Singl, contract, subst_refl}
 use Rattle.mc_wire.specs.Sink.{Sight}
 use Rattle.mc_ring.specs.Channel.{Near}
 use Rattle.mc_ring.specs.Ends.{AreSameEnds, Ends}
@@ -10,7 +9,7 @@ use Rattle.mc_seat.specs.Explains.{LineTold}
 use Rattle.mc_threads.proofs.Orders.{map_one}
 use Rattle.mc_doors.specs.Told.{Comes, SourceTold, IsFree, IsNext, Passes, TellsLines, TellsNothing, later, let_in}
 use Rattle.mc_doors.specs.Told.{took_back}
-use Rattle.mc_serve.specs.Seats.{AllFit, LineFits, SeatAt, ServesSourceLine, ServesLines}
+use Rattle.mc_serve.specs.Seats.{SeatAt, ServesSourceLine, ServesLines}
 use Rattle.mc_command.specs.declared.rules.Rules.{Rules}
 
 -- Where a source is as it was, no line came in and went back.
@@ -81,48 +80,21 @@ module _ (shards : ℕ) (rules : Rules) (may_answer : ℕ → Type 0) where
       λ ends. ServesSourceLine shards rules may_answer line ends last in (last, subst P are this, refl)
   lines_more (l ∷ lines) line first now last are this = (are.0, are.1, lines_more lines line are.0 now last are.2 this)
 
-  -- the ends of a line that was served, by another name
-  fits_moved : (line : LineTold) (now first last : Ends Near) (are : now ≡ first)
-      (this : ServesSourceLine shards rules may_answer line now last)
-      → (let P : Ends Near → Type 0 = λ ends. ServesSourceLine shards rules may_answer line ends last in
-      LineFits shards rules may_answer line first last (subst P are this))
-      → LineFits shards rules may_answer line now last this
-  fits_moved line now first last are this =
-      let P : Ends Near → Type 0 = λ ends. ServesSourceLine shards rules may_answer line ends last in
-      let S : Singl now → Type 0 = λ z. LineFits shards rules may_answer line z.0 last (subst P z.1 this)
-      → LineFits shards rules may_answer line now last this in
-      let F : ServesSourceLine shards rules may_answer line now last → Type 0 =
-      λ s. LineFits shards rules may_answer line now last s in
-      subst S (contract are) (λ fits. subst F (subst_refl P this) fits)
-
-  -- where the keys of all fit, those of the last do
-  fits_last : (lines : List LineTold) (line : LineTold) (first now last : Ends Near)
-      (are : ServesLines shards rules may_answer lines first now)
-      (this : ServesSourceLine shards rules may_answer line now last)
-      → AllFit shards rules may_answer (lines ++ line ∷ []) first last (lines_more lines line first now last are this)
-      → LineFits shards rules may_answer line now last this
-  unfolding lines_more
-  fits_last [] line first now last are this fits = fits_moved line now first last are this fits.0
-  fits_last (l ∷ lines) line first now last are this fits = fits_last lines line are.0 now last are.2 this fits.1
-
-  -- One line more was served, and why no other is.
-  pub record OneMore (sat rose : SeatAt) (another : Bool) : Type 0 where
+  -- One line more was served.
+  pub record OneMore (sat rose : SeatAt) : Type 0 where
     pub lines : List LineTold
     pub source : Passes sat.source lines rose.source
     pub lines_are : ServesLines shards rules may_answer lines sat.ends rose.ends
-    pub stops : another ≡ false → AllFit shards rules may_answer lines sat.ends rose.ends lines_are → ⊥
 
   -- A line that is served once those before it were, and then taken back, is one more line that the seat served.
   pub one_more : (sat rose : SeatAt) (lines : List LineTold) (line : LineTold) (before source : SourceTold)
-      (ends : Ends Near) (another : Bool) → IsFree sat.source → Passes sat.source lines before
+      (ends : Ends Near) → IsFree sat.source → Passes sat.source lines before
       → IsNext line.begin before → source ≡ let_in line.begin before
       → rose.source ≡ took_back line.now line.commands line.broke source
       → ServesLines shards rules may_answer lines sat.ends ends
-      → (this : ServesSourceLine shards rules may_answer line ends rose.ends)
-      → (another ≡ false → LineFits shards rules may_answer line ends rose.ends this → ⊥) → OneMore sat rose another
-  one_more sat rose lines line before source ends another free passed next came back are this stops = record {
+      → ServesSourceLine shards rules may_answer line ends rose.ends → OneMore sat rose
+  one_more sat rose lines line before source ends free passed next came back are this = record {
     lines = lines ++ line ∷ [];
     source = passes_more sat.source before source rose.source lines line free passed next came back;
     lines_are = lines_more lines line sat.ends ends rose.ends are this;
-    stops = λ stopped fits. stops stopped (fits_last lines line sat.ends ends rose.ends are this fits);
   }

@@ -5,6 +5,7 @@ pub mod Line
 pub mod Channels
 pub mod Served
 pub mod WorkerLogs
+pub mod Recording
 pub mod Chain
 pub mod Steps
 pub mod Segments

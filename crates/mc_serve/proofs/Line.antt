@@ -1,53 +1,13 @@
 -- One line, once all workers are joined and its seat is tied to each of them.
-use Rattle.std.proofs.Common.{◌≡◌, ℕ, ◌<◌, ◌+◌, ◌==◌, inl, inr, Bool, true, false, cond, List, [], ◌∷◌, length, map}
-use Rattle.std.proofs.Common.{refl, sym, ap, ◌∙◌, arith}
+use Rattle.std.proofs.Common.{◌≡◌, ℕ, ◌==◌, inl, inr, Bool, true, false, cond, List, [], ◌∷◌, map}
+use Rattle.std.proofs.Common.{refl, sym, ap, ◌∙◌}
 use Rattle.std.specs.List.{AllByRecursion}
 use Rattle.std.specs.Prelude.{filter}
-use Rattle.std.proofs.lemmas.Bool.{cases_lt}
 use Rattle.std.proofs.lemmas.Bool.Decides.{eqb_tells}
-use Rattle.mc_sizes.specs.declared.sizes.Sizes.{Sizes}
-use Rattle.mc_conn.specs.History.{Taken}
 use Rattle.mc_conn.specs.Due as due
 use Rattle.mc_conn.specs.Due.{Ran}
-use Rattle.mc_conn.specs.Fits.{KeysFit}
-use Rattle.mc_conn.proofs.Serving.{keys_came}
 use Rattle.mc_model.specs.Log.{Entry, of_asker, on_shard}
-use Rattle.mc_worker.specs.WorkerState.{WorkerState}
-use Rattle.mc_ring.specs.Channel.{Near}
-use Rattle.mc_ring.specs.Ends.{Ends}
-use Rattle.mc_ring.specs.Reply.{Shown}
-use Rattle.mc_serve.specs.Asking.{AreTied, HasAsked}
-use Rattle.mc_serve.specs.Logs.{AreLogsFrom, IsLogOf, together}
-use Rattle.mc_serve.proofs.Tying.{Agrees, channel_agrees, channel_came, none_came}
-use Rattle.mc_serve.proofs.Joined.{worker_at}
 use Rattle.mc_model.proofs.Alone.{ran_of}
-
--- What one shard ran for the line.
-pub shard_agrees : (sizes : Sizes) (shard : ℕ) (ends : Ends Near) (worker_states : List WorkerState)
-    (logs : List (List Entry)) (taken : List Taken) (got : ℕ → List Shown)
-    → shard < sizes.shards → ends.number < sizes.seats → length worker_states ≡ sizes.shards
-    → AreLogsFrom sizes 0 worker_states logs → AreTied ends worker_states → HasAsked sizes.shards ends taken got
-    → Agrees sizes.shards shard ends.number taken (got shard) (on_shard shard (together logs))
-shard_agrees sizes shard ends worker_states logs taken got below seat count are tied asked =
-    let worker = worker_at sizes 0 shard worker_states logs are (omega arith) in
-    let at : 0 + shard ≡ shard = omega arith in
-    let is : IsLogOf sizes shard worker.worker_state worker.log = rw at at worker.is in
-    let its : on_shard shard (together logs) ≡ worker.log = rw at at worker.its in
-    rw its (channel_agrees sizes shard ends worker.worker_state taken got worker.log below seat asked is
-    (tied shard worker.worker_state worker.here))
-
--- Each reply came from the shard whose piece it answers.
-pub keys_fit : (sizes : Sizes) (ends : Ends Near) (worker_states : List WorkerState) (logs : List (List Entry))
-    (taken : List Taken) (got : ℕ → List Shown)
-    → 0 < sizes.shards → ends.number < sizes.seats → length worker_states ≡ sizes.shards
-    → AreLogsFrom sizes 0 worker_states logs → AreTied ends worker_states → HasAsked sizes.shards ends taken got
-    → KeysFit sizes.shards taken got
-keys_fit sizes ends worker_states logs taken got some seat count are tied asked =
-    keys_came sizes.shards taken got (λ shard. elim (cases_lt shard sizes.shards) [
-      | inl below ↦ channel_came sizes.shards shard ends.number taken (got shard) (on_shard shard (together logs))
-          (shard_agrees sizes shard ends worker_states logs taken got below seat count are tied asked)
-      | inr beyond ↦ none_came sizes.shards shard taken (got shard) some beyond (asked.as_many shard)
-    ])
 
 -- what was run, for a line
 abbrev pub entry_for : ℕ → Ran → Entry

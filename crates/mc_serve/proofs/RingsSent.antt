@@ -1,6 +1,5 @@
 -- The ends of channels may go to another thread, and so may what holds them.
 use denote.RattleType.{RattleType}
-use denote.Builtin.{unit}
 use denote.Param.Send.{IsSend, IsSync, sendable, view_send}
 use denote.Param.SendFields.{as_row_send, declared_send}
 use denote.Struct.Field.{row_field}
@@ -19,7 +18,6 @@ use Rattle.mc_wake.proofs.wakers.Wakers.TheSendSync as wakers
 use Rattle.mc_sizes.specs.contracts.sizes.Sizes as sizes
 use Rattle.mc_store.proofs.shard.Shard.TheSendSync as shard
 use Rattle.mc_ring.specs.declared.token.Token.{Ghosts as TokenGhosts}
-use Rattle.mc_ring.specs.contracts.token.UnitToken.TheImpl.{ghosts as no_token}
 use Rattle.mc_ring.specs.contracts.request.Request as request
 use Rattle.mc_ring.specs.contracts.reply.Reply as reply
 use Rattle.mc_ring.specs.contracts.stamped.Stamped as stamped
@@ -34,15 +32,22 @@ use Rattle.mc_ring.specs.contracts.shard.ShardEnds.TheInside as in_shard_ends
 use Rattle.mc_ring.proofs.request.Request.TheSendSync as request_sent
 use Rattle.mc_ring.proofs.reply.Reply.TheSendSync as reply_sent
 use Rattle.mc_seat.specs.declared.clerk.Clerk.{Ghosts as ClerkGhosts}
-use Rattle.mc_seat.specs.contracts.clerk.UnitClerk.TheImpl.{ghosts as no_clerk}
 use Rattle.mc_seat.specs.contracts.buffered_conn.BufferedConn as buffered_conn
 use Rattle.mc_seat.proofs.buffered_conn.BufferedConn.TheSendSync as buffered_conn_sent
 use Rattle.mc_worker.specs.declared.scribe.Scribe.{Ghosts as ScribeGhosts}
-use Rattle.mc_worker.specs.contracts.scribe.UnitScribe.TheImpl.{ghosts as no_scribe}
 use Rattle.mc_worker.specs.contracts.worker.Hand as held
 use Rattle.mc_worker.proofs.worker.Hand.TheSendSync as hand
 use Rattle.mc_worker.specs.contracts.worker.Worker as worker
 use Rattle.mc_worker.specs.contracts.worker.Worker.TheInside as in_worker
+use Rattle.mc_history.specs.contracts.evidence.Evidence as evidence
+use Rattle.mc_history.specs.contracts.evidence.EvidenceToken.TheImpl.{ghosts as tokens}
+use Rattle.mc_history.proofs.evidence.Evidence.TheSendSync as evidence_sent
+use Rattle.mc_record.specs.contracts.clerk.SeatClerk as clerk
+use Rattle.mc_record.specs.contracts.clerk.SeatClerkClerkEvidence.TheImpl.{ghosts as keeps_seat}
+use Rattle.mc_record.proofs.clerk.SeatClerk.TheSendSync as clerk_sent
+use Rattle.mc_record.specs.contracts.recorder.Recorder as recorder
+use Rattle.mc_record.specs.contracts.recorder.RecorderScribeEvidence.TheImpl.{ghosts as keeps_shard}
+use Rattle.mc_record.proofs.recorder.Recorder.TheSendSync as recorder_sent
 use Rattle.mc_seat.proofs.buffer_pool.BufferPool.TheSendSync as pool
 use Rattle.mc_wake.proofs.poller.Poller.TheSendSync as poller
 use Rattle.mc_threads.specs.contracts.shard_link.ShardLink as shard_link
@@ -107,9 +112,6 @@ module _ (T : RattleType) (tokens : TokenGhosts T.Denot) (token : IsSend T) wher
       (search sendable, (vec_send (shard_channel.the_row T tokens) shard_channel_send, tt)))
 
 -- ---- what holds them
-no_send : IsSend unit
-no_send = search sendable
-
 sizes_send : IsSend sizes.the_row
 sizes_send = search (sendable, crosses) depth 20
 
@@ -164,28 +166,28 @@ module _ (T S : RattleType) (tokens : TokenGhosts T.Denot) (scribe : ScribeGhost
         ),
       )
 
-slot_send : (D L : RattleType) → IsSend D → IsSend L → IsSend (slot.the_row D unit unit L no_clerk no_token)
+slot_send : (D L : RattleType) → IsSend D → IsSend L → IsSend (slot.the_row D L)
 slot_send D L source line =
-    declared_send (slot.the_type D unit unit L no_clerk no_token) (
-      session_send unit unit no_token no_clerk no_send no_send,
+    declared_send (slot.the_type D L) (
+      session_send evidence.the_row clerk.the_row tokens keeps_seat evidence_sent.the_send clerk_sent.the_send,
       (slot_state.the_send L line, (as_row_send (row_field D) source, tt)),
     )
 
-seats_send : (D L : RattleType) → IsSend D → IsSend L → IsSend (seats.the_row D unit unit L no_clerk no_token)
+seats_send : (D L : RattleType) → IsSend D → IsSend L → IsSend (seats.the_row D L)
 seats_send D L source line =
-    declared_send (seats.the_type D unit unit L no_clerk no_token)
-    (vec_send (slot.the_row D unit unit L no_clerk no_token) (slot_send D L source line), (search sendable, tt))
+    declared_send (seats.the_type D L) (vec_send (slot.the_row D L) (slot_send D L source line), (search sendable, tt))
 
 -- What one thread serves may go to it where its sources, their lines, the clock and the gate may, and the gate may be
 -- shared.
 pub part_send : (D G K L : RattleType) → IsSend D → IsSend G → IsSync G → IsSend K → IsSend L
-    → IsSend (part.the_row D G K unit unit L no_clerk no_token)
+    → IsSend (part.the_row D G K L)
 part_send D G K L source gate shared clock line =
-    declared_send (part.the_type D G K unit unit L no_clerk no_token) (
+    declared_send (part.the_type D G K L) (
       seats_send D L source line,
       (
-        vec_send (working.the_row G unit unit no_scribe no_token)
-            (working_send unit unit no_token no_scribe no_send no_send G gate shared),
+        vec_send (working.the_row G evidence.the_row recorder.the_row keeps_shard tokens)
+            (working_send evidence.the_row recorder.the_row tokens keeps_shard evidence_sent.the_send
+            recorder_sent.the_send G gate shared),
         (poller.the_send, (pool.the_send, (sizes_send, (as_row_send (row_field K) clock, tt)))),
       ),
     )

@@ -1,8 +1,7 @@
 -- What a worker ran for a seat is cut into the lines of the seat, one after another.
-use Rattle.std.proofs.Common.{◌≡◌, ℕ, zero, suc, ◌<◌, ◌+◌, ◌==◌, inl, inr, List, [], ◌∷◌, ◌++◌, length, map, take, drop}
+use Rattle.std.proofs.Common.{◌≡◌, ℕ, zero, suc, ◌<◌, ◌+◌, ◌==◌, List, [], ◌∷◌, ◌++◌, length, map, take, drop}
 use Rattle.std.proofs.Common.{refl, sym, ap, subst, ◌∙◌, arith, append_assoc, append-nil, length-append}
 use Rattle.std.specs.List.{AllByRecursion, flat_map}
-use Rattle.std.proofs.lemmas.Bool.{cases_lt}
 use Rattle.std.proofs.lemmas.List.{length-map, map-append, take_all, take-append-drop}
 use Rattle.mc_sizes.specs.Sizes.{rules_of}
 use Rattle.mc_sizes.specs.declared.sizes.Sizes.{Sizes}
@@ -13,18 +12,16 @@ use Rattle.mc_ring.specs.EndsLaws.{same_ends-refl, same_ends-trans}
 use Rattle.mc_ring.specs.Made.{AreNewEnds}
 use Rattle.mc_ring.specs.Reply.{Shown}
 use Rattle.mc_split.specs.declared.plan.Piece.{Piece}
-use Rattle.mc_conn.specs.declared.conn.Conn.{Conn}
 use Rattle.mc_conn.specs.History.{AnsweredCommand, IsAnswered, Taken, entries_of, taken_of, text_done}
 use Rattle.mc_conn.specs.Due as due
 use Rattle.mc_conn.specs.Due.{Ran, history_of, ran_on}
-use Rattle.mc_conn.specs.Fits.{CameFrom, KeysFit, Serves, Tells, reply_of}
+use Rattle.mc_conn.specs.Fits.{KeysFit, Serves, Tells, reply_of}
 use Rattle.mc_conn.specs.Told.{Told, all_texts, commands_of}
-use Rattle.mc_conn.proofs.Serving.{keys_came}
 use Rattle.mc_conn.proofs.Telling.{ran_on-same, tells}
 use Rattle.mc_model.specs.Log.{Entry, of_asker, on_shard, pieces_in, replies_in}
 use Rattle.mc_worker.specs.WorkerState.{WorkerState, end_come}
 use Rattle.mc_wake.specs.Zips.{Zips}
-use Rattle.mc_seat.specs.LineServed.{Exchanges, LineServed}
+use Rattle.mc_seat.specs.LineServed.{Exchanges}
 use Rattle.mc_seat.specs.Reads.{ReadsOwingNothing}
 use Rattle.mc_seat.specs.Story.{Story}
 use Rattle.mc_seat.specs.Explains.{LineTold, log_of}
@@ -33,8 +30,8 @@ use Rattle.mc_serve.specs.Logs.{IsLogOf, together}
 use Rattle.mc_serve.proofs.Joined.{worker_at}
 use Rattle.mc_serve.proofs.Line.{asked_by, entry_for, filter_keeps, map_on_shard, ran_shards, same_asker, shard_of}
 use Rattle.mc_serve.proofs.Served.{IsJoined, all_come, entries_same, moments_of, none_read}
-use Rattle.mc_serve.proofs.Tying.{as_many_replies, none_came, same_pieces, same_replies, to_end}
-use Rattle.mc_serve.specs.Seats.{AllFit, SeatAt, SeatServes, ServesSourceLine, ServesLines}
+use Rattle.mc_serve.proofs.Tying.{as_many_replies, same_pieces, same_replies, to_end}
+use Rattle.mc_serve.specs.Seats.{SeatAt, SeatServes, ServesSourceLine, ServesLines}
 use Rattle.mc_serve.specs.Served.{ExplainsHistory, ExplainsSeat}
 use Rattle.mc_command.specs.declared.rules.Rules.{Rules}
 use Rattle.mc_ring.proofs.Lists.{all_take}
@@ -48,22 +45,25 @@ pub record Core (may_answer : ℕ → Type 0) (line : LineTold) (before after : 
   pub story : Story told.rules line.begin line.now line.broke told.taken (all_texts told)
   pub moments : AllByRecursion (λ (one : Taken). may_answer one.moment) told.taken
   pub counted : line.commands ≡ length told.taken
-  pub reads : KeysFit told.shards told.taken received
-      → ReadsOwingNothing told.rules line.begin line.now (commands_of told.taken) (all_texts told)
-  pub complete : KeysFit told.shards told.taken received → length (all_texts told) ≡ length told.taken
+  pub fits : KeysFit told.shards told.taken received
+  pub reads : ReadsOwingNothing told.rules line.begin line.now (commands_of told.taken) (all_texts told)
+  pub complete : length (all_texts told) ≡ length told.taken
 
 core_of : (shards : ℕ) (rules : Rules) (may_answer : ℕ → Type 0) (line : LineTold) (before after : Ends Near)
-    (conn : Conn) → (served : LineServed shards rules may_answer line.begin line.now before after conn line.commands
-    line.broke) → Core may_answer line before after served.told served.received
-core_of shards rules may_answer line before after conn served = record {
-  exchanges = served.exchanges;
-  serves = served.serves;
-  story = served.story;
-  moments = served.moments;
-  counted = served.counted;
-  reads = served.reads;
-  complete = served.complete;
-}
+    → (serves : ServesSourceLine shards rules may_answer line before after)
+    → Core may_answer line before after serves.served.told serves.served.received
+core_of shards rules may_answer line before after serves =
+    let served = serves.served in
+    record {
+      exchanges = served.exchanges;
+      serves = served.serves;
+      story = served.story;
+      moments = served.moments;
+      counted = served.counted;
+      fits = serves.fits;
+      reads = served.reads serves.fits;
+      complete = served.complete serves.fits;
+    }
 
 -- told under these sizes
 abbrev pub sized : ℕ → Rules → Told → Told
@@ -91,7 +91,7 @@ served_of shards rules may_answer line before after serves =
       received = received;
       core =
           subst P (same_sized shards rules told serves.served.shards_is serves.served.rules_are)
-          (core_of shards rules may_answer line before after serves.conn serves.served);
+          (core_of shards rules may_answer line before after serves);
     }
 
 module _ (shards : ℕ) (rules : Rules) (may_answer : ℕ → Type 0) where
@@ -155,23 +155,6 @@ module _ (shards : ℕ) (rules : Rules) (may_answer : ℕ → Type 0) where
       let got = length-append (chain.1.received shard) (all_got lines chain.0 after chain.2 shard) in
       let asked = length-append (due.due shards shard chain.1.told.taken) (all_due lines chain.0 after chain.2 shard) in
       omega (arith, one, rest, got, asked)
-
-  -- the keys of the replies to each line fit
-  abbrev pub ChainFits : (lines : List LineTold) (before after : Ends Near) → Chain lines before after → Type 0
-  ChainFits [] before after chain = Unit {0}
-  ChainFits (line ∷ lines) before after chain =
-      KeysFit shards chain.1.told.taken chain.1.received × ChainFits lines chain.0 after chain.2
-
-  fits_all : (lines : List LineTold) (before after : Ends Near)
-      (are : ServesLines shards rules may_answer lines before after)
-      → ChainFits lines before after (chain_of lines before after are)
-      → AllFit shards rules may_answer lines before after are
-  unfolding chain_of served_of
-  fits_all [] before after are fits = tt
-  fits_all (line ∷ lines) before after are fits =
-      let told = are.1.served.told in
-      let P : ℕ → Type 0 = λ n. KeysFit n told.taken are.1.served.received in
-      (subst P (sym are.1.served.shards_is) fits.0, fits_all lines are.0 after are.2 fits.1)
 
 -- The pieces asked are those that were run, and the replies are theirs.
 pub record AreRun (asked : List Piece) (got : List Shown) (log : List Entry) : Type 0 where
@@ -258,16 +241,6 @@ all_mine : (shard seat : ℕ) (log : List Entry) → AllByRecursion (λ entry. e
 all_mine shard seat [] shards askers = tt
 all_mine shard seat (e ∷ log) shards askers = ((shards.0, askers.0), all_mine shard seat log shards.1 askers.1)
 
--- so the replies came from the shard
-run_came : (shards shard : ℕ) (taken : List Taken) (got : List Shown) (log : List Entry)
-    → AreRun (due.due shards shard taken) got log → CameFrom shards shard taken got
-run_came shards shard taken got log run = record {
-  ran = map ran_of log;
-  rest = [];
-  asked = run.pieces ∙ (sym (pieces_of_ran log) ∙ sym (append-nil (map (λ (ran : Ran). ran.piece) (map ran_of log))));
-  replies_are = run.replies ∙ sym (replies_of_ran log);
-}
-
 -- What a shard ran for a line is what the line's history tells.
 run_told : (shards shard seat : ℕ) (taken : List Taken) (got : List Shown) (mine : List Entry)
     (history : List AnsweredCommand) → AreRun (due.due shards shard taken) got mine
@@ -284,35 +257,29 @@ run_told shards shard seat taken got mine history run owned told =
     ∙ (ap (λ rs. map (entry_for seat) rs) (told ∙ these) ∙ same_asker seat mine (all_asker shard seat mine owned)))
 
 -- One line of the seat, by what each shard ran for it.
-record LineRan (sizes : Sizes) (may_answer : ℕ → Type 0) (line : LineTold) (seat : ℕ) (mine : ℕ → List Entry)
-    (taken : List Taken) (received : ℕ → List Shown) : Type 0 where
-  fit : KeysFit sizes.shards taken received
-  history : List AnsweredCommand
-  explains : ExplainsHistory sizes may_answer line history
-  ran : (shard : ℕ) → shard < sizes.shards → mine shard ≡ on_shard shard (log_of sizes.shards seat history)
+record LineRan (sizes : Sizes) (may_answer : ℕ → Type 0) (line : LineTold) (seat : ℕ) (mine : ℕ → List Entry) : Type 0
+  where
+    history : List AnsweredCommand
+    explains : ExplainsHistory sizes may_answer line history
+    ran : (shard : ℕ) → shard < sizes.shards → mine shard ≡ on_shard shard (log_of sizes.shards seat history)
 
 line_ran : (sizes : Sizes) (may_answer : ℕ → Type 0) (line : LineTold) (before after : Ends Near) (seat : ℕ)
-    (mine : ℕ → List Entry) → 0 < sizes.shards
+    (mine : ℕ → List Entry)
     → (at : Served sizes.shards (rules_of sizes) may_answer line before after)
     → ((shard : ℕ) → shard < sizes.shards
     → AreRun (due.due sizes.shards shard at.told.taken) (at.received shard) (mine shard))
     → ((shard : ℕ) → shard < sizes.shards → AllByRecursion (IsMine shard seat) (mine shard))
-    → LineRan sizes may_answer line seat mine at.told.taken at.received
-line_ran sizes may_answer line before after seat mine some at runs owned =
+    → LineRan sizes may_answer line seat mine
+line_ran sizes may_answer line before after seat mine at runs owned =
     let told = sized sizes.shards (rules_of sizes) at.told in
     let received = at.received in
     let core = at.core in
-    let fit : KeysFit sizes.shards told.taken received =
-    keys_came sizes.shards told.taken received (λ s. elim (cases_lt s sizes.shards) [
-      | inl below ↦ run_came sizes.shards s told.taken (received s) (mine s) (runs s below)
-      | inr beyond ↦ none_came sizes.shards s told.taken (received s) some beyond (core.exchanges.answered s)
-    ]) in
     let count = length told.taken in
     let t : Tells sizes.shards told.taken told.accepted received count =
-    tells sizes.shards count told.taken told.accepted received (omega arith) core.story.may (core.serves.fits fit)
+    tells sizes.shards count told.taken told.accepted received (omega arith) core.story.may (core.serves.fits core.fits)
     (all_come sizes.shards told.taken received core.exchanges.answered) in
     let whole : take count told.taken ≡ told.taken = take_all count told.taken (omega arith) in
-    let complete = core.complete fit in
+    let complete = core.complete in
     let all : take count (all_texts told) ≡ all_texts told =
     take_all count (all_texts told) (omega (arith, complete)) in
     let history_at : List Taken → List AnsweredCommand = λ ts. history_of sizes.shards told.accepted ts in
@@ -330,7 +297,6 @@ line_ran sizes may_answer line before after seat mine some at runs owned =
     let long = ap length same in
     let counted = core.counted in
     record {
-      fit = fit;
       history = history;
       explains = record {
         story =
@@ -338,7 +304,7 @@ line_ran sizes may_answer line before after seat mine some at runs owned =
             (subst (λ taken. S taken (all_texts told)) (sym same) core.story);
         reads =
             subst (λ texts. R (entries_of history) texts) texts
-            (subst (λ commands. R commands (all_texts told)) commands_are (core.reads fit));
+            (subst (λ commands. R commands (all_texts told)) commands_are core.reads);
         answered =
             (let P : List Taken → Type 0 = λ ts. AllByRecursion (IsAnswered sizes.shards) (history_at ts) in
             subst P whole t.answered);
@@ -353,26 +319,24 @@ line_ran sizes may_answer line before after seat mine some at runs owned =
     }
 
 -- All lines of the seat, by what each shard ran for it.
-record SeatRan (sizes : Sizes) (may_answer : ℕ → Type 0) (lines : List LineTold) (seat : ℕ) (mine : ℕ → List Entry)
-    (before after : Ends Near) (chain : Chain sizes.shards (rules_of sizes) may_answer lines before after) : Type 0
-  where
-    fits : ChainFits sizes.shards (rules_of sizes) may_answer lines before after chain
-    histories : List (List AnsweredCommand)
-    each : Zips (ExplainsHistory sizes may_answer) lines histories
-    ran : (shard : ℕ) → shard < sizes.shards → mine shard
-        ≡ flat_map (λ history. on_shard shard (log_of sizes.shards seat history)) histories
+record SeatRan (sizes : Sizes) (may_answer : ℕ → Type 0) (lines : List LineTold) (seat : ℕ) (mine : ℕ → List Entry) :
+    Type 0 where
+  histories : List (List AnsweredCommand)
+  each : Zips (ExplainsHistory sizes may_answer) lines histories
+  ran : (shard : ℕ) → shard < sizes.shards → mine shard
+      ≡ flat_map (λ history. on_shard shard (log_of sizes.shards seat history)) histories
 
-seat_ran : (sizes : Sizes) (may_answer : ℕ → Type 0) (seat : ℕ) → 0 < sizes.shards
+seat_ran : (sizes : Sizes) (may_answer : ℕ → Type 0) (seat : ℕ)
     → (lines : List LineTold) (before after : Ends Near) (mine : ℕ → List Entry)
     → (chain : Chain sizes.shards (rules_of sizes) may_answer lines before after)
     → ((shard : ℕ) → shard < sizes.shards
     → AreRun (all_due sizes.shards (rules_of sizes) may_answer lines before after chain shard)
     (all_got sizes.shards (rules_of sizes) may_answer lines before after chain shard) (mine shard))
     → ((shard : ℕ) → shard < sizes.shards → AllByRecursion (IsMine shard seat) (mine shard))
-    → SeatRan sizes may_answer lines seat mine before after chain
-seat_ran sizes may_answer seat some [] before after mine chain runs owned =
-    record { fits = tt; histories = []; each = tt; ran = λ s below. none_run (mine s) (runs s below).pieces }
-seat_ran sizes may_answer seat some (line ∷ lines) before after mine chain runs owned =
+    → SeatRan sizes may_answer lines seat mine
+seat_ran sizes may_answer seat [] before after mine chain runs owned =
+    record { histories = []; each = tt; ran = λ s below. none_run (mine s) (runs s below).pieces }
+seat_ran sizes may_answer seat (line ∷ lines) before after mine chain runs owned =
     let many : ℕ → ℕ = λ s. length (due.due sizes.shards s chain.1.told.taken) in
     let first : ℕ → List Entry = λ s. take (many s) (mine s) in
     let others : ℕ → List Entry = λ s. drop (many s) (mine s) in
@@ -381,12 +345,11 @@ seat_ran sizes may_answer seat some (line ∷ lines) before after mine chain run
     (all_due sizes.shards (rules_of sizes) may_answer lines chain.0 after chain.2 s) (chain.1.received s)
     (all_got sizes.shards (rules_of sizes) may_answer lines chain.0 after chain.2 s) (mine s)
     (chain.1.core.exchanges.answered s) (runs s below) in
-    let one = line_ran sizes may_answer line before chain.0 seat first some chain.1 (λ s below. (cuts s below).first)
+    let one = line_ran sizes may_answer line before chain.0 seat first chain.1 (λ s below. (cuts s below).first)
     (λ s below. all_take (IsMine s seat) (many s) (mine s) (owned s below)) in
-    let rest = seat_ran sizes may_answer seat some lines chain.0 after others chain.2 (λ s below. (cuts s below).rest)
+    let rest = seat_ran sizes may_answer seat lines chain.0 after others chain.2 (λ s below. (cuts s below).rest)
     (λ s below. all_drop (IsMine s seat) (many s) (mine s) (owned s below)) in
     record {
-      fits = (one.fit, rest.fits);
       histories = one.history ∷ rest.histories;
       each = (one.explains, rest.each);
       ran = λ s below.
@@ -395,18 +358,12 @@ seat_ran sizes may_answer seat some (line ∷ lines) before after mine chain run
           ∙ ap (λ es. on_shard s (log_of sizes.shards seat one.history) ++ es) (rest.ran s below));
     }
 
--- What is known of a seat: its lines are explained, and the keys of their replies fit.
-pub record IsSeatKnown (sizes : Sizes) (may_answer : ℕ → Type 0) (log : List Entry) (seat : ℕ) (sat rose : SeatAt)
-    (serves : SeatServes sizes.shards (rules_of sizes) may_answer sat rose) : Type 0 where
-  pub explains : ExplainsSeat sizes may_answer log seat serves.lines
-  pub fits : AllFit sizes.shards (rules_of sizes) may_answer serves.lines sat.ends serves.served serves.lines_are
-
 -- The workers' logs explain the lines of the seat.
 pub explains_seat : (sizes : Sizes) (capacity number : ℕ) (may_answer : ℕ → Type 0) (sat rose : SeatAt)
     (worker_states : List WorkerState) (logs : List (List Entry))
     → (serves : SeatServes sizes.shards (rules_of sizes) may_answer sat rose)
     → AreNewEnds number sizes.shards capacity sat.ends → IsJoined sizes rose.ends worker_states logs
-    → IsSeatKnown sizes may_answer (together logs) rose.ends.number sat rose serves
+    → ExplainsSeat sizes may_answer (together logs) rose.ends.number serves.lines
 explains_seat sizes capacity number may_answer sat rose worker_states logs serves new joined =
     let shards = sizes.shards in
     let rules = rules_of sizes in
@@ -451,8 +408,5 @@ explains_seat sizes capacity number may_answer sat rose worker_states logs serve
     all_mine s seat (mine s)
     (filter_keeps (λ entry. entry.shard ≡ s) (λ entry. entry.asker == seat) (on_shard s (together logs))
     (shard_of s (together logs))) (asked_by seat (on_shard s (together logs))) in
-    let ran = seat_ran sizes may_answer seat joined.some serves.lines sat.ends serves.served mine chain runs owned in
-    record {
-      explains = record { histories = ran.histories; each = ran.each; ran = ran.ran };
-      fits = fits_all shards rules may_answer serves.lines sat.ends serves.served serves.lines_are ran.fits;
-    }
+    let ran = seat_ran sizes may_answer seat serves.lines sat.ends serves.served mine chain runs owned in
+    record { histories = ran.histories; each = ran.each; ran = ran.ran }

@@ -137,7 +137,7 @@ module _ (shards : ℕ) (rules : Rules) (may_answer : ℕ → Type 0) where
           passed = source;
           source = sits.passed;
           lines_are = sits.lines_are;
-          over = λ fits. record { done = done; now = now };
+          over = record { done = done; now = now };
         };
     closed = ends_none (seat_ends session);
   }
@@ -195,9 +195,9 @@ module _ (shards : ℕ) (rules : Rules) (may_answer : ℕ → Type 0) where
         → IsVacant told.rules told.window new
     pub ends : seat_ends new ≡ seat_ends old
 
-  -- The line that was out was served and went back, and the session was renewed, or can't be.
+  -- The line that was out was served and went back. Each reply was the answer to its piece, so the session is renewed.
   module _ {T C : Type 0} {g : Ghosts C T} (sat : SeatAt) (source source' : SourceTold) (now now' : Sight)
-      (commands : ℕ) (broke another : Bool) (session session' last : Session T C g)
+      (commands : ℕ) (broke another : Bool) (session session' last : Session T C g) (keeps : g.keeps)
       (goes : (begin : Sight) (before : Ends Near) → IsServingLine shards rules may_answer begin now before session
       → HasServed shards rules may_answer begin now' before session' commands broke)
       (back : source' ≡ took_back now' commands broke source) (renews : Renews another session' last)
@@ -221,22 +221,25 @@ module _ (shards : ℕ) (rules : Rules) (may_answer : ℕ → Type 0) where
           served =
               renewed sits.begin now' sits.ends (seat_ends session') (seat_ends last) by.some.conn commands broke
               renews.ends by.holds.served;
+          fits = by.holds.fits keeps;
         }
 
-    abbrev more : OneMore shards rules may_answer sat (seat_at source' (seat_ends last)) another
+    abbrev more : OneMore shards rules may_answer sat (seat_at source' (seat_ends last))
     more =
         one_more shards rules may_answer sat (seat_at source' (seat_ends last)) sits.lines line sits.before source
-        sits.ends another sits.free sits.passed sits.next sits.came back sits.lines_are this
-        (λ stopped fits. (let served = by.holds.served in
-        let again : IsTrue another =
-        (renews.when by.some served.told by.is served.conn_is).1 (served.rest fits, served.over) in absurd (cc)))
+        sits.ends sits.free sits.passed sits.next sits.came back sits.lines_are this
 
     wide : length (seat_ends session').channels ≡ shards
     wide = by.holds.served.exchanges.same.count ∙ sits.width
 
-    -- Where the source lets in more, the seat is free for its next line.
-    pub serves_another : another ≡ true → SitsFree shards rules may_answer sat source' last
-    serves_another is =
+    another_comes : IsTrue another
+    another_comes =
+        let served = by.holds.served in
+        (renews.when by.some served.told by.is served.conn_is).1 (served.rest (by.holds.fits keeps), served.over)
+
+    -- The seat is free for its next line.
+    pub serves_another : SitsFree shards rules may_answer sat source' last
+    serves_another =
         let served = by.holds.served in
         let V : Rules → Type 0 = λ n. IsVacant n served.told.window last in
         record {
@@ -248,24 +251,9 @@ module _ (shards : ℕ) (rules : Rules) (may_answer : ℕ → Type 0) where
           window = served.told.window;
           vacant =
               subst V served.rules_are
-              (renews.vacant is by.some served.told by.is served.conn_is (served.shards_is ∙ sym wide) by.holds.idle
-              by.holds.recorded);
+              (renews.vacant another_comes by.some served.told by.is served.conn_is (served.shards_is ∙ sym wide)
+              by.holds.idle by.holds.recorded);
         }
-
-    -- Where the source lets in no more, the seat begins to close its channels.
-    pub serves_no_more : another ≡ false → SitsClosing shards rules may_answer 0 sat source' (seat_ends last)
-    serves_no_more is = record {
-      served = seat_ends last;
-      serves =
-          record {
-            lines = more.lines;
-            passed = source';
-            source = more.source;
-            lines_are = more.lines_are;
-            over = λ fits. absurd (more.stops is fits);
-          };
-      closed = ends_none (seat_ends last);
-    }
 
   -- One channel more was closed.
   pub closes_on : {L : Type 0} {T C : Type 0} {g : Ghosts C T} (sight : L → Sight) (sat : SeatAt) (count : ℕ)

@@ -49,6 +49,15 @@ zips_each R S (x ∷ xs) [] zips follows = absurd zips
 zips_each R S (x ∷ xs) (y ∷ ys) zips follows =
     (follows 0 x y refl refl zips.0, zips_each R S xs ys zips.1 (λ i a b here there. follows (suc i) a b here there))
 
+-- Two lists of the same length are related where their elements are at each place.
+pub zips_from : {A B : Type 0} (R : A → B → Type 0) (xs : List A) (ys : List B) → length ys ≡ length xs
+    → ((i : ℕ) (x : A) (y : B) → slice_get xs i ≡ Some x → slice_get ys i ≡ Some y → R x y) → Zips R xs ys
+zips_from R [] [] same each = tt
+zips_from R [] (y ∷ ys) same each = absurd (omega (arith, same))
+zips_from R (x ∷ xs) [] same each = absurd (omega (arith, same))
+zips_from R (x ∷ xs) (y ∷ ys) same each =
+    (each 0 x y refl refl, zips_from R xs ys (omega (arith, same)) (λ i a b here there. each (suc i) a b here there))
+
 -- The elements of the other list at a place, by those of the one.
 pub record IsMet {A B : Type 0} (R : A → B → Type 0) (xs : List A) (ys : List B) (i : ℕ) (y : B) : Type 0 where
   pub one : A

@@ -1,23 +1,12 @@
 -- What a seat did on its channels, and how its ends and a worker's tell of one channel.
-use Rattle.std.specs.Prelude.{ℕ, ◌≡◌, ◌<◌, List, [], ◌∷◌, ◌++◌, length, map, Some}
+use Rattle.std.specs.Prelude.{ℕ, ◌≡◌, List, ◌++◌, map, Some}
 use Rattle.std.specs.List.{slice_get}
-use Rattle.mc_conn.specs.History.{Taken}
-use Rattle.mc_conn.specs.Due.{due}
 use Rattle.mc_ring.specs.declared.request.Request.{Request}
-use Rattle.mc_ring.specs.declared.request.Request.TheVariants as request
 use Rattle.mc_ring.specs.Reply.{Shown}
 use Rattle.mc_ring.specs.Channel.{Far, Near, Past, Side}
 use Rattle.mc_ring.specs.Ends.{Ends, received_on, sent_on}
 use Rattle.mc_ring.specs.Made.{IsChannel}
 use Rattle.mc_worker.specs.WorkerState.{WorkerState}
-
--- On each new channel what is due for these commands was sent, and then End; as many replies were received, and these
--- are they.
-pub record HasAsked (shards : ℕ) (ends : Ends Near) (taken : List Taken) (got : ℕ → List Shown) : Type 0 where
-  pub sent : (shard : ℕ) → shard < shards → sent_on ends shard ≡ map request.Piece (due shards shard taken)
-      ++ request.End ∷ []
-  pub received : (shard : ℕ) → shard < shards → received_on ends shard ≡ got shard
-  pub as_many : (shard : ℕ) → length (got shard) ≡ length (due shards shard taken)
 
 -- On the channel of the seat and the shard what was received, and then something, is what was sent, in both directions.
 pub record IsTied (seat : Ends Near) (shard : Ends Far) : Type 0 where

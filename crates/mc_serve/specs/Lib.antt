@@ -1,4 +1,5 @@
 pub mod Asking
+pub mod Recorded
 pub mod Logs
 pub mod Seats
 pub mod Served

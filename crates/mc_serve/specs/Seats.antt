@@ -17,11 +17,12 @@ use Rattle.mc_serve.specs.declared.connection_slot.SlotState.{SlotState}
 use Rattle.mc_serve.specs.declared.connection_slot.SlotState.TheVariants as slot_state
 use Rattle.mc_command.specs.declared.rules.Rules.{Rules}
 
--- The line was served between these ends.
+-- The line was served between these ends, and each reply was the answer to the piece in its place.
 pub record ServesSourceLine (shards : ℕ) (rules : Rules) (may_answer : ℕ → Type 0) (line : LineTold)
     (before after : Ends Near) : Type 0 where
   pub conn : Conn
   pub served : LineServed shards rules may_answer line.begin line.now before after conn line.commands line.broke
+  pub fits : KeysFit served.told.shards served.told.taken served.received
 
 -- The lines were served, one after another.
 abbrev pub ServesLines : ℕ → Rules → (ℕ → Type 0) → List LineTold → Ends Near → Ends Near → Type 0
@@ -29,19 +30,6 @@ ServesLines shards rules may_answer [] before after = after ≡ before
 ServesLines shards rules may_answer (line ∷ lines) before after =
     (mid : Ends Near) × ServesSourceLine shards rules may_answer line before mid
     × ServesLines shards rules may_answer lines mid after
-
--- The keys of the replies that the line got are those of the pieces that were due.
-abbrev pub LineFits : (shards : ℕ) (rules : Rules) (may_answer : ℕ → Type 0) (line : LineTold)
-    (before after : Ends Near) → ServesSourceLine shards rules may_answer line before after → Type 0
-LineFits shards rules may_answer line before after serves =
-    KeysFit serves.served.told.shards serves.served.told.taken serves.served.received
-
--- The same of each line. Once the channels are looked at from both ends it is known.
-abbrev pub AllFit : (shards : ℕ) (rules : Rules) (may_answer : ℕ → Type 0) (lines : List LineTold)
-    (before after : Ends Near) → ServesLines shards rules may_answer lines before after → Type 0
-AllFit shards rules may_answer [] before after are = Unit {0}
-AllFit shards rules may_answer (line ∷ lines) before after are =
-    LineFits shards rules may_answer line before are.0 are.1 × AllFit shards rules may_answer lines are.0 after are.2
 
 -- a seat: its source and its ends
 pub record SeatAt : Type 0 where
@@ -56,22 +44,22 @@ pub record SourceIsClosed (before after : SourceTold) : Type 0 where
   pub done : IsDone before
   pub now : after ≡ closed before
 
--- Lines of the source were served; where the keys of all replies fit, until it said that no more come.
+-- Lines of the source were served, until it said that no more come.
 pub record ServesSource (shards : ℕ) (rules : Rules) (may_answer : ℕ → Type 0) (sat rose : SeatAt) : Type 0 where
   pub lines : List LineTold
   pub passed : SourceTold
   pub source : Passes sat.source lines passed
   pub lines_are : ServesLines shards rules may_answer lines sat.ends rose.ends
-  pub over : AllFit shards rules may_answer lines sat.ends rose.ends lines_are → SourceIsClosed passed rose.source
+  pub over : SourceIsClosed passed rose.source
 
--- Lines of the source were served, and then each channel was closed.
+-- Lines of the source were served, until it said that no more come, and then each channel was closed.
 pub record SeatServes (shards : ℕ) (rules : Rules) (may_answer : ℕ → Type 0) (sat rose : SeatAt) : Type 0 where
   pub lines : List LineTold
   pub passed : SourceTold
   pub source : Passes sat.source lines passed
   pub served : Ends Near
   pub lines_are : ServesLines shards rules may_answer lines sat.ends served
-  pub over : AllFit shards rules may_answer lines sat.ends served lines_are → SourceIsClosed passed rose.source
+  pub over : SourceIsClosed passed rose.source
   pub closed : EndsAll served rose.ends
 
 module _ {T C : Type 0} {g : Ghosts C T} where
@@ -111,7 +99,7 @@ module _ {T C : Type 0} {g : Ghosts C T} where
     pub width : length ends.channels ≡ shards
     pub serving : IsServingLine shards rules may_answer begin now ends session
 
--- Lines of the source were served, and then the first count channels were closed.
+-- Lines of the source were served, until it said that no more come, and then the first count channels were closed.
 pub record SitsClosing (shards : ℕ) (rules : Rules) (may_answer : ℕ → Type 0) (count : ℕ) (sat : SeatAt)
     (source : SourceTold) (ends : Ends Near) : Type 0 where
   pub served : Ends Near

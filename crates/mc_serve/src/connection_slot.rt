@@ -5,14 +5,16 @@ ghost use Rattle.std.specs.Prelude.{◌≡◌, ◌<◌, ℕ, IfOk, IsTrue, lengt
 ghost use Rattle.mc_ring.specs.Ends.{Ends};
 ghost use Rattle.mc_ring.specs.Channel.{Near};
 ghost use Rattle.mc_threads.specs.Ending.{EndsFirst};
-ghost use Rattle.mc_threads.specs.Routes.{AreOnRoutes, IsUpToDate};
 ghost use Rattle.mc_threads.specs.Session.{IsVacant, seat_ends};
+ghost use Rattle.mc_serve.specs.Recorded.{IsClerkOf};
 ghost use Rattle.mc_serve.specs.Seats.{CanStep, ClosesOn, SeatAt, SeatStands};
 ghost use Rattle.mc_serve.specs.declared.connection_slot.SlotState.TheVariants as slot_state;
 
 use mc_doors::{Accept, ConnectionSource};
-use mc_ring::{SeatEnds, Token};
-use mc_seat::{BufferPool, Clerk, Clock, LineStep, Ready, Transport};
+use mc_history::Evidence;
+use mc_record::SeatClerk;
+use mc_ring::SeatEnds;
+use mc_seat::{BufferPool, Clock, LineStep, Ready, Transport};
 use mc_sizes::Sizes;
 use mc_threads::Session;
 use mc_wake::Wakers;
@@ -63,14 +65,13 @@ pub enum SlotState<L> {
 }
 
 /// A source and its seat, with the clerk that records what the seat's connections take.
-pub struct ConnectionSlot<D: ConnectionSource, T: Token = (), C: Clerk<T> = ()> {
-    pub(crate) session: Session<T, C>,
+pub struct ConnectionSlot<D: ConnectionSource> {
+    pub(crate) session: Session<Evidence, SeatClerk>,
     pub(crate) slot_state: SlotState<D::Transport>,
     pub source: D,
 }
 
-impl<D: ConnectionSource + Drop, T: Token + Drop, C: Clerk<T> + Drop> Drop
-    for ConnectionSlot<D, T, C> {
+impl<D: ConnectionSource + Drop> Drop for ConnectionSlot<D> {
     /// By hand, so that to let one go is one call for whoever holds it (docs/DECISIONS.md).
     fn drop(self) {
         let ConnectionSlot {
@@ -82,42 +83,19 @@ impl<D: ConnectionSource + Drop, T: Token + Drop, C: Clerk<T> + Drop> Drop
 }
 
 impl<D: ConnectionSource + Drop> ConnectionSlot<D> {
-    /// A seat that serves the lines of the source, over new ends. The wakers are those of the
-    /// shards. Nothing is recorded.
+    /// A seat that serves the lines of the source, with a clerk whose record is of these ends. The
+    /// wakers are those of the shards.
     pub fn new(
         alloc: Global,
         source: D,
-        ends: SeatEnds,
+        ends: SeatEnds<Evidence>,
+        clerk: SeatClerk,
         shards: Wakers,
         sizes: Sizes,
     ) -> Result<ConnectionSlot<D>, AllocError>
         requires sizes { SuitLines sizes }
         requires width { length ends.channels ≡ sizes.shards }
-        ensures vacant { IfOk result
-            (λ slot. IsVacant (rules_of sizes) sizes.window slot.session) }
-        ensures free { IfOk result (λ slot. slot.slot_state ≡ slot_state.Free) }
-        ensures source { IfOk result (λ slot. slot.source ≡ source) }
-        ensures ends { IfOk result (λ slot. seat_ends slot.session ≡ ends) }
-    {
-        ConnectionSlot::recorded(alloc, source, ends, (), shards, sizes)
-    }
-}
-
-impl<D: ConnectionSource + Drop, T: Token + Drop, C: Clerk<T> + Drop> ConnectionSlot<D, T, C> {
-    /// A seat that serves the lines of the source, with a clerk whose record is of these ends. The
-    /// wakers are those of the shards.
-    pub fn recorded(
-        alloc: Global,
-        source: D,
-        ends: SeatEnds<T>,
-        clerk: C,
-        shards: Wakers,
-        sizes: Sizes,
-    ) -> Result<ConnectionSlot<D, T, C>, AllocError>
-        requires sizes { SuitLines sizes }
-        requires width { length ends.channels ≡ sizes.shards }
-        requires routes { C.keeps → AreOnRoutes (C.route clerk) ends }
-        requires past { C.keeps → IsUpToDate (C.work clerk) (C.answers clerk) ends }
+        requires clerk { IsClerkOf ends clerk }
         ensures vacant { IfOk result
             (λ slot. IsVacant (rules_of sizes) sizes.window slot.session) }
         ensures free { IfOk result (λ slot. slot.slot_state ≡ slot_state.Free) }
@@ -176,9 +154,8 @@ impl<D: ConnectionSource + Drop, T: Token + Drop, C: Clerk<T> + Drop> Connection
                             unreachable!()
                         };
                         self.source.give_back(line, served.commands, served.broke);
-                        if !self.session.renew() {
-                            self.slot_state = SlotState::Closing(0);
-                        }
+                        // All replies have come, each to its piece, so it can be renewed.
+                        let _ = self.session.renew();
                         Stepped::Did
                     }
                 }
@@ -221,7 +198,7 @@ impl<D: ConnectionSource + Drop, T: Token + Drop, C: Clerk<T> + Drop> Connection
     }
 
     /// The seat's ends and the source, once its lines were served.
-    pub(crate) fn rise(self) -> (SeatEnds<T>, D)
+    pub(crate) fn rise(self) -> (SeatEnds<Evidence>, D)
         ensures ends { result.0 ≡ seat_ends self.session }
         ensures source { result.1 ≡ self.source }
     {

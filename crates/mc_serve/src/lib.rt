@@ -8,6 +8,7 @@ mod idle_reaper;
 mod outcome;
 mod over;
 mod reactor;
+mod recorded;
 mod serving;
 mod settling;
 mod shard_telemetry;

@@ -12,8 +12,9 @@ ghost use Rattle.mc_serve.specs.declared.connection_slot.SlotState.TheVariants a
 use crate::connection_slot::ConnectionSlot;
 use crate::slot_table::SlotTable;
 use mc_doors::ConnectionSource;
-use mc_ring::Token;
-use mc_seat::{BufferPool, Clerk, Clock};
+use mc_history::Evidence;
+use mc_record::Recorder;
+use mc_seat::{BufferPool, Clock};
 use mc_sizes::Sizes;
 use mc_threads::Working;
 use mc_wake::{Poller, Task};
@@ -24,17 +25,16 @@ use std::sync::Wait;
 /// Any number of seats and any number of workers, which one thread serves. In each turn the seats
 /// come first: what they send is on the channels before a worker waits at its gate. They come once
 /// more behind the workers, for the replies given in this turn.
-pub struct Reactor<D: ConnectionSource, G, K, T: Token = (), C: Clerk<T> = ()> {
-    pub(crate) seats: SlotTable<D, T, C>,
-    pub(crate) workers: Vec<Working<G>>,
+pub struct Reactor<D: ConnectionSource, G, K> {
+    pub(crate) seats: SlotTable<D>,
+    pub(crate) workers: Vec<Working<G, Evidence, Recorder>>,
     poller: Poller,
     pool: BufferPool,
     sizes: Sizes,
     clock: K,
 }
 
-impl<D: ConnectionSource + Drop, G: Drop, K: Drop, T: Token + Drop, C: Clerk<T> + Drop> Drop
-    for Reactor<D, G, K, T, C> {
+impl<D: ConnectionSource + Drop, G: Drop, K: Drop> Drop for Reactor<D, G, K> {
     /// By hand, so that to let one go is one call for whoever holds it (docs/DECISIONS.md).
     fn drop(self) {
         let Reactor {
@@ -48,23 +48,17 @@ impl<D: ConnectionSource + Drop, G: Drop, K: Drop, T: Token + Drop, C: Clerk<T> 
     }
 }
 
-impl<
-    D: ConnectionSource + Drop,
-    G: Gate + Drop,
-    K: Clock + Drop,
-    T: Token + Drop,
-    C: Clerk<T> + Drop,
-> Reactor<D, G, K, T, C> {
+impl<D: ConnectionSource + Drop, G: Gate + Drop, K: Clock + Drop> Reactor<D, G, K> {
     /// The part that serves these seats and these workers, which any seat of the server may call.
     /// The poller is its thread's.
     pub(crate) fn new(
         alloc: Global,
-        seats: Vec<ConnectionSlot<D, T, C>>,
-        workers: Vec<Working<G>>,
+        seats: Vec<ConnectionSlot<D>>,
+        workers: Vec<Working<G, Evidence, Recorder>>,
         poller: Poller,
         sizes: Sizes,
         clock: K,
-    ) -> Result<Reactor<D, G, K, T, C>, AllocError>
+    ) -> Result<Reactor<D, G, K>, AllocError>
         requires { AllByRecursion (λ one.
             HasSatDown sizes.shards (rules_of sizes) (D.told one.source) one.session one.slot_state)
             seats.items }
@@ -138,7 +132,7 @@ impl<
     }
 
     /// The seats and the workers, once they were served.
-    pub(crate) fn apart(self) -> (Vec<ConnectionSlot<D, T, C>>, Vec<Working<G>>)
+    pub(crate) fn apart(self) -> (Vec<ConnectionSlot<D>>, Vec<Working<G, Evidence, Recorder>>)
         ensures seats { result.0 ≡ self.seats.all }
         ensures workers { result.1 ≡ self.workers }
     {
@@ -155,7 +149,10 @@ impl<
 }
 
 /// Has each worker serve the seats that called. Whether one had called.
-fn serve_callers<G: Gate + Drop>(workers: &mut Vec<Working<G>>, poller: &Poller) -> bool
+fn serve_callers<G: Gate + Drop>(
+    workers: &mut Vec<Working<G, Evidence, Recorder>>,
+    poller: &Poller,
+) -> bool
     ensures { (begun : List WorkerState) →
         Zips Goes begun (map (λ one. one.worker) workers.old.items) →
         Zips Goes begun (map (λ one. one.worker) workers.new.items) }
@@ -170,7 +167,11 @@ fn serve_callers<G: Gate + Drop>(workers: &mut Vec<Working<G>>, poller: &Poller)
 
 /// Has each worker serve those of the 64 seats of a word that have a bit. It gives those that may
 /// have more for one of them.
-fn serve_word<G: Gate + Drop>(workers: &mut Vec<Working<G>>, word: usize, called: u64) -> u64
+fn serve_word<G: Gate + Drop>(
+    workers: &mut Vec<Working<G, Evidence, Recorder>>,
+    word: usize,
+    called: u64,
+) -> u64
     ensures { (begun : List WorkerState) →
         Zips Goes begun (map (λ one. one.worker) workers.old.items) →
         Zips Goes begun (map (λ one. one.worker) workers.new.items) }
@@ -184,7 +185,7 @@ fn serve_word<G: Gate + Drop>(workers: &mut Vec<Working<G>>, word: usize, called
 }
 
 /// Whether each worker has ended.
-fn have_ended<G: Gate + Drop>(workers: &Vec<Working<G>>) -> bool
+fn have_ended<G: Gate + Drop>(workers: &Vec<Working<G, Evidence, Recorder>>) -> bool
     ensures { IsTrue result →
         AllByRecursion (λ one. (begun : WorkerState) → Goes begun one.worker →
         Finishes begun one.worker)
@@ -198,13 +199,7 @@ fn have_ended<G: Gate + Drop>(workers: &Vec<Working<G>>) -> bool
     true
 }
 
-impl<
-    D: ConnectionSource + Drop,
-    G: Gate + Drop,
-    K: Clock + Drop,
-    T: Token + Drop,
-    C: Clerk<T> + Drop,
-> Task for Reactor<D, G, K, T, C> {
+impl<D: ConnectionSource + Drop, G: Gate + Drop, K: Clock + Drop> Task for Reactor<D, G, K> {
     ghost is_ready = { λ part.
         AllByRecursion (λ one.
         HasSatDown part.sizes.shards (rules_of part.sizes) (D.told one.source) one.session
@@ -217,7 +212,7 @@ impl<
         Zips Finishes (map (λ one. one.worker) sat.workers.items)
         (map (λ one. one.worker) rose.workers.items) };
 
-    fn work<R: Wait>(self, rt: &R) -> Reactor<D, G, K, T, C> {
+    fn work<R: Wait>(self, rt: &R) -> Reactor<D, G, K> {
         let mut part = self;
         part.run(rt);
         part

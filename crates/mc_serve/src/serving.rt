@@ -9,6 +9,8 @@ ghost use Rattle.mc_threads.specs.Session.{seat_ends};
 ghost use Rattle.mc_threads.specs.Workers.{IsFresh, ends_of};
 ghost use Rattle.mc_serve.specs.declared.error.ServeError.TheVariants.{Bind};
 ghost use Rattle.mc_doors.specs.Told.{IsFree};
+ghost use Rattle.mc_wake.specs.Zips.{Zips};
+ghost use Rattle.mc_serve.specs.Recorded.{IsClerkOf};
 ghost use Rattle.mc_serve.specs.Seats.{HasSatDown};
 ghost use Rattle.mc_serve.specs.Asking.{AreTied, HasChannels};
 ghost use Rattle.mc_serve.specs.Served.{ServesSources};
@@ -16,12 +18,15 @@ ghost use Rattle.mc_serve.specs.Served.{ServesSources};
 use crate::connection_slot::ConnectionSlot;
 use crate::error::ServeError;
 use crate::reactor::Reactor;
+use crate::recorded::RecordedChannels;
 use crate::settling::settle;
 use mc_doors::ConnectionSource;
-use mc_ring::{SeatEnds, channels};
+use mc_history::Evidence;
+use mc_record::{Recorder, SeatClerk};
+use mc_ring::SeatEnds;
 use mc_seat::Clock;
 use mc_sizes::Sizes;
-use mc_threads::{Working, make_workers};
+use mc_threads::{Working, make_recorded_workers};
 use mc_wake::{Poller, ThreadGroup, ThreadGroupError, Wakers};
 use mc_worker::{Gate, Worker};
 use std::alloc::{AllocError, Global};
@@ -121,7 +126,7 @@ where
 #[derive(Drop)]
 struct ReturnRoom<D: ConnectionSource, G> {
     seats: Vec<ConnectionSlot<D>>,
-    workers: Vec<Working<G>>,
+    workers: Vec<Working<G, Evidence, Recorder>>,
     sources: Vec<D>,
     ghost no_seats: { seats.items ≡ [] },
     ghost no_workers: { workers.items ≡ [] },
@@ -215,17 +220,20 @@ where
     Err(ThreadGroupError::Thread)
 }
 
-/// A seat for each source, over the ends in the same place. The wakers are those of the shards.
+/// A seat for each source, over the ends in the same place and with the clerk there. The wakers are
+/// those of the shards.
 fn sit_down<D: ConnectionSource + Drop>(
     alloc: Global,
     sources: Vec<D>,
-    ends: Vec<SeatEnds>,
+    ends: Vec<SeatEnds<Evidence>>,
+    clerks: Vec<SeatClerk>,
     shards: &Wakers,
     sizes: Sizes,
 ) -> Result<Vec<ConnectionSlot<D>>, AllocError>
     requires sizes { SuitLines sizes }
     requires width { AllByRecursion (λ seat. length seat.channels ≡ sizes.shards) ends.items }
     requires as_many { length sources.items ≡ length ends.items }
+    requires clerks { Zips IsClerkOf ends.items clerks.items }
     requires free { AllByRecursion (λ source. IsFree (D.told source)) sources.items }
     ensures ends { IfOk result
         (λ seats. map (λ one. seat_ends one.session) seats.items ≡ ends.items) }
@@ -237,12 +245,16 @@ fn sit_down<D: ConnectionSource + Drop>(
 {
     let mut seats = Vec::with_capacity(alloc, ends.len())?;
     let mut sources = sources.into_iter();
+    let mut clerks = clerks.into_iter();
     for ends in ends {
         let Some(source) = sources.next() else {
             return Err(AllocError);
         };
+        let Some(clerk) = clerks.next() else {
+            return Err(AllocError);
+        };
         let shards = shards.share()?;
-        let slot = ConnectionSlot::new(alloc, source, ends, shards, sizes)?;
+        let slot = ConnectionSlot::new(alloc, source, ends, clerk, shards, sizes)?;
         seats.push(slot)?;
     }
     Ok(seats)
@@ -252,10 +264,10 @@ fn sit_down<D: ConnectionSource + Drop>(
 /// seats.
 fn set_working<G: Gate + Drop>(
     alloc: Global,
-    workers: Vec<Worker>,
+    workers: Vec<Worker<Evidence, Recorder>>,
     gate: &Arc<G, Global>,
     seats: &Wakers,
-) -> Result<Vec<Working<G>>, AllocError>
+) -> Result<Vec<Working<G, Evidence, Recorder>>, AllocError>
     ensures { IfOk result (λ all. map (λ one. one.worker) all.items ≡ workers.items) }
 {
     let mut all = Vec::with_capacity(alloc, workers.len())?;
@@ -271,7 +283,7 @@ fn set_working<G: Gate + Drop>(
 #[derive(Drop)]
 struct Unassigned<D: ConnectionSource, G> {
     seats: IntoIter<ConnectionSlot<D>>,
-    workers: IntoIter<Working<G>>,
+    workers: IntoIter<Working<G, Evidence, Recorder>>,
 }
 
 impl<D: ConnectionSource + Drop, G: Gate + Drop> Unassigned<D, G> {
@@ -301,14 +313,16 @@ impl<D: ConnectionSource + Drop, G: Gate + Drop> Unassigned<D, G> {
             HasSatDown sizes.shards (rules_of sizes) (D.told one.source) one.session one.slot_state)
             (into_iter_items left.seats)) }
     {
-        let Ok((near, far)) = channels(alloc, sizes) else {
-            // The sizes are within the limits.
-            return Err(AllocError);
-        };
+        let RecordedChannels {
+            near,
+            clerks,
+            far,
+            recorders,
+        } = RecordedChannels::new(alloc, sizes)?;
         let wakers = Wakers::of(alloc, pollers)?;
-        let workers = make_workers(rt, alloc, far, sizes)?;
+        let workers = make_recorded_workers(rt, alloc, far, recorders, sizes)?;
         let workers = set_working(alloc, workers, gate, &wakers)?;
-        let seats = sit_down(alloc, sources, near, &wakers, sizes)?;
+        let seats = sit_down(alloc, sources, near, clerks, &wakers, sizes)?;
         Ok(Unassigned {
             seats: seats.into_iter(),
             workers: workers.into_iter(),
@@ -377,7 +391,7 @@ fn take_some<T: Drop>(
 fn take_apart<D: ConnectionSource + Drop, G: Gate + Drop, K: Clock + Drop>(
     parts: Vec<Reactor<D, G, K>>,
     seats: &mut Vec<ConnectionSlot<D>>,
-    workers: &mut Vec<Working<G>>,
+    workers: &mut Vec<Working<G, Evidence, Recorder>>,
 ) -> Result<(), AllocError>
     requires no_seats { seats.old.items ≡ [] }
     requires no_workers { workers.old.items ≡ [] }

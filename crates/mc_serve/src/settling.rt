@@ -6,6 +6,8 @@ ghost use Rattle.mc_serve.specs.Asking.{AreTied, HasChannels, passed_by};
 
 use crate::connection_slot::ConnectionSlot;
 use mc_doors::ConnectionSource;
+use mc_history::Evidence;
+use mc_record::Recorder;
 use mc_ring::SeatEnds;
 use mc_threads::Working;
 use mc_wake::ThreadGroupError;
@@ -15,7 +17,7 @@ use mc_worker::Gate;
 /// sources. The room for them is for as many as there are seats.
 pub(crate) fn settle<D: ConnectionSource + Drop, G: Gate + Drop>(
     seats: Vec<ConnectionSlot<D>>,
-    workers: &mut Vec<Working<G>>,
+    workers: &mut Vec<Working<G, Evidence, Recorder>>,
     room: Vec<D>,
 ) -> Result<Vec<D>, ThreadGroupError>
     requires none { room.items ≡ [] }
@@ -41,7 +43,10 @@ pub(crate) fn settle<D: ConnectionSource + Drop, G: Gate + Drop>(
 }
 
 /// Looks at the channels between a seat and all workers from both ends.
-fn tie<G: Gate + Drop>(ends: &mut SeatEnds, workers: &mut Vec<Working<G>>)
+fn tie<G: Gate + Drop>(
+    ends: &mut SeatEnds<Evidence>,
+    workers: &mut Vec<Working<G, Evidence, Recorder>>,
+)
     requires { HasChannels ends.old (map (λ one. one.worker) workers.old.items) }
     ensures tied { AreTied ends.old (map (λ one. one.worker) workers.old.items) }
     ensures same { map passed_by (map (λ one. one.worker) workers.new.items) ≡

@@ -8,8 +8,7 @@ ghost use Rattle.mc_serve.specs.declared.connection_slot.SlotState.TheVariants a
 
 use crate::connection_slot::{ConnectionSlot, Stepped};
 use mc_doors::ConnectionSource;
-use mc_ring::Token;
-use mc_seat::{BufferPool, Clerk, Clock, Ready};
+use mc_seat::{BufferPool, Clock, Ready};
 use mc_wake::{Poller, Readiness, SetBits};
 
 /// Seats a word, each with a bit.
@@ -18,15 +17,15 @@ const WORD: usize = 64;
 /// The seats that one thread serves. It steps those that were roused, and those of which the last
 /// step did something.
 #[derive(Drop)]
-pub struct SlotTable<D: ConnectionSource, T: Token = (), C: Clerk<T> = ()> {
-    pub(crate) all: Vec<ConnectionSlot<D, T, C>>,
+pub struct SlotTable<D: ConnectionSource> {
+    pub(crate) all: Vec<ConnectionSlot<D>>,
     /// How many of them have not found yet that all their channels are closed.
     left: usize,
 }
 
-impl<D: ConnectionSource + Drop, T: Token + Drop, C: Clerk<T> + Drop> SlotTable<D, T, C> {
+impl<D: ConnectionSource + Drop> SlotTable<D> {
     /// These seats. Their poller has each of them roused at first.
-    pub(crate) fn new(all: Vec<ConnectionSlot<D, T, C>>) -> SlotTable<D, T, C>
+    pub(crate) fn new(all: Vec<ConnectionSlot<D>>) -> SlotTable<D>
         ensures { result.all ≡ all }
     {
         let left = all.len();
@@ -140,7 +139,7 @@ impl<D: ConnectionSource + Drop, T: Token + Drop, C: Clerk<T> + Drop> SlotTable<
     }
 
     /// The seats.
-    pub(crate) fn into_all(self) -> Vec<ConnectionSlot<D, T, C>>
+    pub(crate) fn into_all(self) -> Vec<ConnectionSlot<D>>
         ensures { result ≡ self.all }
     {
         let SlotTable { all, .. } = self;

@@ -2,7 +2,8 @@
 use Rattle.std.proofs.Common.{◌≡◌, List, ◌∷◌, length, arith, ap, sym, ◌∙◌}
 use Rattle.std.specs.Vec.Iter.{into_iter_items}
 use Rattle.mc_sizes.specs.Sizes.{rules_of}
-use Rattle.mc_threads.proofs.Orders.{all_first, all_more, all_rest, order_all, order_more}
+use Rattle.mc_threads.proofs.Orders.{all_first, all_more, all_rest, order_all, order_more, zips_first, zips_rest}
+use Rattle.mc_serve.specs.Recorded.{IsClerkOf}
 use Rattle.mc_serve.specs.Seats.{HasSatDown}
 use Rattle.mc_doors.specs.Told.{IsFree}
 use Rattle.mc_threads.specs.Session.{seat_ends}
@@ -18,6 +19,7 @@ loop-ends-preserved g c =
     let was = c.loop-ends.invariant in
     let step = c.in-Some.ensures.steps in
     let source = c.in-Some-next.ensures.cases in
+    let clerk = c.in-Some-next-2.ensures.cases in
     let grown = c.in_ok-push.ensures.items in
     let made = c.in_ok-slot.ensures in
     let free = all_first (λ source. IsFree (g.D.ConnectionSource.told source)) _ c.in-Some-next.source _ source.0
@@ -25,6 +27,8 @@ loop-ends-preserved g c =
     let wide = all_first (λ seat. length seat.channels ≡ c.args.sizes.shards) _ c.in-Some.ends _ step.0 was.width in
     record {
       width = all_rest (λ seat. length seat.channels ≡ c.args.sizes.shards) _ c.in-Some.ends _ step.0 was.width;
+      clerks =
+          zips_rest IsClerkOf _ _ _ _ c.in-Some.ends c.in-Some-next-2.clerk step.0 clerk.0 was.clerks;
       as_many = one_less _ _ _ _ _ _ source.0 step.0 was.as_many;
       free = all_rest (λ source. IsFree (g.D.ConnectionSource.told source)) _ c.in-Some-next.source _ source.0 was.free;
       ends =
@@ -60,9 +64,11 @@ pub loop-ends-init : goal.loop-ends-init
 loop-ends-init g c =
     let sources = c.into_iter-sources.ensures.rest in
     let ends = c.into_iter-ends-iterator.ensures.into_iter_gives.0 in
+    let clerks = c.into_iter-clerks.ensures.rest in
     let none = c.in_ok-seats.ensures.items in
     record {
       width = rw ends c.requires.width;
+      clerks = rw (ends, clerks) c.requires.clerks;
       as_many = rw (sources, ends) c.requires.as_many;
       free = rw sources c.requires.free;
       ends = rw none ends;
@@ -76,4 +82,7 @@ new-requires g c = record {
   width =
       all_first (λ seat. length seat.channels ≡ c.args.sizes.shards) _ c.in-Some.ends _ c.in-Some.ensures.steps.0
       c.loop-ends.invariant.width;
+  clerk =
+      zips_first IsClerkOf _ _ _ _ c.in-Some.ends c.in-Some-next-2.clerk c.in-Some.ensures.steps.0
+      c.in-Some-next-2.ensures.cases.0 c.loop-ends.invariant.clerks;
 }

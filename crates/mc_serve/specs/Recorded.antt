@@ -1,0 +1,23 @@
+-- Who records what goes over the channels of a seat or of a shard.
+use Rattle.mc_sizes.specs.declared.sizes.Sizes.{Sizes}
+use Rattle.mc_ring.specs.Channel.{Far, Near}
+use Rattle.mc_ring.specs.Ends.{Ends}
+use Rattle.mc_model.specs.Sized.{empty_shard}
+use Rattle.mc_history.specs.Roles.{seat_of}
+use Rattle.mc_history.specs.Tokens.{Acting}
+use Rattle.mc_record.specs.Clerk.{answers_at, work_at}
+use Rattle.mc_record.specs.Recorder.{log_in, shard_of}
+use Rattle.mc_threads.specs.Routes.{AreOnRoutes, IsUpToDate}
+use Rattle.mc_threads.specs.Workers.{IsRecordOf}
+
+-- The clerk is the one of the seat of these ends: its record is of their channels, and of all that has passed there.
+pub record IsClerkOf (ends : Ends Near) (clerk : Acting) : Type 0 where
+  pub routes : AreOnRoutes (λ shard. record { seat = seat_of clerk.role; shard = shard; name = clerk.name }) ends
+  pub past : IsUpToDate (work_at clerk) (answers_at clerk) ends
+
+-- The recorder is the one of the shard of these ends: it is for their channels, and has recorded nothing, over an empty
+-- shard.
+abbrev pub IsRecorderOf : Sizes → Ends Far → Acting → Type 0
+IsRecorderOf sizes ends recorder =
+    IsRecordOf sizes ends (λ seat. record { seat = seat; shard = shard_of recorder.role; name = recorder.name })
+    (empty_shard recorder.name.sizes (shard_of recorder.role)) (log_in recorder)

@@ -1,0 +1,49 @@
+//! New channels, and who records what goes over them.
+ghost use Rattle.std.specs.Prelude.{IfOk};
+ghost use Rattle.mc_ring.specs.Made.{AreChannels};
+ghost use Rattle.mc_wake.specs.Zips.{Zips};
+ghost use Rattle.mc_serve.specs.Recorded.{IsClerkOf, IsRecorderOf};
+
+use mc_history::Evidence;
+use mc_record::{Opening, Recorder, SeatClerk};
+use mc_ring::{SeatEnds, ShardEnds, channels_with};
+use mc_sizes::Sizes;
+use std::alloc::{AllocError, Global};
+
+/// The ends of new channels between all seats and all shards, with the clerk of each seat and the
+/// recorder of each shard. All of them record in one history.
+#[derive(Drop)]
+pub(crate) struct RecordedChannels {
+    pub(crate) near: Vec<SeatEnds<Evidence>>,
+    pub(crate) clerks: Vec<SeatClerk>,
+    pub(crate) far: Vec<ShardEnds<Evidence>>,
+    pub(crate) recorders: Vec<Recorder>,
+}
+
+impl RecordedChannels {
+    /// The channels of a server of these sizes, on which nothing has passed.
+    pub(crate) fn new(alloc: Global, sizes: Sizes) -> Result<RecordedChannels, AllocError>
+        ensures channels { IfOk result (λ made.
+            AreChannels sizes.seats sizes.shards sizes.ring made.near.items made.far.items) }
+        ensures clerks { IfOk result
+            (λ made. Zips IsClerkOf made.near.items made.clerks.items) }
+        ensures recorders { IfOk result
+            (λ made. Zips (IsRecorderOf sizes) made.far.items made.recorders.items) }
+    {
+        let Opening {
+            recorders,
+            clerks,
+            mut source,
+        } = Opening::new(alloc, sizes)?;
+        let Ok((near, far)) = channels_with(alloc, sizes, &mut source) else {
+            // The sizes are within the limits.
+            return Err(AllocError);
+        };
+        Ok(RecordedChannels {
+            near,
+            clerks,
+            far,
+            recorders,
+        })
+    }
+}
