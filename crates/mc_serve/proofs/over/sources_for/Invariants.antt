@@ -6,6 +6,6 @@ use Rattle.mc_serve.proofs.over.sources_for.Given as goal
 
 abbrev pub invariant-loop-line : goal.invariant-loop-line
 invariant-loop-line g l =
-    map (λ source. told_of (λ line. g.L.Sink.sight line) source) l.sources.items
-    ++ map (λ line. waits (g.L.Sink.sight line)) (into_iter_items l.line-iterator)
-    ≡ map (λ line. waits (g.L.Sink.sight line)) l.fn.lines.items
+    map (λ source. told_of (λ line. g.L.Transport.sight line) source) l.sources.items
+    ++ map (λ line. waits (g.L.Transport.sight line)) (into_iter_items l.line-iterator)
+    ≡ map (λ line. waits (g.L.Transport.sight line)) l.fn.lines.items
