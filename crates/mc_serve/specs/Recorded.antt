@@ -1,4 +1,5 @@
 -- Who records what goes over the channels of a seat or of a shard.
+use Rattle.std.specs.Prelude.{◌≡◌}
 use Rattle.mc_sizes.specs.declared.sizes.Sizes.{Sizes}
 use Rattle.mc_ring.specs.Channel.{Far, Near}
 use Rattle.mc_ring.specs.Ends.{Ends}

@@ -14,7 +14,7 @@ loop-init g c =
       clock = refl;
       seats =
           seats_begin c.args.self.now.seats.all.items (λ line. g.D.Transport.Transport.place line)
-    (λ line. g.D.Transport.Transport.sight line)
+          (λ line. g.D.Transport.Transport.sight line)
           (λ one. g.D.ConnectionSource.told one.source) (λ one. one.session) (λ one. one.slot_state) sizes.shards
           (rules_of sizes) (g.K.Clock.may_answer c.args.self.now.clock) c.requires;
       workers = workers_begin c.args.self.now.workers.items (λ one. one.worker);
