@@ -35,6 +35,14 @@ impl<L: Transport<Warrant = ()> + Drop> PlacedLine<L> {
             begin,
         }
     }
+
+    /// The line itself.
+    pub fn into_line(self) -> L
+        ensures { result ≡ self.line }
+    {
+        let PlacedLine { line, .. } = self;
+        line
+    }
 }
 
 impl<L: Transport<Warrant = ()> + Drop> Transport for PlacedLine<L> {

@@ -32,7 +32,10 @@ serve-requires-clause-sizes g c κs within =
     sym (length-map c.in_ok-sources.sources.items (λ source. told_of (λ line. g.L.Transport.sight line) source))
     ∙ (ap length same ∙ length-map c.args.lines.items (λ line. waits (g.L.Transport.sight line))) in
     let P : ℕ → Type 0 = λ n. MayServe (record c.args.sizes { seats = n }) in
-    subst P (sym count) c.requires
+    subst P (sym count) c.requires.sizes
 
 pub serve-requires-send-D : goal.serve-requires-send-D
-serve-requires-send-D g c κs within = param_send 1 _ (arg_send _ no _ (source_send _ c.type_bounds.send-L))
+serve-requires-send-D g c κs within = param_send 1 _ (arg_send _ no _ (source_send _ _ _ _ _ c.type_bounds.send-L))
+
+pub sources_for-requires : goal.sources_for-requires
+sources_for-requires g c = c.requires.new
