@@ -10,7 +10,7 @@ use Rattle.mc_wire.specs.Sink.{Sight}
 use Rattle.mc_ring.specs.Made.{AreChannels}
 use Rattle.mc_seat.specs.declared.clerk.Clerk.{Ghosts}
 use Rattle.mc_seat.specs.declared.warrant.Warrant.{Ghosts as Warrants}
-use Rattle.mc_seat.specs.Place.{Place, no_place}
+use Rattle.mc_seat.specs.Place.{Place}
 use Rattle.mc_worker.specs.WorkerState.{WorkerState, Goes}
 use Rattle.mc_worker.specs.WorkerStateLaws.{goes_refl, goes_trans}
 use Rattle.mc_wake.specs.Zips.{Zips}
