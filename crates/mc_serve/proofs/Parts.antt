@@ -30,16 +30,19 @@ use Rattle.mc_threads.specs.Session.{seat_ends}
 use Rattle.mc_ring.proofs.Lists.{get_map, all_append}
 
 -- A seat stands, and how it is seen: by what is told of its source, its session and its phase.
-abbrev pub Stands : {S L : Type 0} {T C : Type 0} {w : Warrants T} {g : Ghosts C T} → (L → Place) → (L → Sight) → (S → SourceTold)
+abbrev pub Stands : {S L : Type 0} {T C : Type 0} {w : Warrants T} {g : Ghosts C T} → (L → Place) → (L → Sight)
+    → (S → SourceTold)
     → (S → Session T C w g) → (S → SlotState L) → ℕ → Rules → (ℕ → Type 0) → SeatAt → S → Type 0
 Stands place sight told session now shards rules may_answer sat one =
     SeatStands place sight shards rules may_answer sat (told one) (session one) (now one)
 
-abbrev pub at : {S : Type 0} {T C : Type 0} {w : Warrants T} {g : Ghosts C T} → (S → SourceTold) → (S → Session T C w g) → S → SeatAt
+abbrev pub at : {S : Type 0} {T C : Type 0} {w : Warrants T} {g : Ghosts C T} → (S → SourceTold)
+    → (S → Session T C w g) → S → SeatAt
 at told session one = seat_at (told one) (seat_ends (session one))
 
 -- The seats of a thread have sat down, so they stand as they began.
-pub seats_begin : {S L : Type 0} {T C : Type 0} {w : Warrants T} {g : Ghosts C T} (seats : List S) (place : L → Place) (sight : L → Sight)
+pub seats_begin : {S L : Type 0} {T C : Type 0} {w : Warrants T} {g : Ghosts C T} (seats : List S) (place : L → Place)
+    (sight : L → Sight)
     (told : S → SourceTold) (session : S → Session T C w g) (now : S → SlotState L) (shards : ℕ) (rules : Rules)
     (may_answer : ℕ → Type 0)
     → AllByRecursion (λ one. HasSatDown shards rules (told one) (session one) (now one)) seats
@@ -50,13 +53,15 @@ seats_begin {S} {L} (one ∷ seats) place sight told session now shards rules ma
     let P : SlotState L → Type 0 =
     λ p. SeatStands place sight shards rules may_answer (at told session one) (told one) (session one) p in (
       subst P (sym down.none)
-          (sits_first shards rules may_answer (told one) (session one) down.window down.free down.width down.vacant down.ruled),
+          (sits_first shards rules may_answer (told one)
+          (session one) down.window down.free down.width down.vacant down.ruled),
       seats_begin seats place sight told session now shards rules may_answer all.1,
     )
 
 -- All channels were closed, so they have served.
 pub seats_over : {S L : Type 0} {T C : Type 0} {w : Warrants T} {g : Ghosts C T} (seats : List S) (sats : List SeatAt)
-    (place : L → Place) (sight : L → Sight) (told : S → SourceTold) (session : S → Session T C w g) (now : S → SlotState L) (shards : ℕ)
+    (place : L → Place) (sight : L → Sight) (told : S → SourceTold) (session : S → Session T C w g)
+    (now : S → SlotState L) (shards : ℕ)
     (rules : Rules) (may_answer : ℕ → Type 0)
     → AllByRecursion (λ one. now one ≡ slot_state.Over) seats
     → Zips (Stands place sight told session now shards rules may_answer) sats seats
@@ -69,13 +74,16 @@ seats_over {S} {L} (one ∷ seats) (sat ∷ sats) place sight told session now s
     (subst P all.0 zips.0, seats_over seats sats place sight told session now shards rules may_answer all.1 zips.1)
 
 -- The seat at a place may be stepped, once it is what it became.
-pub seat_steps : {S L : Type 0} {T C : Type 0} {w : Warrants T} {g : Ghosts C T} (seats : List S) (sats : List SeatAt) (number : ℕ)
-    (one next : S) (place : L → Place) (sight : L → Sight) (told : S → SourceTold) (session : S → Session T C w g) (now : S → SlotState L)
+pub seat_steps : {S L : Type 0} {T C : Type 0} {w : Warrants T} {g : Ghosts C T} (seats : List S) (sats : List SeatAt)
+    (number : ℕ)
+    (one next : S) (place : L → Place) (sight : L → Sight) (told : S → SourceTold) (session : S → Session T C w g)
+    (now : S → SlotState L)
     (shards : ℕ) (rules : Rules) (may_answer : ℕ → Type 0)
     → slice_get seats number ≡ Some one
     → ((sat : SeatAt) → Stands place sight told session now shards rules may_answer sat one
     → Stands place sight told session now shards rules may_answer sat next)
-    → Zips (Stands place sight told session now shards rules may_answer) sats seats → CanStep place sight may_answer (now next) (session next)
+    → Zips (Stands place sight told session now shards rules may_answer) sats seats
+    → CanStep place sight may_answer (now next) (session next)
 seat_steps seats sats number one next place sight told session now shards rules may_answer here became zips =
     let met = met_at (Stands place sight told session now shards rules may_answer) sats seats number one zips here in
     can_step shards rules may_answer place sight met.one (told next) (session next) (now next) (became met.one met.met)

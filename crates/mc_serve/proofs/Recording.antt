@@ -53,7 +53,8 @@ module _ (sizes : Sizes) (name : Name) (capacity : ℕ) (near : List (Ends Near)
   clerks_fit clerks act =
       zips_from (IsClerkOf sizes) near clerks (act.counted ∙ sym channels.seat_count)
       (λ number seat clerk here there.
-      subst (λ (one : Acting). IsClerkOf sizes seat one) (sym (act.each number clerk there)) (clerk_fits number seat here))
+      subst (λ (one : Acting). IsClerkOf sizes seat one) (sym (act.each number clerk there))
+      (clerk_fits number seat here))
 
   -- the actor of a shard that has done nothing
   abbrev new_recorder : ℕ → Acting

@@ -168,24 +168,25 @@ module _ (T S : RattleType) (tokens : TokenGhosts T.Denot) (scribe : ScribeGhost
         ),
       )
 
-slot_send : (D L : RattleType) → IsSend D → IsSend L → IsSend (slot.the_row D L)
-slot_send D L source line =
-    declared_send (slot.the_type D L) (
+slot_send : (D L T : RattleType) → IsSend D → IsSend L → IsSend (slot.the_row D L T)
+slot_send D L T source line =
+    declared_send (slot.the_type D L T) (
       session_send evidence.the_row clerk.the_row tokens warrants keeps_seat evidence_sent.the_send clerk_sent.the_send,
       (slot_state.the_send L line, (as_row_send (row_field D) source, tt)),
     )
 
-seats_send : (D L : RattleType) → IsSend D → IsSend L → IsSend (seats.the_row D L)
-seats_send D L source line =
-    declared_send (seats.the_type D L) (vec_send (slot.the_row D L) (slot_send D L source line), (search sendable, tt))
+seats_send : (D L T : RattleType) → IsSend D → IsSend L → IsSend (seats.the_row D L T)
+seats_send D L T source line =
+    declared_send (seats.the_type D L T)
+    (vec_send (slot.the_row D L T) (slot_send D L T source line), (search sendable, tt))
 
 -- What one thread serves may go to it where its sources, their lines, the clock and the gate may, and the gate may be
 -- shared.
-pub part_send : (D G K L : RattleType) → IsSend D → IsSend G → IsSync G → IsSend K → IsSend L
-    → IsSend (part.the_row D G K L)
-part_send D G K L source gate shared clock line =
-    declared_send (part.the_type D G K L) (
-      seats_send D L source line,
+pub part_send : (D G K L T : RattleType) → IsSend D → IsSend G → IsSync G → IsSend K → IsSend L
+    → IsSend (part.the_row D G K L T)
+part_send D G K L T source gate shared clock line =
+    declared_send (part.the_type D G K L T) (
+      seats_send D L T source line,
       (
         vec_send (working.the_row G evidence.the_row recorder.the_row keeps_shard tokens)
             (working_send evidence.the_row recorder.the_row tokens keeps_shard evidence_sent.the_send

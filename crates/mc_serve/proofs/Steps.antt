@@ -33,7 +33,8 @@ use Rattle.mc_command.specs.declared.rules.Rules.{Rules}
 
 module _ (shards : ℕ) (rules : Rules) (may_answer : ℕ → Type 0) where
   -- A seat that has just sat down.
-  pub sits_first : {T C : Type 0} {w : Warrants T} {g : Ghosts C T} (source : SourceTold) (session : Session T C w g) (window : ℕ)
+  pub sits_first : {T C : Type 0} {w : Warrants T} {g : Ghosts C T} (source : SourceTold) (session : Session T C w g)
+      (window : ℕ)
       → IsFree source → length (seat_ends session).channels ≡ shards → IsVacant rules window session
       → IsRuled rules session → SitsFree shards rules may_answer (seat_at source (seat_ends session)) source session
   sits_first source session window free width vacant ruled =
@@ -206,7 +207,8 @@ module _ (shards : ℕ) (rules : Rules) (may_answer : ℕ → Type 0) where
   }
 
   -- what renewing a session does
-  pub record Renews {T C : Type 0} {w : Warrants T} {g : Ghosts C T} (another : Bool) (old new : Session T C w g) : Type 0 where
+  pub record Renews {T C : Type 0} {w : Warrants T} {g : Ghosts C T} (another : Bool)
+      (old new : Session T C w g) : Type 0 where
     pub when : (buffered_conn : BufferedConn) (told : Told) → old.buffered_conn ≡ Some buffered_conn
         → IsConn buffered_conn.conn told → IsTrue another ↔ (IsAtRest told × IsOver told)
     pub vacant : IsTrue another → (buffered_conn : BufferedConn) (told : Told) → old.buffered_conn ≡ Some buffered_conn
@@ -217,7 +219,8 @@ module _ (shards : ℕ) (rules : Rules) (may_answer : ℕ → Type 0) where
 
   -- The line that was out was served and went back. Each reply was the answer to its piece, so the session is renewed.
   module _ {T C : Type 0} {w : Warrants T} {g : Ghosts C T} (sat : SeatAt) (source source' : SourceTold)
-      (place place' : Place) (now now' : Sight) (commands : ℕ) (broke another : Bool) (session session' last : Session T C w g) (keeps : g.keeps)
+      (place place' : Place) (now now' : Sight) (commands : ℕ) (broke another : Bool)
+      (session session' last : Session T C w g) (keeps : g.keeps)
       (goes : (begin : Sight) (before : Ends Near) → IsServingLine shards rules may_answer begin now before session
       → HasServed shards rules may_answer begin now' before session' commands broke)
       (back : source' ≡ took_back now' commands broke source) (renews : Renews another session' last)
@@ -280,7 +283,8 @@ module _ (shards : ℕ) (rules : Rules) (may_answer : ℕ → Type 0) where
         }
 
   -- One channel more was closed.
-  pub closes_on : {L : Type 0} {T C : Type 0} {w : Warrants T} {g : Ghosts C T} (place : L → Place) (sight : L → Sight) (sat : SeatAt) (count : ℕ)
+  pub closes_on : {L : Type 0} {T C : Type 0} {w : Warrants T} {g : Ghosts C T} (place : L → Place)
+      (sight : L → Sight) (sat : SeatAt) (count : ℕ)
       (source : SourceTold) (old new : Session T C w g) (now : SlotState L)
       → ((served : Ends Near) → EndsFirst count served (seat_ends old) → ClosesOn served now (seat_ends new))
       → SitsClosing shards rules may_answer count sat source (seat_ends old)
@@ -303,8 +307,10 @@ module _ (shards : ℕ) (rules : Rules) (may_answer : ℕ → Type 0) where
       }
 
   -- A seat that stands may go a step further.
-  pub can_step : {L : Type 0} {T C : Type 0} {w : Warrants T} {g : Ghosts C T} (place : L → Place) (sight : L → Sight) (sat : SeatAt) (source : SourceTold)
-      (session : Session T C w g) (now : SlotState L) → SeatStands place sight shards rules may_answer sat source session now
+  pub can_step : {L : Type 0} {T C : Type 0} {w : Warrants T} {g : Ghosts C T} (place : L → Place) (sight : L → Sight)
+      (sat : SeatAt) (source : SourceTold)
+      (session : Session T C w g) (now : SlotState L)
+      → SeatStands place sight shards rules may_answer sat source session now
       → CanStep place sight may_answer now session
   can_step place sight sat source session slot_state.Free stands = tt
   can_step place sight sat source session (slot_state.Out line false) stands = stands.new

@@ -67,7 +67,7 @@ pub line_send : (S T : RattleType) (stream : StreamGhosts S.Denot) → IsSend S 
 line_send S T stream sent token =
     let tap_sent : IsSend (tap.the_row S stream) = tap_send S stream sent in
     declared_send (tcp_connection.the_type S T stream)
-    (search (tap_sent, reads_send, meter_send, token, trail_send, sendable, crosses) depth 20)
+    (search (tap_sent, reads_send, meter_send, sendable, crosses) depth 20)
 
 -- A source for streams may go to another thread where its clock, its arrivals and its streams may.
 pub stream_source_send : (R A T S : RattleType) (arrivals : ArrivalsGhosts A.Denot S.Denot)

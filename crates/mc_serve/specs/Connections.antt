@@ -38,5 +38,6 @@ pub record ServesConnections {S : Type 0} {g : Ghosts S} (sizes : Sizes) (may_an
   pub whole : AllByRecursion (AreServed None) (seats_of served)
   pub log : List Entry
   pub log_is : IsLogOfLines sizes (length (seats_of served)) log
-  pub each : (seat : ℕ) (gone : List (ClosedConnection S Sight g × Unit {0})) → slice_get (seats_of served) seat ≡ Some gone
+  pub each : (seat : ℕ) (gone : List (ClosedConnection S Sight g × Unit {0}))
+      → slice_get (seats_of served) seat ≡ Some gone
       → ExplainsSeat sizes may_answer log seat (gone_lines gone)

@@ -11,8 +11,8 @@ use Rattle.mc_record.specs.Recorder.{log_in, shard_of}
 use Rattle.mc_threads.specs.Routes.{AreOnRoutes, IsUpToDate}
 use Rattle.mc_threads.specs.Workers.{IsRecordOf}
 
--- The clerk is the one of the seat of these ends, in a server of these sizes: its record is of their channels, and of all
--- that has passed there.
+-- The clerk is the one of the seat of these ends, in a server of these sizes: its record is of their channels, and of
+-- all that has passed there.
 pub record IsClerkOf (sizes : Sizes) (ends : Ends Near) (clerk : Acting) : Type 0 where
   pub sizes_are : clerk.name.sizes ≡ sizes
   pub routes : AreOnRoutes (λ shard. record { seat = seat_of clerk.role; shard = shard; name = clerk.name }) ends

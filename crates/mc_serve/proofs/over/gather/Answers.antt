@@ -23,5 +23,7 @@ returns-clause-back g c =
     let was = c.loop-source.invariant in
     let none : into_iter_items c.loop-source.source-iterator ≡ [] = empty_when _ (search rules) in
     let all : was.0 ≡ c.args.sources.items = sym (append-nil was.0) ∙ (ap (λ ds. was.0 ++ ds) (sym none) ∙ was.1) in
-    zips_are (λ source one. IsBack (told_of (λ line. g.L.Transport.sight line) source) (g.L.Transport.sight one.line) one.commands
+    zips_are
+    (λ source one. IsBack (told_of (λ line. g.L.Transport.sight line) source)
+    (g.L.Transport.sight one.line) one.commands
     one.broke) was.0 c.args.sources.items c.loop-source.lines.items all was.2
