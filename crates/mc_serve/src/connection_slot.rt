@@ -127,11 +127,11 @@ where
         requires { CanStep (λ line. D.Transport.place line) (λ line. D.Transport.sight line)
             (K.may_answer clock.now) self.old.slot_state self.old.session }
         ensures { (shards : ℕ) (rules : Rules) (sat : SeatAt) →
-            SeatStands (λ line. D.Transport.place line) (λ line. D.Transport.sight line) shards rules
-            (K.may_answer clock.now) sat
+            SeatStands (λ line. D.Transport.place line) (λ line. D.Transport.sight line) shards
+            rules (K.may_answer clock.now) sat
             (D.told self.old.source) self.old.session self.old.slot_state →
-            SeatStands (λ line. D.Transport.place line) (λ line. D.Transport.sight line) shards rules
-            (K.may_answer clock.now) sat
+            SeatStands (λ line. D.Transport.place line) (λ line. D.Transport.sight line) shards
+            rules (K.may_answer clock.now) sat
             (D.told self.new.source) self.new.session self.new.slot_state }
     {
         match &mut self.slot_state {

@@ -46,17 +46,17 @@ where
     ) -> bool
         requires { (shards : ℕ) × (rules : Rules) × (sats : List SeatAt) ×
             Zips (λ sat one.
-            SeatStands (λ line. D.Transport.place line) (λ line. D.Transport.sight line) shards rules
-            (K.may_answer clock.now) sat
+            SeatStands (λ line. D.Transport.place line) (λ line. D.Transport.sight line) shards
+            rules (K.may_answer clock.now) sat
             (D.told one.source) one.session one.slot_state) sats self.old.all.items }
         ensures { (shards : ℕ) (rules : Rules) (sats : List SeatAt) →
             Zips (λ sat one.
-            SeatStands (λ line. D.Transport.place line) (λ line. D.Transport.sight line) shards rules
-            (K.may_answer clock.now) sat
+            SeatStands (λ line. D.Transport.place line) (λ line. D.Transport.sight line) shards
+            rules (K.may_answer clock.now) sat
             (D.told one.source) one.session one.slot_state) sats self.old.all.items →
             Zips (λ sat one.
-            SeatStands (λ line. D.Transport.place line) (λ line. D.Transport.sight line) shards rules
-            (K.may_answer clock.now) sat
+            SeatStands (λ line. D.Transport.place line) (λ line. D.Transport.sight line) shards
+            rules (K.may_answer clock.now) sat
             (D.told one.source) one.session one.slot_state) sats self.new.all.items }
     {
         let (first, end) = poller.roused_words();
@@ -76,17 +76,17 @@ where
     )
         requires { (shards : ℕ) × (rules : Rules) × (sats : List SeatAt) ×
             Zips (λ sat one.
-            SeatStands (λ line. D.Transport.place line) (λ line. D.Transport.sight line) shards rules
-            (K.may_answer clock.now) sat
+            SeatStands (λ line. D.Transport.place line) (λ line. D.Transport.sight line) shards
+            rules (K.may_answer clock.now) sat
             (D.told one.source) one.session one.slot_state) sats self.old.all.items }
         ensures { (shards : ℕ) (rules : Rules) (sats : List SeatAt) →
             Zips (λ sat one.
-            SeatStands (λ line. D.Transport.place line) (λ line. D.Transport.sight line) shards rules
-            (K.may_answer clock.now) sat
+            SeatStands (λ line. D.Transport.place line) (λ line. D.Transport.sight line) shards
+            rules (K.may_answer clock.now) sat
             (D.told one.source) one.session one.slot_state) sats self.old.all.items →
             Zips (λ sat one.
-            SeatStands (λ line. D.Transport.place line) (λ line. D.Transport.sight line) shards rules
-            (K.may_answer clock.now) sat
+            SeatStands (λ line. D.Transport.place line) (λ line. D.Transport.sight line) shards
+            rules (K.may_answer clock.now) sat
             (D.told one.source) one.session one.slot_state) sats self.new.all.items }
     {
         let mut again = 0u64;
@@ -111,17 +111,17 @@ where
     ) -> Stepped
         requires { (shards : ℕ) × (rules : Rules) × (sats : List SeatAt) ×
             Zips (λ sat one.
-            SeatStands (λ line. D.Transport.place line) (λ line. D.Transport.sight line) shards rules
-            (K.may_answer clock.now) sat
+            SeatStands (λ line. D.Transport.place line) (λ line. D.Transport.sight line) shards
+            rules (K.may_answer clock.now) sat
             (D.told one.source) one.session one.slot_state) sats self.old.all.items }
         ensures { (shards : ℕ) (rules : Rules) (sats : List SeatAt) →
             Zips (λ sat one.
-            SeatStands (λ line. D.Transport.place line) (λ line. D.Transport.sight line) shards rules
-            (K.may_answer clock.now) sat
+            SeatStands (λ line. D.Transport.place line) (λ line. D.Transport.sight line) shards
+            rules (K.may_answer clock.now) sat
             (D.told one.source) one.session one.slot_state) sats self.old.all.items →
             Zips (λ sat one.
-            SeatStands (λ line. D.Transport.place line) (λ line. D.Transport.sight line) shards rules
-            (K.may_answer clock.now) sat
+            SeatStands (λ line. D.Transport.place line) (λ line. D.Transport.sight line) shards
+            rules (K.may_answer clock.now) sat
             (D.told one.source) one.session one.slot_state) sats self.new.all.items }
     {
         if place >= self.all.len() {
