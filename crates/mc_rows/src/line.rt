@@ -2,7 +2,7 @@
 ghost use Rattle.std.specs.Prelude.{◌≡◌, None, IsTrue};
 
 use mc_seat::{Transport, TransportError};
-use mc_wire::{Sink, SinkError};
+use mc_wire::SinkError;
 use std::alloc::Global;
 
 /// How a line is cut, and where it fails.
@@ -85,8 +85,11 @@ impl<'a> MemoryLine<'a> {
     }
 }
 
-impl Sink for MemoryLine<'_> {
+impl Transport for MemoryLine<'_> {
     ghost use Rattle.mc_wire.specs.Sink.{Untold};
+    ghost use Rattle.mc_seat.specs.Place.{no_place};
+
+    type Warrant = ();
 
     ghost sight = { λ line.
         record {
@@ -97,21 +100,10 @@ impl Sink for MemoryLine<'_> {
           failed = line.failed;
         } };
 
-    fn write(&mut self, bytes: &[u8]) -> Result<usize, SinkError> {
-        if self.fails() {
-            return Err(SinkError);
-        }
-        let count = bytes.len().min(self.cutting.portion.max(1));
-        let (front, _) = bytes.split_at(count);
-        if self.output.extend_from_slice(front).is_err() {
-            self.failed = true;
-            return Err(SinkError);
-        }
-        Ok(count)
-    }
-}
+    ghost place = { λ line. no_place };
 
-impl Transport for MemoryLine<'_> {
+    fn begin(&mut self, _seen: ()) {}
+
     fn read(&mut self, room: &mut [u8]) -> Result<usize, TransportError> {
         if self.fails() {
             self.failed_reading = true;
@@ -124,6 +116,19 @@ impl Transport for MemoryLine<'_> {
         room.split_at_mut(count).0.copy_from_slice(now);
         self.given = self.given.saturating_add(count);
         self.ended = count == 0;
+        Ok(count)
+    }
+
+    fn write_if_ready(&mut self, bytes: &[u8], _seen: &()) -> Result<usize, SinkError> {
+        if self.fails() {
+            return Err(SinkError);
+        }
+        let count = bytes.len().min(self.cutting.portion.max(1));
+        let (front, _) = bytes.split_at(count);
+        if self.output.extend_from_slice(front).is_err() {
+            self.failed = true;
+            return Err(SinkError);
+        }
         Ok(count)
     }
 }

@@ -54,7 +54,7 @@ const FAILURES: usize = 200;
 
 /// Serves a line by new shards, at the row's time and with this window; `None` if the server
 /// refuses.
-fn served<R: Wait + RandomSource, L: Transport>(
+fn served<R: Wait + RandomSource, L: Transport<Warrant = ()>>(
     rt: &R,
     alloc: Global,
     row: &Row,

@@ -64,8 +64,8 @@ fn answer(alloc: Global, conn: &mut Conn, shards: &mut Vec<Shard>)
 }
 
 /// Serves one line until its input ends, it quits or it fails. It uses one slot, whatever
-/// `sizes.seats` is.
-pub fn serve_one<R: Wait + RandomSource, L: Transport, K: Clock>(
+/// `sizes.seats` is. No history is kept.
+pub fn serve_one<R: Wait + RandomSource, L: Transport<Warrant = ()>, K: Clock>(
     rt: &R,
     alloc: Global,
     line: &mut L,
@@ -95,7 +95,7 @@ pub fn serve_one<R: Wait + RandomSource, L: Transport, K: Clock>(
     buffered_conn.take_all(clock);
     for _ in rt.forever() {
         answer(alloc, &mut buffered_conn.conn, &mut shards);
-        match buffered_conn.go_on(line, clock, &mut pool) {
+        match buffered_conn.go_on(line, clock, &mut pool, &()) {
             LineStep::Did => {}
             LineStep::Waits => thread::yield_now(),
             LineStep::Ended(served) => return Ok(served),

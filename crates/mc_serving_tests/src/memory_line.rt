@@ -2,7 +2,7 @@
 ghost use Rattle.std.specs.Prelude.{◌≤◌, None, length, take};
 
 use mc_seat::{Transport, TransportError};
-use mc_wire::{Sink, SinkError};
+use mc_wire::SinkError;
 use std::alloc::{AllocError, Global};
 
 /// A line over memory.
@@ -33,9 +33,12 @@ impl MemoryLine {
     }
 }
 
-impl Sink for MemoryLine {
+impl Transport for MemoryLine {
     ghost use Rattle.std.specs.Prelude.{take};
     ghost use Rattle.mc_wire.specs.Sink.{Listed};
+    ghost use Rattle.mc_seat.specs.Place.{no_place};
+
+    type Warrant = ();
 
     ghost sight = { λ line.
         record {
@@ -46,19 +49,10 @@ impl Sink for MemoryLine {
           failed = line.failed;
         } };
 
-    fn write(&mut self, bytes: &[u8]) -> Result<usize, SinkError> {
-        self.calls = self.calls.wrapping_add(1);
-        match self.output.extend_from_slice(bytes) {
-            Ok(()) => Ok(bytes.len()),
-            Err(_) => {
-                self.failed = true;
-                Err(SinkError)
-            }
-        }
-    }
-}
+    ghost place = { λ line. no_place };
 
-impl Transport for MemoryLine {
+    fn begin(&mut self, _seen: ()) {}
+
     fn read(&mut self, room: &mut [u8]) -> Result<usize, TransportError> {
         self.calls = self.calls.wrapping_add(1);
         if self.failed {
@@ -72,5 +66,16 @@ impl Transport for MemoryLine {
         self.at += count;
         self.ended = count == 0;
         Ok(count)
+    }
+
+    fn write_if_ready(&mut self, bytes: &[u8], _seen: &()) -> Result<usize, SinkError> {
+        self.calls = self.calls.wrapping_add(1);
+        match self.output.extend_from_slice(bytes) {
+            Ok(()) => Ok(bytes.len()),
+            Err(_) => {
+                self.failed = true;
+                Err(SinkError)
+            }
+        }
     }
 }

@@ -3,9 +3,9 @@ use crate::asserting::{equal, holds};
 use crate::memory_line::MemoryLine;
 use crate::sizes::SMALL;
 use mc_seat::{Transport, TransportError};
-use mc_serve::{ServeError, serve_over};
+use mc_serve::{PlacedLine, ServeError, serve_over};
 use mc_server::FixedClock;
-use mc_wire::{Sink, SinkError};
+use mc_wire::SinkError;
 use mc_worker::OpenGate;
 use std::alloc::{AllocError, Global};
 use std::sync::Arc;
@@ -19,19 +19,25 @@ struct Counted<L> {
     calls: Arc<AtomicU64, Global>,
 }
 
-impl<L: Sink> Sink for Counted<L> {
+impl<L: Transport> Transport for Counted<L> {
+    type Warrant = L::Warrant;
+
     ghost sight = { λ counted. L.sight counted.line };
 
-    fn write(&mut self, bytes: &[u8]) -> Result<usize, SinkError> {
-        self.calls.fetch_add(1, Ordering::SeqCst);
-        self.line.write(bytes)
-    }
-}
+    ghost place = { λ counted. L.place counted.line };
 
-impl<L: Transport> Transport for Counted<L> {
+    fn begin(&mut self, seen: L::Warrant) {
+        self.line.begin(seen);
+    }
+
     fn read(&mut self, room: &mut [u8]) -> Result<usize, TransportError> {
         self.calls.fetch_add(1, Ordering::SeqCst);
         self.line.read(room)
+    }
+
+    fn write_if_ready(&mut self, bytes: &[u8], seen: &L::Warrant) -> Result<usize, SinkError> {
+        self.calls.fetch_add(1, Ordering::SeqCst);
+        self.line.write_if_ready(bytes, seen)
     }
 }
 
@@ -39,13 +45,13 @@ impl<L: Transport> Transport for Counted<L> {
 fn two_lines(
     alloc: Global,
     calls: &Arc<AtomicU64, Global>,
-) -> Result<Vec<Counted<MemoryLine>>, AllocError> {
+) -> Result<Vec<PlacedLine<Counted<MemoryLine>>>, AllocError> {
     let mut lines = Vec::with_capacity(alloc, 2)?;
     for _ in 0..2u8 {
-        lines.push(Counted {
+        lines.push(PlacedLine::new(Counted {
             line: MemoryLine::new(alloc, b"mn\r\nquit\r\n")?,
             calls: Arc::try_clone(calls)?,
-        })?;
+        }))?;
     }
     Ok(lines)
 }
@@ -70,7 +76,7 @@ fn a_refused_start(rt: HostRuntime) -> Result<(), Fail> {
                 } else {
                     b"MN\r\n".as_slice()
                 };
-                equal(&rt, one.line.line.output.as_slice(), output);
+                equal(&rt, one.line.line.line.output.as_slice(), output);
                 equal(&rt, one.commands, 2);
             }
         }

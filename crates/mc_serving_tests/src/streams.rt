@@ -6,7 +6,7 @@ use mc_seat::{Ready, Transport, WriteBuffer};
 use mc_server::{FixedClock, serve_one};
 use mc_sizes::Sizes;
 use mc_watch::Meter;
-use mc_wire::{Sink, write_all};
+use mc_wire::write_all;
 use std::alloc::Global;
 use std::io;
 use std::io::{ErrorKind, IoSlice, Write};
@@ -96,7 +96,9 @@ fn what_is_written_goes_out_whole_and_once(rt: HostRuntime) -> Result<(), Fail> 
     let mut stream = Slow::new(rt.alloc(), b"");
     let mut line = TcpConnection::new(&mut stream);
     let text = b"VALUE a 0 10\r\n0123456789\r\nEND\r\n";
-    holds(&rt, write_all(&mut line, text).is_ok());
+    let mut waiting = WriteBuffer::new(rt.alloc());
+    holds(&rt, write_all(&mut waiting, text).is_ok());
+    holds(&rt, matches!(waiting.flush(&mut line, &()), Ok(true)));
     drop(line);
     equal(&rt, stream.output.as_slice(), text.as_slice());
     Ok(())
@@ -113,7 +115,7 @@ fn pieces_that_wait_go_out_whole_and_once(rt: HostRuntime) -> Result<(), Fail> {
         holds(&rt, waiting.put_shared(&value).is_ok());
         holds(&rt, write_all(&mut waiting, b"\r\nEND\r\n").is_ok());
     }
-    holds(&rt, matches!(waiting.flush(&mut line), Ok(true)));
+    holds(&rt, matches!(waiting.flush(&mut line, &()), Ok(true)));
     drop(line);
     let wanted =
         b"VALUE a 0 10\r\n0123456789\r\nEND\r\nVALUE a 0 10\r\n0123456789\r\nEND\r\nVALUE a 0 10\r\n0123456789\r\nEND\r\n";

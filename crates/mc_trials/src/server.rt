@@ -2,11 +2,11 @@
 use crate::line::MemoryLine;
 use mc_doors::ServedLine;
 use mc_seat::{Clock, Served, Transport};
-use mc_serve::serve_over;
+use mc_serve::{PlacedLine, serve_over};
 use mc_server::{FixedClock, serve_one};
 use mc_sizes::Sizes;
 use mc_worker::{Gate, OpenGate};
-use std::alloc::Global;
+use std::alloc::{AllocError, Global};
 use std::random::RandomSource;
 use std::sync::Wait;
 use std::thread::Threads;
@@ -35,7 +35,7 @@ impl<R: Threads + Wait + RandomSource + Copy + Send + Drop + 'static> Server<R> 
     /// Serves lines of any type, with this gate and clock, and returns them; `None` if the server
     /// refuses or can't be made.
     pub fn serve_by<
-        L: Transport + Send + Drop + 'static,
+        L: Transport<Warrant = ()> + Send + Drop + 'static,
         G: Gate + Send + Sync + Drop + 'static,
         K: Clock + Copy + Send + Drop + 'static,
     >(&self, lines: Vec<L>, sizes: Sizes, gate: G, clock: K) -> Option<Vec<ServedLine<L>>> {
@@ -44,8 +44,9 @@ impl<R: Threads + Wait + RandomSource + Copy + Send + Drop + 'static> Server<R> 
             ..sizes
         };
         sizes.check().ok()?;
+        let lines = placed(self.alloc, lines).ok()?;
         match serve_over(&self.rt, self.alloc, lines, sizes, gate, clock) {
-            Ok(report) => Some(report.lines),
+            Ok(report) => unplaced(self.alloc, report.lines).ok(),
             Err(_refusal) => None,
         }
     }
@@ -55,4 +56,37 @@ impl<R: Threads + Wait + RandomSource + Copy + Send + Drop + 'static> Server<R> 
         sizes.check().ok()?;
         serve_one(&self.rt, self.alloc, line, sizes, &FixedClock(MOMENT)).ok()
     }
+}
+
+/// The lines, each with room for the connection that it is.
+fn placed<L: Transport<Warrant = ()> + Drop>(
+    alloc: Global,
+    lines: Vec<L>,
+) -> Result<Vec<PlacedLine<L>>, AllocError> {
+    let mut placed = Vec::with_capacity(alloc, lines.len())?;
+    for line in lines {
+        placed.push(PlacedLine::new(line))?;
+    }
+    Ok(placed)
+}
+
+/// The lines that were served, without the connections that they were.
+fn unplaced<L: Transport<Warrant = ()> + Drop>(
+    alloc: Global,
+    served: Vec<ServedLine<PlacedLine<L>>>,
+) -> Result<Vec<ServedLine<L>>, AllocError> {
+    let mut lines = Vec::with_capacity(alloc, served.len())?;
+    for one in served {
+        let ServedLine {
+            line,
+            commands,
+            broke,
+        } = one;
+        lines.push(ServedLine {
+            line: line.into_line(),
+            commands,
+            broke,
+        })?;
+    }
+    Ok(lines)
 }

@@ -14,12 +14,10 @@ use std::time;
 
 /// Serves one line until it ends, by the machine's clock, or by a clock that is fixed at the given
 /// time.
-pub fn serve_line<R: Wait + RandomSource + time::Clock + Alloc<A = Global>, L: Transport>(
-    rt: &R,
-    line: &mut L,
-    at: Option<u64>,
-    sizes: Sizes,
-) -> Result<Served, LineError>
+pub fn serve_line<
+    R: Wait + RandomSource + time::Clock + Alloc<A = Global>,
+    L: Transport<Warrant = ()>,
+>(rt: &R, line: &mut L, at: Option<u64>, sizes: Sizes) -> Result<Served, LineError>
     requires { AreWithin sizes }
     // A server of these sizes explains what was read and written, at such times.
     ensures explained { IfOk result (λ served.
@@ -38,7 +36,7 @@ pub fn serve_line<R: Wait + RandomSource + time::Clock + Alloc<A = Global>, L: T
 }
 
 /// Serves one line until it ends, by this clock.
-fn serve_by<R: Wait + RandomSource + Alloc<A = Global>, L: Transport, K: Clock>(
+fn serve_by<R: Wait + RandomSource + Alloc<A = Global>, L: Transport<Warrant = ()>, K: Clock>(
     rt: &R,
     line: &mut L,
     sizes: Sizes,

@@ -9,7 +9,7 @@ loop-init g c =
       tt,
       tt,
       turns_first (record c.args.sizes { seats = 1 }) (g.K.Clock.may_answer c.args.clock.now)
-          (g.L.Sink.sight c.args.line.now) c.args.sizes.window c.in-Ok-Ok-Ok.buffered_conn c.take_all.new.self
+          (g.L.Transport.sight c.args.line.now) c.args.sizes.window c.in-Ok-Ok-Ok.buffered_conn c.take_all.new.self
           c.in-Ok-Ok-Ok.shards.items c.requires.lines.shards made.len made.empty c.in-Ok-Ok-Ok.ensures'
           c.take_all.ensures,
     )
@@ -23,6 +23,19 @@ answer-requires g c =
       log = turns.log;
       conn_is = turns.stopped.serves.conn_is;
       answers = turns.answers;
+    }
+
+pub go_on-requires : goal.go_on-requires
+go_on-requires g c =
+    let answered = answers_stop _ _ _ _ _ c.answer.new.conn _ _ c.answer.ensures c.loop.invariant.2 in
+    let turns = answered.turns in
+    record {
+      may = record {
+        told = turns.told;
+        conn_is = turns.stopped.serves.conn_is;
+        unbroken = turns.stopped.serves.unbroken;
+        may = tt;
+      };
     }
 
 pub loop-preserved-in-Did : goal.loop-preserved-in-Did
