@@ -5,7 +5,7 @@ import time
 
 import pytest
 
-from tools.checks.test_signals import BLOCKING, ends, unread_replies
+from tools.checks.test_signals import BLOCKING, ends, ends_once_read, unread_replies
 from tools.served import NO_OP, NO_OP_REPLY, STORED, Line, Server, hit_of, set_of
 
 fails_with = pytest.mark.fails_with
@@ -102,10 +102,7 @@ def test_what_others_were_owed_is_written():
         assert server.is_running()
         with pytest.raises(ConnectionRefusedError):
             Line(server.port)
-        found = line.rest()
-        assert (len(found), found == wanted) == (len(wanted), True)
-        line.close()
-        ends(server, IN_ORDER, began, within=20)
+        ends_once_read(server, line, wanted, IN_ORDER, began)
 
 
 @fails_with("never lets clients end it", "drains for an hour")

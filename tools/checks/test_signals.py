@@ -30,13 +30,21 @@ def told_to_end(server, number=signal.SIGTERM):
     return time.monotonic()
 
 
-def ends(server, told, began, within=SOON):
+def ends(server, last, began, within=SOON):
     """The server ends in time, with status 0, and its last line is this one."""
     status = server.process.wait(timeout=30)
     took = time.monotonic() - began
-    assert (status, server.process.stderr.read().decode().splitlines()[-1:]) == (0, [told])
+    assert (status, server.process.stderr.read().decode().splitlines()[-1:]) == (0, [last])
     assert took < within
     return took
+
+
+def ends_once_read(server, line, wanted, last, began):
+    """The connection gets all of these replies, and then the server ends with this last line."""
+    found = line.rest()
+    assert (len(found), found == wanted) == (len(wanted), True)
+    line.close()
+    ends(server, last, began, within=20)
 
 
 @fails_with("unblocks its signals", "gets no signal")
@@ -74,10 +82,7 @@ def test_what_was_taken_is_answered():
         began = told_to_end(server)
         time.sleep(1)
         assert server.is_running()
-        found = line.rest()
-        assert (len(found), found == wanted) == (len(wanted), True)
-        line.close()
-        ends(server, IN_ORDER, began, within=20)
+        ends_once_read(server, line, wanted, IN_ORDER, began)
 
 
 @fails_with("cuts connections off at once", "drains for an hour")
