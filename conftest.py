@@ -3,7 +3,7 @@
     pytest FILE::NAME                   one test
     pytest --seen-to-fail [FILE ..]     each test once more for each fault of its marker `fails_with`, with which it must fail
 
-A fault is the name of one of tools/checks/faulty.py, which then stands in for the program; an edit of what the test reads, as a file,
+A fault is the name of one of tools/checks/faulty.py, which then replaces the program; an edit of what the test reads, as a file,
 a pattern and what replaces it; or a name of the test's module and the name that replaces it.
 """
 import re
@@ -49,7 +49,7 @@ def pytest_generate_tests(metafunc):
     metafunc.parametrize("fault", found or [pytest.param("", marks=pytest.mark.skip("no fault is put in"))], indirect=True)
 
 
-def stand_in(folder, fault):
+def faulty_program(folder, fault):
     """A program that is the real one with this fault. No shell: it needs more open files than one of the tests leaves."""
     program = folder / "mcd"
     words = [sys.executable, "-m", "tools.checks.faulty", fault, served.MCD]
@@ -83,7 +83,7 @@ def fault(request, monkeypatch, tmp_path):
         return
     monkeypatch.setattr(served, "PATIENCE", 5)
     if isinstance(put_in, str):
-        monkeypatch.setattr(served, "MCD", stand_in(tmp_path, put_in))
+        monkeypatch.setattr(served, "MCD", faulty_program(tmp_path, put_in))
     elif len(put_in) == 2:
         monkeypatch.setattr(request.module, put_in[0], getattr(request.module, put_in[1]))
     else:

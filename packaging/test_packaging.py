@@ -2,7 +2,7 @@
 dashboard and alert rules name metrics that are served, and the snippets of docs/CLIENTS.md run. The Debian package is made alike
 twice, can be installed, serves, and is removed with all that it did; the OCI archive serves once it is unpacked.
 
-What needs dpkg-deb, root or a machine on which no mcd is installed is skipped where that is missing.
+What needs dpkg-deb, root or a machine on which no mcd is installed is skipped if that is missing.
 """
 import contextlib
 import hashlib
@@ -36,7 +36,7 @@ MEMCACHEDS = {"daemon", "user", "pidfile", "udp-port", "items"}
 INSTALLED = ["/usr/bin/mcd", "/etc/default/mcd", "/usr/lib/systemd/system/mcd.service"]
 
 
-def told(words):
+def output_of(words):
     return subprocess.run(words, stdin=subprocess.DEVNULL, capture_output=True, text=True, check=True, timeout=120).stdout
 
 
@@ -50,20 +50,20 @@ def options_of(text, pattern):
 
 
 def options_of_the_help():
-    return options_of(told(mcd("--help")), r"^\s+(?:-\w, )?--([a-z-]+)")
+    return options_of(output_of(mcd("--help")), r"^\s+(?:-\w, )?--([a-z-]+)")
 
 
 @fails_with(("packaging/mcd.1", r"\.It Fl -drain\b", ".It Fl -drains"), ("packaging/mcd.1", r"\.It Fl -plan\n", ""))
-def test_the_man_page_tells_the_options():
+def test_the_man_page_has_the_options():
     assert options_of((TOP / "packaging/mcd.1").read_text(), r"^\.It Fl -([a-z-]+)") == options_of_the_help()
 
 
 def letters_of_the_help():
-    return dict(re.findall(r"^\s+-(\w), --([a-z-]+)", told(mcd("--help")), re.M))
+    return dict(re.findall(r"^\s+-(\w), --([a-z-]+)", output_of(mcd("--help")), re.M))
 
 
 @fails_with(("packaging/mcd.1", r", Fl p Ar number", ", Fl q Ar number"), ("packaging/mcd.1", r" , Fl m Ar \w+", ""))
-def test_the_man_page_tells_the_letters():
+def test_the_man_page_has_the_letters():
     letters = letters_of_the_help()
     assert letters.pop("h") == "help"
     assert {letter: name for name, letter in re.findall(r"^\.It Fl -([a-z-]+)(?: Ar \w+)? , Fl (\w)", (TOP / "packaging/mcd.1").read_text(), re.M)} == letters
@@ -149,7 +149,7 @@ def test_the_alerts_ask_for_what_is_served():
     assert [name for name in rules if len(re.findall(rf"alertname: {name}\b", tests)) < 2] == []
 
 
-# How the snippets of docs/CLIENTS.md are run, and what succeeds where their client is there.
+# How the snippets of docs/CLIENTS.md are run, and what succeeds if their client is there.
 SNIPPETS = {
     "python": (["/usr/bin/python3", "-"], ["/usr/bin/python3", "-c", "import pymemcache"]),
     "php": (["php"], ["php", "-r", "new Memcached();"]),
@@ -213,7 +213,7 @@ def test_the_unit_waits_for_the_network_and_starts_again():
 
 
 @fails_with(("packaging/mcd.bash", r" --drain --help", " --help"), ("packaging/mcd.bash", r" --drop-in", " --dropin"))
-def test_the_completion_tells_the_options():
+def test_the_completion_has_the_options():
     asked = 'source packaging/mcd.bash; _mcd mcd "" mcd; printf "%s\\n" "${COMPREPLY[@]}"'
     offered = subprocess.run(["bash", "-c", asked], cwd=TOP, capture_output=True, text=True, check=True).stdout
     assert options_of(offered, r"^--([a-z-]+)$") == options_of_the_help()
@@ -235,13 +235,13 @@ def test_the_service_calls_the_program_rightly():
 @fails_with(("README.md", r"(`rattle-kit-\w+ logic )\w+`", r"\g<1>0123456789abcdef`"))
 def test_the_version_names_the_toolchain():
     """The logic of its proof, which several kits share: the README's kit and the one that is here need not be the same."""
-    version = told(mcd("--version"))
+    version = output_of(mcd("--version"))
     kept = re.search(r"^mcd \d+\.\d+\.\d+ \(Rattle, (logic [0-9a-f]+)\)$", version)
     assert kept is not None
     logic = kept[1]
     assert re.search(rf"`rattle-kit-\w+ {logic}`", (TOP / "README.md").read_text()) is not None
     if shutil.which("rt"):
-        assert told(["rt", "version"]).strip().endswith(logic)
+        assert output_of(["rt", "version"]).strip().endswith(logic)
 
 
 @fails_with(("README.md", r"start\.py -- --drop-in", "start.py --"), ("README.md", r"\*\*Use `--drop-in`\*\*", "Use it"))
@@ -268,7 +268,7 @@ def test_each_command_of_the_page_runs():
 def made(folder):
     """A package, made in this folder."""
     folder.mkdir()
-    return pathlib.Path(told([TOP / "packaging/deb", folder]).split()[-1])
+    return pathlib.Path(output_of([TOP / "packaging/deb", folder]).split()[-1])
 
 
 @pytest.fixture
@@ -291,10 +291,10 @@ def test_the_package_is_made_alike_twice(packages):
 
 @fails_with(("packaging/deb", r"rev-list --count HEAD", "rev-list --count HEAD~1"), ("packaging/deb", r"\$commits\.g", "$commits."))
 def test_the_package_has_the_commits_version(package):
-    told_version = told(["dpkg-deb", "--field", package, "Version"]).strip()
-    commit = told(["git", "-C", TOP, "rev-parse", "--short=8", "HEAD"]).strip()
-    count = told(["git", "-C", TOP, "rev-list", "--count", "HEAD"]).strip()
-    assert told_version == f"{told(mcd('--version')).split()[1]}+{count}.g{commit}"
+    version = output_of(["dpkg-deb", "--field", package, "Version"]).strip()
+    commit = output_of(["git", "-C", TOP, "rev-parse", "--short=8", "HEAD"]).strip()
+    count = output_of(["git", "-C", TOP, "rev-list", "--count", "HEAD"]).strip()
+    assert version == f"{output_of(mcd('--version')).split()[1]}+{count}.g{commit}"
 
 
 @fails_with(
@@ -395,7 +395,7 @@ def test_the_image_serves():
     """Its program starts as the first process of a PID namespace, without privileges, and sees nothing but the image."""
     if not shutil.which("umoci") or os.geteuid() != 0:
         pytest.skip("it needs umoci and root")
-    with tempfile.TemporaryDirectory() as folder, unpacked(told([TOP / "packaging/oci", folder]).split()[-1]) as (process, root):
+    with tempfile.TemporaryDirectory() as folder, unpacked(output_of([TOP / "packaging/oci", folder]).split()[-1]) as (process, root):
         words = process["args"]
         assert words == ["/usr/bin/env", "--block-signal=TERM,INT,HUP", "/usr/bin/mcd", "--listen", "0.0.0.0:11211", "--memory", "64m", "--drop-in"]
         assert (process["user"]["uid"], process["user"]["gid"]) == (65532, 65532)

@@ -12,7 +12,7 @@ import time
 SECONDS = 120
 QUIET = {"stdin": subprocess.DEVNULL, "stdout": subprocess.DEVNULL, "stderr": subprocess.DEVNULL}
 
-# Debian's packages, each with a command that succeeds where it is there.
+# Debian's packages, each with a command that succeeds if it is there.
 PACKAGES = {
     **{f"python3-{name}": ["/usr/bin/python3", "-c", f"import {module}"] for name, module in [
         ("pytest", "pytest"), ("hypothesis", "hypothesis"), ("pymemcache", "pymemcache"), ("pylibmc", "pylibmc"), ("memcache", "memcache"),

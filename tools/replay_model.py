@@ -208,14 +208,14 @@ class World:
         return self.mark(c, "broken")
 
     def mark(self, c, what):
-        """Makes the connection on the seat ended or broken, where there is one that isn't yet."""
+        """Makes the connection on the seat ended or broken, if there is one that isn't yet."""
         one = self.at[c]
         if one is None or getattr(one, what):
             return False
         setattr(one, what, True)
         return True
 
-    def told(self, done, idle):
+    def report(self, done, idle):
         """What the program must report of it."""
         lines = [f"conn {one.number} seat {one.seat} {one.out.hex() or '-'}" for one in self.connections]
         lines += ["log " + " ".join(map(str, entry)) for entry in self.log]

@@ -21,7 +21,7 @@ NO_OP, NO_OP_REPLY = b"mn\r\n", b"MN\r\n"
 # The seconds for which a connection waits for a reply by default.
 PATIENCE = 60
 
-# A server ends with the test that started it, also where that is killed.
+# A server ends with the test that started it, even if that is killed.
 WITH_US = ["setpriv", "--pdeathsig", "KILL"] if shutil.which("setpriv") else []
 
 
@@ -93,28 +93,11 @@ def equal(found, wanted):
 LISTENING = re.compile(r"mcd \S+: (?:native rules|memcached's rules), \d+ threads, \d+ MiB, listening on 127\.0\.0\.1:(\d+)((?:, \S+)*)\n")
 
 
-class Server:
-    """A running mcd with these options, on a port that the system chose. It ends with the `with` block. The words `before` start
-    it, if there are any."""
+class Process:
+    """A server's process, which ends with the `with` block."""
 
-    def __init__(self, *options, before=(), **streams):
-        # Unbuffered: who waits for a further line by select misses none that was read ahead.
-        words = [*before, *mcd("--listen", "127.0.0.1:0", *options)]
-        self.process = started(words, stderr=subprocess.PIPE, bufsize=0, **streams)
-        # What it says before it listens: where its metrics are, if it serves them.
-        self.before = []
-        while not (found := LISTENING.fullmatch(told := self.line_said())):
-            if not told:
-                self.stop()
-                raise AssertionError(f"the server says {self.before} and no address that it listens on")
-            self.before.append(told.rstrip("\n"))
-        self.port = int(found[1])
-        self.further = found[2].split(", ")[1:]
-
-    def line_said(self):
-        """The next line on standard error, or nothing where none comes."""
-        ready, _, _ = select.select([self.process.stderr], [], [], 30)
-        return self.process.stderr.readline().decode() if ready else ""
+    def __init__(self, words, **streams):
+        self.process = started(words, **streams)
 
     def __enter__(self):
         return self
@@ -125,7 +108,6 @@ class Server:
     def stop(self):
         self.process.kill()
         self.process.wait()
-        self.process.stderr.close()
 
     def is_running(self):
         return self.process.poll() is None
@@ -150,6 +132,43 @@ class Server:
         return (int(fields[11]) + int(fields[12])) / os.sysconf("SC_CLK_TCK")
 
 
+class AnyServer(Process):
+    """A server of mcd's or another's, at a free port of this machine: `{port}` in the words that start it."""
+
+    def __init__(self, words):
+        self.port = free_port()
+        super().__init__([str(word).format(port=self.port) for word in words])
+        if not is_up(self.port):
+            self.stop()
+            raise SystemExit(f"{words[0]} doesn't listen")
+
+
+class Server(Process):
+    """A running mcd with these options, on a port that the system chose. The words `before` start it, if there are any."""
+
+    def __init__(self, *options, before=(), **streams):
+        # Unbuffered: who waits for a further line by select misses none that was read ahead.
+        super().__init__([*before, *mcd("--listen", "127.0.0.1:0", *options)], stderr=subprocess.PIPE, bufsize=0, **streams)
+        # What it says before it listens: where its metrics are, if it serves them.
+        self.before = []
+        while not (found := LISTENING.fullmatch(line := self.line_said())):
+            if not line:
+                self.stop()
+                raise AssertionError(f"the server says {self.before} and no address that it listens on")
+            self.before.append(line.rstrip("\n"))
+        self.port = int(found[1])
+        self.further = found[2].split(", ")[1:]
+
+    def line_said(self):
+        """The next line on standard error, or nothing if none comes."""
+        ready, _, _ = select.select([self.process.stderr], [], [], 30)
+        return self.process.stderr.readline().decode() if ready else ""
+
+    def stop(self):
+        super().stop()
+        self.process.stderr.close()
+
+
 class Line:
     """A plain connection."""
 
@@ -171,7 +190,7 @@ class Line:
         self.socket.sendall(sent)
 
     def read(self, count):
-        """The next `count` bytes, fewer where the stream ends."""
+        """The next `count` bytes, fewer if the stream ends."""
         found = bytearray()
         while len(found) < count:
             got = self.socket.recv(min(count - len(found), 1 << 18))
@@ -193,7 +212,7 @@ class Line:
         equal(self.read(len(wanted)), wanted)
 
     def waits(self):
-        """Nothing comes as long as its timeout lasts: fails where something does, or the stream ends."""
+        """Nothing comes as long as its timeout lasts: fails if something does, or the stream ends."""
         try:
             raise AssertionError(f"a connection that was to wait has got {self.read(4)!r}")
         except TimeoutError:
@@ -222,4 +241,4 @@ def hit_of(key, value, flags=0):
 
 def needs_program():
     if not os.access(MCD, os.X_OK):
-        sys.exit(f"FAILED: there is no program {pathlib.Path(MCD).relative_to(TOP)}; `rt ci`, or `rt run` in crates/mcd, builds it")
+        sys.exit(f"FAILED: there is no program {MCD}; `rt ci`, or `rt run` in crates/mcd, builds it")

@@ -62,14 +62,14 @@ def written(crates):
         (ASIDE / LIST).unlink(missing_ok=True)
 
 
-def run(words, folder, begun, told):
+def run(words, folder, begun, label):
     """Runs `rt` in the folder of a crate, and shows how far it is; whether it succeeded. If it didn't, what it said is shown."""
     said = []
     with subprocess.Popen(words, cwd=folder, stdout=subprocess.PIPE, stderr=subprocess.STDOUT, text=True, errors="replace") as rt:
         for line in map(str.rstrip, rt.stdout):
             said.append(line)
             if line.startswith(SO_FAR) and line.endswith(CHECKED):
-                print(f"{minutes(time.monotonic() - begun)} {told}: {line.removeprefix(SO_FAR)}", flush=True)
+                print(f"{minutes(time.monotonic() - begun)} {label}: {line.removeprefix(SO_FAR)}", flush=True)
     if rt.returncode:
         faults = [it for it in said if FAULT.search(it)] or said
         print(*faults[-SHOWN:], f"{PROGRAM} is not proved and built, so nothing starts", sep="\n")
@@ -80,10 +80,10 @@ def build(folders, jobs):
     """Proves the crates and builds the program; whether it is built."""
     begun = time.monotonic()
     for number, folder in enumerate(folders, 1):
-        told = f"{folder.name}, crate {number} of {len(folders)}"
-        print(f"{minutes(time.monotonic() - begun)} {told}, is proved by {jobs} processes", flush=True)
+        label = f"{folder.name}, crate {number} of {len(folders)}"
+        print(f"{minutes(time.monotonic() - begun)} {label}, is proved by {jobs} processes", flush=True)
         words = ["run", "--jobs", str(jobs), "--", "--version"] if folder.name == PROGRAM else ["lib", "--jobs", str(jobs)]
-        if not run(["rt", *words], folder, begun, told):
+        if not run(["rt", *words], folder, begun, label):
             return False
     (folders[-1] / "out" / PROGRAM).replace(OUT / PROGRAM)
     print(f"{minutes(time.monotonic() - begun)} all is proved, and {PROGRAM} is built", flush=True)

@@ -10,7 +10,7 @@ What mc_wire itself says, and what others say of it:
     Rattle.mc_wire.specs.Words              Rattle.mcd_lower.specs.mc_wire.Words
 
 Some of what the program doesn't call is left out: worked rows, what serves lines in memory, and what is there for tests. No
-body and no clause of anything else changes, and where the program calls what is left out, the two crates don't compile.
+body and no clause of anything else changes, and if the program calls what is left out, the two crates don't compile.
 """
 import re
 import shutil
@@ -92,7 +92,7 @@ class TwoCrates:
         for crate in OF_LOWER:
             for it in self.libraries[crate]:
                 if self.home.get(it) == self.program:
-                    sys.exit(f"{crate} stands on {it}, which two_crates.py writes into the program")
+                    sys.exit(f"{crate} depends on {it}, which two_crates.py writes into the program")
 
     def of_kit(self, name):
         """The libraries of the kit that a written crate and what it depends on use."""
@@ -159,7 +159,7 @@ class TwoCrates:
         return files
 
     def look_for_unused(self, files):
-        """Ends the program where a file names definitions or lemmas that are left out: only a proof would show it."""
+        """Ends the program if a file names definitions or lemmas that are left out: only a proof would show it."""
         for place, text in files.items():
             for part, crate, module in re.findall(r"\bRattle\.\w+\.(specs|proofs)\.(\w+)\.(\w+)", text):
                 if is_unused(crate, part, module):

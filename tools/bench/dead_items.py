@@ -5,39 +5,27 @@
 
 Stores live items, and beside them items that die after three seconds. Once these are dead it stores new ones, none of which is
 asked for, and counts the live items that are left. A server that drops dead items first keeps all; one that drops the least recently
-used first drops the live ones, which are the oldest. The same is measured of memcached, where it is installed, which has ten seconds
-for its crawler before the new items come. PROGRAM is the built program, crates/mcd/out/mcd where none is given.
+used first drops the live ones, which are the oldest. The same is measured of memcached, if it is installed, which has ten seconds
+for its crawler before the new items come. PROGRAM is the built program, crates/mcd/out/mcd by default.
 """
 import argparse
-import pathlib
 import shutil
 import socket
-import subprocess
 import time
 
-from tools.served import free_port
+from tools.served import MCD, MIB, AnyServer
 
-TOP = pathlib.Path(__file__).resolve().parent.parent.parent
 BATCH = 1_000
 LIFE = 3
 CRAWLER = 10
-FIRST_WAIT = 0.05
 
 
-class Client:
-    """A server that is started, and a connection to it."""
+class Client(AnyServer):
+    """A server, and a connection to it."""
 
     def __init__(self, words):
-        port = free_port()
-        self.process = subprocess.Popen([word.format(port=port) for word in words], stderr=subprocess.DEVNULL)
-        for _ in range(200):
-            try:
-                self.line = socket.create_connection(("127.0.0.1", port))
-                break
-            except OSError:
-                time.sleep(FIRST_WAIT)
-        else:
-            raise SystemExit(f"{words[0]} doesn't listen")
+        super().__init__(words)
+        self.line = socket.create_connection(("127.0.0.1", self.port))
         self.replies = self.line.makefile("rb")
 
     def store(self, name, count, exptime, size):
@@ -64,33 +52,21 @@ class Client:
         lines = iter(self.replies.readline, b"END\r\n")
         return dict(it.decode().split()[1:3] for it in lines)
 
-    def resident(self):
-        status = pathlib.Path(f"/proc/{self.process.pid}/status").read_text()
-        return int(status.partition("VmRSS:")[2].split()[0]) / 1024
-
-    def stop(self):
-        self.process.kill()
-        self.process.wait()
-
 
 def measured(words, asked, pause):
-    it = Client(words)
-    try:
+    with Client(words) as it:
         it.store(b"live", asked.live, 0, asked.size)
         it.store(b"dead", asked.dead, LIFE, asked.size)
         time.sleep(LIFE + 1 + pause)
         it.store(b"new0", asked.new, 0, asked.size)
-        told = it.stats()
-        resident = it.resident()
-        return (f"{it.left(b'live', asked.live):,} of {asked.live:,} live items left; {told['curr_items']} items, {told['evictions']} evicted, "
+        stats, resident = it.stats(), it.resident() / MIB
+        return (f"{it.left(b'live', asked.live):,} of {asked.live:,} live items left; {stats['curr_items']} items, {stats['evictions']} evicted, "
                 f"{resident:.0f} MiB resident")
-    finally:
-        it.stop()
 
 
 def main():
     reader = argparse.ArgumentParser(description="What dead items cost those that live.")
-    reader.add_argument("program", nargs="?", default=TOP / "crates/mcd/out/mcd")
+    reader.add_argument("program", nargs="?", default=MCD)
     reader.add_argument("--memory", default="64m")
     for name, value in (("--live", 100_000), ("--dead", 300_000), ("--new", 250_000), ("--size", 50)):
         reader.add_argument(name, type=int, default=value)
@@ -102,4 +78,5 @@ def main():
         print("memcached:", measured(words, asked, CRAWLER))
 
 
-main()
+if __name__ == "__main__":
+    main()

@@ -13,7 +13,7 @@ import collections
 # What a call asks of the value before it.
 ANY, IS, OTHER, ABSENT, PRESENT = range(5)
 
-# The most pairs that are followed at one time; where there are more the history isn't decided.
+# The most pairs that are followed at one time; if there are more the history isn't decided.
 MAX_PAIRS = 100_000
 
 Call = collections.namedtuple("Call", "begin end client kind given reply")
@@ -78,7 +78,7 @@ class Search:
         self.under_way = {}  # the bit of each call that has begun and not ended, and its rule
 
     def settled(self, value, done):
-        """The pair, where calls that change nothing have taken effect if they can."""
+        """The pair, if calls that change nothing have taken effect if they can."""
         for bit, rule in self.under_way.items():
             if not rule.changes and not done & bit and may(rule, value):
                 done |= bit
@@ -111,14 +111,14 @@ class Search:
 
 
 def in_time(history):
-    """The begins and ends of calls in the order of time; where two are at once the begin comes first."""
+    """The begins and ends of calls in the order of time; if two are at once the begin comes first."""
     marks = [(call.begin, 0, number) for number, call in enumerate(history)]
     marks += [(call.end, 1, number) for number, call in enumerate(history)]
     return sorted(marks)
 
 
 def check(history):
-    """Returns how many pairs there were at most; raises Refused where the history is not linearizable."""
+    """Returns how many pairs there were at most; raises Refused if the history is not linearizable."""
     values, search, most = values_of_uniques(history), Search(), 1
     free, bits = [], {}
     for _, is_end, number in in_time(history):

@@ -1,7 +1,7 @@
 #!/usr/bin/env python3
 """Loads of lines in memory, served by real threads and by a single one: commands a second, and processor time a command.
 
-    tools/bench/lines.py [ROUNDS]         the figures, medians of ROUNDS rounds (5 where none is said)
+    tools/bench/lines.py [ROUNDS]         the figures, medians of ROUNDS rounds (5 by default)
 
 The program is crates/mc_trials/out/mc_trials, as `rt ci` or `cd crates/mc_trials && rt run` builds it. Nine of ten commands
 are gets that hit, the others sets; values have 32 bytes. A batch is what one read returns: 256 commands, or one at a time. The
@@ -21,7 +21,7 @@ SECONDS = 300
 
 LINES, SHARDS, BATCHES = (1, 2, 4, 8), (1, 2, 4), (256, 1)
 
-# How many commands a load has in all: fewer where each waits for the reply before it.
+# How many commands a load has in all: fewer if each waits for the reply before it.
 COMMANDS = {256: 1_000_000, 1: 200_000}
 
 # The clock ticks of a second by which the system counts processor time.
@@ -44,11 +44,11 @@ def run(*words):
         ran = subprocess.run([PROGRAM, *map(str, words)], capture_output=True, text=True, timeout=SECONDS)
     except subprocess.TimeoutExpired:
         raise Wrong(f"{words}: no end after {SECONDS} s") from None
-    told = dict(line.split(" ", 1) for line in ran.stdout.splitlines() if " " in line)
-    if ran.returncode != 0 or told.get("wrong") != "0":
+    figures = dict(line.split(" ", 1) for line in ran.stdout.splitlines() if " " in line)
+    if ran.returncode != 0 or figures.get("wrong") != "0":
         raise Wrong(f"{words}: {ran.stdout[:200]}{ran.stderr[:200]}")
-    spent = (ticks(told["after"]) - ticks(told["before"])) / TICKS
-    return int(told["commands"]), int(told["nanoseconds"]) / 1e9, spent
+    spent = (ticks(figures["after"]) - ticks(figures["before"])) / TICKS
+    return int(figures["commands"]), int(figures["nanoseconds"]) / 1e9, spent
 
 
 def row(rounds, name, *words):

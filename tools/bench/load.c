@@ -4,7 +4,7 @@
    is a get of one key or of several (--multiget), a set, or with --meta an mg or ms. The value of a key follows from
    the key alone, so each hit is checked byte by byte, and each reply must be the one of the oldest request that is
    still open. With --sigma the lengths of values are lognormal, with --value-size as their median: a key always has the
-   same one, but where nothing is read (--sets 1) each set draws its own. With --aside a key that was missed is stored.
+   same one, but if nothing is read (--sets 1) each set draws its own. With --aside a key that was missed is stored.
    Latency counts from the moment at which a request was put into the send buffer; with --rate it counts from the moment
    at which it was due. */
 #define _GNU_SOURCE
@@ -201,7 +201,7 @@ static int is_asked(struct thread *t, struct connection *c, struct request *r, c
     return 0;
 }
 
-/* Reads one reply, or one item of it, and gives how many bytes that is; 0 where it has not come whole. */
+/* Reads one reply, or one item of it, and returns its length in bytes; 0 if it is incomplete. */
 static size_t read_reply(struct thread *t, struct connection *c, const char *at, size_t len) {
     const char *end = memchr(at, '\n', len);
     if (!end) return 0;

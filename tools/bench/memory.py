@@ -1,5 +1,5 @@
 #!/usr/bin/env python3
-"""Measures how much memory items take: of mcd, and of memcached where it is installed, in the same run.
+"""Measures how much memory items take: of mcd, and of memcached if it is installed, in the same run.
 
     python3 -m tools.bench.memory items [--key 16] [--exptime 0] [--rounds 1] [--only mcd]     bytes an item, by the length of its value
     python3 -m tools.bench.memory full        resident memory of a server that is full, by the length of its values, without expiries and with them
@@ -12,14 +12,12 @@ load.c sends the commands and checks the replies. PROGRAM, behind all options, i
 """
 import argparse
 import math
-import pathlib
 import random
 import shutil
-import subprocess
 import tempfile
 
-from tools.bench.side_by_side import TOP, Server, sent
-from tools.served import MIB
+from tools.bench.side_by_side import build_load, sent
+from tools.served import MIB, TOP, AnyServer
 
 # The lengths of values of which `items` measures, and how many items of each.
 LENGTHS = {10: 500_000, 16: 500_000, 100: 500_000, 300: 500_000, 1_000: 200_000, 1_024: 200_000, 16_384: 20_000}
@@ -30,7 +28,7 @@ COST = 88
 TARGET = 256
 
 
-class Cache(Server):
+class Cache(AnyServer):
     """A server of one shard or thread, whose items may take `megabytes` MiB, and the load generator."""
 
     def __init__(self, name, asked, megabytes):
@@ -40,16 +38,6 @@ class Cache(Server):
         }
         super().__init__(words[name])
         self.load = asked.load
-
-    def __enter__(self):
-        return self
-
-    def __exit__(self, *_why):
-        self.stop()
-
-    def resident(self, word="VmRSS"):
-        status = pathlib.Path(f"/proc/{self.process.pid}/status").read_text()
-        return int(status.partition(f"{word}:")[2].split()[0]) / 1024
 
     def sent(self, **options):
         words = [f"--{name.replace('_', '-')}={value}" for name, value in options.items() if value is not True]
@@ -68,7 +56,7 @@ def bytes_an_item(name, asked, length, count):
         before = cache.resident()
         for _ in range(asked.rounds):
             cache.sent(keys=count, **options)
-        return (cache.resident() - before) * MIB / (count - 1_000)
+        return (cache.resident() - before) / (count - 1_000)
 
 
 def items(name, asked):
@@ -84,14 +72,14 @@ def full(name, asked):
             with Cache(name, asked, asked.memory) as cache:
                 cache.sent(fill=True, keys=fit, value_size=length, exptime=exptime)
                 cache.sent(sets=1, keys=fit, value_size=length, exptime=exptime, requests=5 * fit)
-                print(f"{name}: {fit:,} values of {length:,}, exptime {exptime:,}: {cache.resident():.0f} MiB resident", flush=True)
+                print(f"{name}: {fit:,} values of {length:,}, exptime {exptime:,}: {cache.resident() / MIB:.0f} MiB resident", flush=True)
 
 
 def churn(name, asked):
     with Cache(name, asked, asked.memory) as cache:
         for millions in (1, 2, 3):
             cache.stores(120, 1.0, 1_000_000, theta=0.99, seed=millions)
-            print(f"{name}: {millions} million sets: {cache.resident() / asked.memory:.2f} budgets resident", flush=True)
+            print(f"{name}: {millions} million sets: {cache.resident() / MIB / asked.memory:.2f} budgets resident", flush=True)
 
 
 def phases(seed, megabytes):
@@ -113,17 +101,17 @@ def shift(name, asked):
         print(f"{name}: median length: budgets resident:", end="")
         for phase in phases(asked.seed, asked.memory):
             cache.stores(**phase)
-            print(f" {phase['median']}: {cache.resident() / asked.memory:.2f}", end="", flush=True)
-        print(f"; at most {cache.resident('VmHWM') / asked.memory:.2f}", flush=True)
+            print(f" {phase['median']}: {cache.resident() / MIB / asked.memory:.2f}", end="", flush=True)
+        print(f"; at most {cache.most_resident() / MIB / asked.memory:.2f}", flush=True)
 
 
 def hit_ratio(name, asked, megabytes):
-    """What is resident once 6 million keys were asked for and stored where they weren't there, and the hit ratio of the last 2 million."""
+    """What is resident once 6 million keys were asked for and stored if they weren't there, and the hit ratio of the last 2 million."""
     with Cache(name, asked, megabytes) as cache:
         options = {"zipf": True, "sets": 0, "aside": True, "keys": 3_000_000, "theta": 0.99, "sigma": 1.0, "value_size": 120, "key_size": 24}
         cache.sent(requests=4_000_000, seed=1, **options)
         counted = cache.sent(requests=2_000_000, seed=2, **options)
-        return cache.resident(), counted["hits"] / (counted["hits"] + counted["misses"])
+        return cache.resident() / MIB, counted["hits"] / (counted["hits"] + counted["misses"])
 
 
 def hits(name, asked):
@@ -141,14 +129,7 @@ def most_while_lengths_change(cache, megabytes):
     for number, (median, sigma) in enumerate(PHASES):
         sets = 4 * megabytes * MIB / (median * math.exp(sigma * sigma / 2) + COST)
         cache.stores(median, sigma, max(100_000, int(sets)), seed=number)
-    return cache.resident("VmHWM") / megabytes
-
-
-def build_load(folder):
-    """The load generator, built."""
-    made = f"{folder}/load"
-    subprocess.run(["cc", "-O2", "-std=gnu11", "-o", made, TOP / "tools/bench/load.c", "-lpthread", "-lm"], check=True)
-    return made
+    return cache.most_resident() / MIB / megabytes
 
 
 MEASURES = {it.__name__: it for it in (items, full, churn, shift, hits)}

@@ -5,7 +5,7 @@
 
 Stores items with values of 10 bytes, each with this exptime, sends `flush_all`, and stores them again. Meanwhile a connection asks for `stats`, again
 and again. A reply for which the server's threads run for more than `--least` milliseconds is a line: for how long it was awaited, for how
-much of that they ran (so a busy machine doesn't count), and how many items there were then. PROGRAM is the built program, else crates/mcd/out/mcd.
+much of that they ran (so a busy machine doesn't count), and how many items there were then. PROGRAM is the built program, crates/mcd/out/mcd by default.
 """
 import argparse
 import os
@@ -15,8 +15,7 @@ import threading
 import time
 
 from tools import served
-from tools.bench.memory import build_load
-from tools.bench.side_by_side import sent
+from tools.bench.side_by_side import build_load, sent
 
 ITEM_BYTES = 512
 
@@ -75,4 +74,5 @@ def main():
         print(f"{watch.replies:,} replies, {server.most_resident() / served.MIB:,.0f} MiB resident at most, {server.resident() / served.MIB:,.0f} at the end")
 
 
-main()
+if __name__ == "__main__":
+    main()

@@ -8,7 +8,7 @@ sets, gets of one and of three keys, increments and flushes, and all that it tak
 length the best of some rounds is printed: CPU seconds, CPU microseconds an event, how many of the events were done, and how
 many bytes the report has. If the time is linear in the length, the microseconds stay the same.
 
-PROGRAM is the built program, crates/mcd/out/mcd where none is given (`rt run` in crates/mcd builds it).
+PROGRAM is the built program, crates/mcd/out/mcd by default (`rt run` in crates/mcd builds it).
 """
 import argparse
 import pathlib
@@ -76,13 +76,13 @@ def spent():
 
 def run(program, path, rounds):
     """The least CPU time of some rounds, and what the program printed."""
-    best, told = None, b""
+    best, report = None, b""
     for _ in range(rounds):
         began = spent()
-        told = subprocess.run([program, "--replay", str(path)], stdout=subprocess.PIPE, check=True).stdout
+        report = subprocess.run([program, "--replay", str(path)], stdout=subprocess.PIPE, check=True).stdout
         taken = spent() - began
         best = taken if best is None else min(best, taken)
-    return best, told
+    return best, report
 
 
 def main():
@@ -91,15 +91,15 @@ def main():
     given.add_argument("--seed", type=int, default=1)
     given.add_argument("--rounds", type=int, default=9)
     given = given.parse_args()
-    print("| events | CPU seconds | CPU µs an event | done | bytes told |")
+    print("| events | CPU seconds | CPU µs an event | done | bytes printed |")
     print("|---|---|---|---|---|")
     with tempfile.TemporaryDirectory() as folder:
         path = pathlib.Path(folder) / "events.schedule"
         for length in LENGTHS:
             path.write_bytes(schedule(given.seed, length))
-            seconds, told = run(given.program, path, given.rounds)
-            done = int(re.search(rb"done (\d+) idle \d+\n$", told)[1])
-            print(f"| {length:,} | {seconds:.3f} | {seconds / length * 1e6:.2f} | {done:,} | {len(told):,} |")
+            seconds, report = run(given.program, path, given.rounds)
+            done = int(re.search(rb"done (\d+) idle \d+\n$", report)[1])
+            print(f"| {length:,} | {seconds:.3f} | {seconds / length * 1e6:.2f} | {done:,} | {len(report):,} |")
 
 
 if __name__ == "__main__":

@@ -7,24 +7,19 @@ Each round starts both servers again, fills them with all keys, and runs every w
 other; the next round begins with the other. tools/bench/load.c sends the requests and checks every reply. Printed are
 medians over the rounds: requests a second, CPU microseconds a request of the server (from /proc), the ratio of mcd to
 memcached of both, and the latencies that half of the requests, 99 of 100 and 999 of 1,000 don't pass. A workload of
-more connections than mcd has seats is left out. PROGRAM is the built program, crates/mcd/out/mcd where none is given.
+more connections than mcd has seats is left out. PROGRAM is the built program, crates/mcd/out/mcd by default.
 """
 import argparse
+import contextlib
 import json
-import os
 import pathlib
 import re
 import shutil
-import socket
 import statistics
 import subprocess
 import tempfile
-import time
 
-from tools.served import free_port
-
-TOP = pathlib.Path(__file__).resolve().parent.parent.parent
-TICK = os.sysconf("SC_CLK_TCK")
+from tools.served import TOP, AnyServer
 
 # A workload: its name, and the words for the load generator. 100,000 keys of 16 bytes, values of 100, a tenth sets.
 WORKLOADS = [
@@ -44,25 +39,11 @@ WORKLOADS = [
 ]
 
 
-class Server:
-    def __init__(self, words):
-        self.port = free_port()
-        self.process = subprocess.Popen([word.format(port=self.port) for word in words], stderr=subprocess.DEVNULL)
-        for _ in range(200):
-            try:
-                socket.create_connection(("127.0.0.1", self.port)).close()
-                return
-            except OSError:
-                time.sleep(0.05)
-        raise SystemExit(f"{words[0]} doesn't listen")
-
-    def cpu_seconds(self):
-        fields = pathlib.Path(f"/proc/{self.process.pid}/stat").read_text().rpartition(")")[2].split()
-        return (int(fields[11]) + int(fields[12])) / TICK
-
-    def stop(self):
-        self.process.kill()
-        self.process.wait()
+def build_load(folder):
+    """The load generator, built in this folder."""
+    made = f"{folder}/load"
+    subprocess.run(["cc", "-O2", "-std=gnu11", "-o", made, TOP / "tools/bench/load.c", "-lpthread", "-lm"], check=True)
+    return made
 
 
 def sent(load, server, words):
@@ -78,9 +59,9 @@ def sample(load, server, words, seconds):
     places = [words.index(word) for word in spread]
     sent(load, server, ["--fill", "--connections", "4", *(it for at in places for it in words[at:at + 2])])
     before = server.cpu_seconds()
-    told = sent(load, server, [*words, "--seconds", str(seconds)])
-    cpu = (server.cpu_seconds() - before) * 1e6 / told["requests"]
-    return told["rate"], cpu, told["p50_us"], told["p99_us"], told["p999_us"]
+    figures = sent(load, server, [*words, "--seconds", str(seconds)])
+    cpu = (server.cpu_seconds() - before) * 1e6 / figures["requests"]
+    return figures["rate"], cpu, figures["p50_us"], figures["p99_us"], figures["p999_us"]
 
 
 def workloads(given):
@@ -98,12 +79,11 @@ def measure(given, load):
     found = {}
     for number in range(given.rounds):
         names = list(servers) if number % 2 == 0 else list(servers)[::-1]
-        running = {name: Server(servers[name]) for name in names}
-        for workload, words in workloads(given):
-            for name in names:
-                found.setdefault((workload, name), []).append(sample(load, running[name], words.split(), given.seconds))
-        for server in running.values():
-            server.stop()
+        with contextlib.ExitStack() as stack:
+            running = {name: stack.enter_context(AnyServer(servers[name])) for name in names}
+            for workload, words in workloads(given):
+                for name in names:
+                    found.setdefault((workload, name), []).append(sample(load, running[name], words.split(), given.seconds))
         print(f"round {number + 1} of {given.rounds}", flush=True)
     return found
 
@@ -127,13 +107,13 @@ def table(found):
     latencies = ["", "| workload | mcd: p50, p99, p99.9 in µs | memcached: the same |", "|---|---|---|"]
     for workload, ours, theirs, rate, cpu in rows(found):
         rates.append(f"| {workload} | {ours[0]:,.0f}, {ours[1]:.2f} | {theirs[0]:,.0f}, {theirs[1]:.2f} | {rate:.2f} | {cpu:.2f} |")
-        told = [", ".join(f"{it:,.0f}" for it in one[2:]) for one in (ours, theirs)]
-        latencies.append(f"| {workload} | {told[0]} | {told[1]} |")
+        texts = [", ".join(f"{it:,.0f}" for it in one[2:]) for one in (ours, theirs)]
+        latencies.append(f"| {workload} | {texts[0]} | {texts[1]} |")
     return "\n".join(rates + latencies) + "\n"
 
 
 def plot(found, folder):
-    """Bars of the ratios of CPU a request and of requests a second, by gnuplot where it is installed."""
+    """Bars of the ratios of CPU a request and of requests a second, by gnuplot if it is installed."""
     if not shutil.which("gnuplot"):
         return
     data = "\n".join(f'"{workload}" {rate:.3f} {cpu:.3f}' for workload, _, _, rate, cpu in rows(found))
@@ -167,9 +147,7 @@ def main():
     parser.add_argument("program", nargs="?", default=str(TOP / "crates/mcd/out/mcd"))
     given = parser.parse_args()
     with tempfile.TemporaryDirectory() as folder:
-        load = f"{folder}/load"
-        subprocess.run(["cc", "-O2", "-std=gnu11", "-o", load, TOP / "tools/bench/load.c", "-lpthread", "-lm"], check=True)
-        found = measure(given, load)
+        found = measure(given, build_load(folder))
     given.folder.mkdir(parents=True, exist_ok=True)
     (given.folder / "side-by-side.md").write_text(table(found))
     plot(found, given.folder)

@@ -1,7 +1,7 @@
 #!/usr/bin/env python3
 """Runs mixed load against two servers for as long as is said, with checkers beside it that miss nothing.
 
-    tools/bench/soak.py [--rest SECONDS] [--seed N] [SECONDS]     60 where none is said
+    tools/bench/soak.py [--rest SECONDS] [--seed N] [SECONDS]     60 by default
 
 One server has room for everything: there no item may get lost. The other is small and is flushed again and again: there
 items may go, and nothing else. On both checkers on keys of their own (`soak_checker.py`) know each reply beforehand: none may
@@ -179,8 +179,8 @@ def is_flat(seen):
 def judged(what, server, found, clients, given):
     """Of one server, what its clients report, how much memory it took, and whether it still runs: each with whether it holds."""
     for _ in clients:
-        holds, told = given.get(timeout=60)
-        yield holds, f"{what}: {told}"
+        holds, note = given.get(timeout=60)
+        yield holds, f"{what}: {note}"
     yield is_flat(found), f"{what}: memory stays ({min(found) / MIB:.0f} to {max(found) / MIB:.0f} MiB, at the end {found[-1] / MIB:.0f})"
     yield server.is_running(), f"{what}: the server still runs, and took {server.cpu_seconds():.0f} s of a processor"
 
@@ -202,7 +202,7 @@ def main():
     needs_program()
     bounded(int(given.seconds) + 300)
     found = soak(given.seconds, given.rest, given.seed)
-    print(*(f"{'ok' if holds else 'FAILED'} soak, {told}" for holds, told in found), sep="\n")
+    print(*(f"{'ok' if holds else 'FAILED'} soak, {note}" for holds, note in found), sep="\n")
     return 0 if all(holds for holds, _ in found) else 1
 
 

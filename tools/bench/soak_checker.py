@@ -51,14 +51,14 @@ class Checker:
 
     # What is read.
 
-    def told(self):
+    def line_got(self):
         line = self.replies.readline()
         if not line.endswith(b"\r\n"):
             raise AssertionError(f"lost: the connection ends with {line!r}")
         return line[:-2]
 
-    def wants(self, wanted):
-        found = self.told()
+    def expects(self, wanted):
+        found = self.line_got()
         if found != wanted:
             raise AssertionError(f"{found!r:.120} in place of {wanted!r:.120}")
 
@@ -91,21 +91,21 @@ class Checker:
         value = self.value(key)
 
         def reads():
-            self.wants(b"STORED")
+            self.expects(b"STORED")
             self.held[key] = value
 
         return set_of(key, value), reads
 
     def get(self, key):
         def reads():
-            found = self.told()
+            found = self.line_got()
             if found == b"END":
                 return self.misses(key)
             word, its, flags, size = found.split(b" ")
             if (word, its, flags) != (b"VALUE", key, b"0"):
                 raise AssertionError(f"{found!r:.120} in reply to a get of {key!r}")
             self.block(key, int(size))
-            self.wants(b"END")
+            self.expects(b"END")
 
         return b"get %s\r\n" % key, reads
 
@@ -116,18 +116,18 @@ class Checker:
             def joined():
                 self.held[key] += more
 
-            self.if_present(key, self.told(), b"STORED", b"NOT_STORED", joined)
+            self.if_present(key, self.line_got(), b"STORED", b"NOT_STORED", joined)
 
         return b"append %s 0 0 %d\r\n%s\r\n" % (key, len(more), more), reads
 
     def delete(self, key):
-        return b"delete %s\r\n" % key, lambda: self.if_present(key, self.told(), b"DELETED", b"NOT_FOUND", lambda: self.held.pop(key))
+        return b"delete %s\r\n" % key, lambda: self.if_present(key, self.line_got(), b"DELETED", b"NOT_FOUND", lambda: self.held.pop(key))
 
     def add(self, key):
         value = self.value(key)
 
         def reads():
-            found = self.told()
+            found = self.line_got()
             if found == b"STORED":
                 self.misses(key)
                 self.held[key] = value
@@ -140,7 +140,7 @@ class Checker:
         value, opaque = self.value(key), b"%d" % self.count
 
         def reads():
-            self.wants(b"HD O%s k%s s%d" % (opaque, key, len(value)))
+            self.expects(b"HD O%s k%s s%d" % (opaque, key, len(value)))
             self.held[key] = value
 
         return b"ms %s %d O%s k s\r\n%s\r\n" % (key, len(value), opaque, value), reads
@@ -149,7 +149,7 @@ class Checker:
         opaque = b"%d" % self.count
 
         def reads():
-            found, tail = self.told(), b" O%s k%s" % (opaque, key)
+            found, tail = self.line_got(), b" O%s k%s" % (opaque, key)
             if found == b"EN" + tail:
                 return self.misses(key)
             size = found.split(b" ")[1]
@@ -164,9 +164,9 @@ class Checker:
         key = b"%s-count" % self.name
 
         def reads():
-            found, number = self.told(), int(self.held.get(key, b"-1")) + 1
+            found, number = self.line_got(), int(self.held.get(key, b"-1")) + 1
             self.if_present(key, found, b"%d" % number, b"NOT_FOUND", lambda: self.held.update({key: b"%d" % number}))
-            if self.told() == b"STORED":
+            if self.line_got() == b"STORED":
                 self.misses(key)
                 self.held[key] = b"0"
 
@@ -178,10 +178,10 @@ class Checker:
         # (a key that is stored again has no time until its reply is read: a get behind it in the same batch may find it)
         until = self.brief.pop(key, None)
         if until and until < time.time():
-            return b"get %s\r\n" % key, lambda: self.wants(b"END")
+            return b"get %s\r\n" % key, lambda: self.expects(b"END")
 
         def reads():
-            self.wants(b"STORED")
+            self.expects(b"STORED")
             self.brief[key] = time.time() + 2.5
 
         return b"set %s 0 1 1\r\nx\r\n" % key, reads

@@ -7,9 +7,9 @@
 
 Instructions are those outside system calls, counted by valgrind's callgrind as the difference of two runs, so that
 the start and the filling of the cache are left out: all keys are stored before anything is counted. With --count the
-same is measured of memcached (one worker thread, over a socket), where it is installed.
+same is measured of memcached (one worker thread, over a socket), if it is installed.
 
-PROGRAM is the built program, crates/mcd/out/mcd where none is given (`rt run` in crates/mcd builds it).
+PROGRAM is the built program, crates/mcd/out/mcd by default (`rt run` in crates/mcd builds it).
 """
 import argparse
 import pathlib

@@ -74,7 +74,7 @@ class Client:
         self.socket.sendall(text)
 
     def take(self):
-        """Reads what came; True where the reply is whole. It ended after its last byte came."""
+        """Reads what came; True if the reply is whole. It ended after its last byte came."""
         got = self.socket.recv(4096)
         if not got:
             raise AssertionError("lost: the connection ends")
@@ -156,16 +156,16 @@ def by_key(calls):
     return histories
 
 
-def told_in_memory(commands, seed):
+def calls_in_memory(commands, seed):
     """The history of each key, of lines over memory."""
     words = ["history", CONNECTIONS, SHARDS, commands // CONNECTIONS, seed]
     ran = subprocess.run([*WITH_US, TRIALS, *map(str, words)], capture_output=True, text=True, timeout=LIMIT_SECONDS)
     if ran.returncode != 0 or not ran.stdout.startswith("line 0\n"):
         raise AssertionError(f"mc_trials ends with {ran.returncode}: {ran.stdout[:80]}{ran.stderr[:200]}")
-    return by_key(calls_told(ran.stdout.splitlines()))
+    return by_key(calls_of(ran.stdout.splitlines()))
 
 
-def calls_told(rows):
+def calls_of(rows):
     """The calls, with their keys, from the rows: `line NUMBER`, then each call of that line."""
     for row in rows:
         asked, bar, reply = row.partition("|")
@@ -179,7 +179,7 @@ def calls_told(rows):
         yield int(key.removeprefix("linear-")), call
 
 
-# Faults, put into a history that was recorded. Each returns a history that no order explains, or None where there is no place
+# Faults, put into a history that was recorded. Each returns a history that no order explains, or None if there is no place
 # for it.
 
 def writers(history):
@@ -245,7 +245,7 @@ FAULTS = (old_value_after_a_set, older_item, found_after_a_delete, lost_count)
 
 
 def refusal(history):
-    """Why the checker refuses the history; None where it doesn't."""
+    """Why the checker refuses the history; None if it doesn't."""
     try:
         check(history)
     except Refused as why:
@@ -257,7 +257,7 @@ def refusal(history):
 def histories(request):
     """The history of each key, over sockets and over memory."""
     if request.param == "memory":
-        return told_in_memory(COMMANDS, SEED)
+        return calls_in_memory(COMMANDS, SEED)
     with Server("--seats", CONNECTIONS, "--shards", SHARDS) as server:
         return recorded(server.port, COMMANDS, SEED)
 

@@ -2,7 +2,8 @@
 import argparse
 
 from tools import served
-from tools.bench.memory import Cache, build_load, most_while_lengths_change
+from tools.bench.memory import Cache, most_while_lengths_change
+from tools.bench.side_by_side import build_load
 
 MEGABYTES = 64
 

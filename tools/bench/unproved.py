@@ -1,7 +1,7 @@
 #!/usr/bin/env python3
 """Builds the program without proving it, to measure a form before it is proved.
 
-    tools/bench/unproved.py OUT [CRATE]     the program of the crate (mcd where none is given), as the executable OUT
+    tools/bench/unproved.py OUT [CRATE]     the program of the crate (mcd by default), as the executable OUT
 
 `rt try` compiles a program before any proof, with checks of what a proof would show. Its module is taken from it here, those
 checks are taken out of it, and it is compiled as the program is. What the compiler learns from the prover is missing, so it takes about

@@ -1,5 +1,5 @@
 #!/usr/bin/env python3
-"""Measures what a command costs where the server is watched: with counters and metrics, and with a limit of idle time.
+"""Measures what metrics, an idle timeout and the log of connections cost a command.
 
     tools/bench/watched.py [PROGRAM]
 
@@ -8,7 +8,7 @@ same commands awaiting each reply. Instructions are those of the thread that ser
 valgrind's callgrind as the difference of two runs, so that the start and the filling of the cache are left out. The threads
 that serve metrics and count seconds work whether commands come or not, and are left out.
 
-PROGRAM is the built program, crates/mcd/out/mcd where none is given.
+PROGRAM is the built program, crates/mcd/out/mcd by default.
 """
 import pathlib
 import re
@@ -66,8 +66,8 @@ def served(program, folder, options, commands, awaits):
     server = [program, "--listen", "127.0.0.1:0", "--shards", "1", "--seats", "1", "--connections", "1", *options]
     # Few open files are allowed, so that the server needs no more than valgrind leaves.
     process = subprocess.Popen(["sh", "-c", 'ulimit -n 1024; exec "$@"', "", *valgrind, *server], stderr=subprocess.PIPE, text=True)
-    for told in process.stderr:
-        if found := re.search(r"listening on 127\.0\.0\.1:(\d+)$", told):
+    for line in process.stderr:
+        if found := re.search(r"listening on 127\.0\.0\.1:(\d+)$", line):
             break
     rest = threading.Thread(target=process.stderr.read)
     rest.start()

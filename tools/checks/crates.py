@@ -3,7 +3,7 @@
 
     tools/checks/crates.py            prints the picture
     tools/checks/crates.py --write    puts it into docs/ARCHITECTURE.md
-    tools/checks/crates.py --check    fails where that page has another picture, or has no row for a crate, or where a line of
+    tools/checks/crates.py --check    fails if that page has another picture, or has no row for a crate, or if a line of
                                       crates.txt lists a crate that no file of its crate names
 
 A crate depends on those that an arrow leads to, and on all that these depend on; crates of the kit are left out. Each line is one
@@ -47,11 +47,11 @@ def height(crates, name):
 
 def picture():
     crates = read()
-    stands_on = reduced(crates)
+    dependencies = reduced(crates)
     layers = {}
     for name in sorted(crates):
         layers.setdefault(height(crates, name), []).append(name)
-    lines = [f"{name} -> {', '.join(stands_on[name])}" if stands_on[name] else name for layer in sorted(layers, reverse=True) for name in layers[layer]]
+    lines = [f"{name} -> {', '.join(dependencies[name])}" if dependencies[name] else name for layer in sorted(layers, reverse=True) for name in layers[layer]]
     widest = max(len(line.split(" -> ")[0]) for line in lines)
     rows = [f"{line.split(' -> ')[0]:>{widest}}" + (f" ──> {line.split(' -> ')[1]}" if " -> " in line else "") for line in lines]
     return "```\n" + "\n".join(rows) + "\n```\n"

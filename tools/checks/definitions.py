@@ -4,7 +4,7 @@ the constants, each with the lines that a reader has to check.
 
     tools/checks/definitions.py            prints the tables
     tools/checks/definitions.py --write    puts them into docs/TRUSTED.md
-    tools/checks/definitions.py --check    fails where docs/TRUSTED.md has others, or where a contract that README.md or docs/PROOFS.md
+    tools/checks/definitions.py --check    fails if docs/TRUSTED.md has others, or if a contract that README.md or docs/PROOFS.md
                                       quotes is not the one in the code (the gate does this)
 
 A definition is counted where a theorem reaches it, through others or alone, and comes after those that it depends on; so is a
@@ -72,7 +72,7 @@ def type_file(crate, name):
 
 @functools.cache
 def value_of(name):
-    """The value of a constant, also where it is named after another one."""
+    """The value of a constant, even if it is named after another one."""
     for file in (it for crate in crate_order() for it in code_of(crate)):
         if found := re.search(rf"^(?:pub(?:\(.*?\))? )?const {name}: \w+ = (.*);$", text_of(file), re.M):
             return found[1] if found[1][0].isdigit() else value_of(found[1]) or found[1]
@@ -184,7 +184,7 @@ class Reached:
             self.type(type_file(crate, kind)[0], kind)
 
     def type(self, file, name):
-        """Reaches a type or a trait: what it says, or its model where it has one, and the types that this names."""
+        """Reaches a type or a trait: what it says, or its model if it has one, and the types that this names."""
         if (file, name) in self.types or (file, name) in SEALED:
             return
         said = re.search(rf"^(?:pub(?:\(.*?\))? )?(?:struct|enum|trait) {name}\b(?:[^\n]*;$|.*?^\}}|[^\n]*\}}$)", text_of(file), re.M | re.S)[0]

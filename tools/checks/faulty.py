@@ -37,7 +37,7 @@ def forgets(whole, _first):
     return whole[: whole.rfind(b"\n", 0, len(whole) - 2) + 1] if whole.endswith(b"\nm") else whole
 
 
-# Faults of what it makes of its input, where that is standard input.
+# Faults of what it makes of its input, if that is standard input.
 INPUTS = {
     "reads once": lambda whole, first: first,
     "reads a line end more": lambda whole, first: whole + b"\r\n",
@@ -174,7 +174,7 @@ class StoresTornBlocks(Honest):
 
 
 class TakesForWhatIsOpen(Honest):
-    """Takes 4 MiB more where a piece ends within a line or a block, once for each connection."""
+    """Takes 4 MiB more if a piece ends within a line or a block, once for each connection."""
 
     def up(self, got):
         if not self.sent and not got.endswith(b"\n"):
@@ -239,7 +239,7 @@ LINES = {
     "ends a connection after two seconds": EndsSoon, "asks more than its clients": AsksMore, "lets vanished clients be": Honest,
 }
 
-# The signals that end a program in order where they are blocked, and one that ends nothing then.
+# The signals that end a program in order if they are blocked, and one that ends nothing then.
 ENDING = {signal.SIGTERM, signal.SIGINT}
 BLOCKED = ENDING | {signal.SIGHUP}
 
@@ -336,11 +336,11 @@ def elsewhere(words):
 
 
 def everywhere(words):
-    """The words with all addresses of the machine where they name none."""
+    """The words with all addresses of the machine if they name none."""
     return words if "--listen" in words else [*words, "--listen", "0.0.0.0:11211"]
 
 
-def stands_still(words):
+def with_fixed_clock(words):
     return [*words, "--at", "1000"] if "--stdio" in words and "--at" not in words else words
 
 
@@ -374,7 +374,8 @@ CALLS = {
     "ignores the window": without(["--window"]),
     "ignores the idle timeout": without(["--idle-timeout"]),
     "ignores the mode of a socket": without(["--unix-mask", "-a"]),
-    "ignores the number of connections": without(["--connections"]), "serves no metrics": without(["--metrics"]), "has a clock that stands still": stands_still,
+    "ignores the number of connections": without(["--connections"]), "serves no metrics": without(["--metrics"]),
+    "has a clock that never moves": with_fixed_clock,
     "listens at each address": everywhere,
     "has two shards": instead("--shards", "2"), "cuts connections off at once": instead("--drain", "0"), "drains for an hour": instead("--drain", "3600"),
 }
@@ -439,7 +440,7 @@ def prints_where_it_plans(fault, program, words):
 
 
 def one_fewer(words):
-    """The words with a connection fewer, where they name more than one."""
+    """The words with a connection fewer, if they name more than one."""
     if "--connections" in words:
         at = words.index("--connections") + 1
         words[at] = str(max(1, int(words[at]) - 1))

@@ -1,15 +1,17 @@
 #!/usr/bin/env python3
-"""Checks seven rules of the house: what a reader meets first in a contract, in a proof and in the documents.
+"""Checks six rules of lemmas, imports and documents.
 
-    tools/checks/house.py            fails where a rule is broken, and names each place (the gate does this)
+    tools/checks/house.py            fails if a rule is broken, and names each place (the gate does this)
     tools/checks/house.py --counts   how many clauses and lemmas there are, crate by crate
 
-A clause (`requires`, `ensures`, or what a trait or type promises under `ghost`) has no line of more than 100 columns: a longer
-one goes on in further lines, broken at its arrows first. A lemma that another file cites has a comment directly above it, which
-says in a sentence what it says. Something cites each lemma, and no two say the same: worked rows aside, which stand for themselves,
-and those inside a block (`module _ .. where`), which aren't looked at. A file uses each definition and lemma that it imports. No crate
-but those of tests makes a source of random bytes: no clause says where a secret is drawn from, and there is no other one to draw from then. A
-paragraph of the documents (a line outside tables and blocks of code) has at most 600 characters.
+1. A lemma that another file cites has a comment directly above it, which says in a sentence what it says.
+2. Something cites each lemma, but for worked rows and those inside a block (`module _ .. where`).
+3. No two lemmas say the same.
+4. A file uses each definition and lemma that it imports.
+5. No crate but those of tests makes a source of random bytes: no clause says where a secret is drawn from, so there is one source only.
+6. A paragraph of the documents (a line outside tables and blocks of code) has at most 600 characters.
+
+The width of lines is checked by width.py.
 """
 import argparse
 import collections
@@ -21,7 +23,6 @@ sys.path.insert(0, str(pathlib.Path(__file__).resolve().parents[2]))
 
 from tools.sources import COMMENT, CRATES, TOP, clause_spans, files, imports, text_of, without_comments  # noqa: E402
 
-COLUMNS = 100
 CHARACTERS = 600
 TACTIC = re.compile(r"\bproofs(?:::\w+)*::([\w-]+)")
 LEMMA = re.compile(r" *pub (?:(?:unfoldable|abbrev) )?([^\s:(){}]+) :|(?:unfoldable|abbrev) pub ([^\s:(){}]+) :")
@@ -37,27 +38,30 @@ DOCUMENTS = ["docs/*.md", "README.md", "CONTRIBUTING.md", "tools/README.md"]
 ANSWERS = {"Proof.antt", "Invariants.antt", "Answers.antt"}
 
 
+def crate_of(file):
+    """The name of the crate that a file is of."""
+    return file.relative_to(CRATES).parts[0]
+
+
 def clauses():
-    """The lines of each clause: the file, the number of its first line, and the lines."""
+    """The crate of each clause."""
     for file in files("src"):
-        lines = text_of(file).splitlines()
-        for first, end in clause_spans(lines):
-            yield file, first + 1, lines[first:end]
+        yield from (crate_of(file) for _ in clause_spans(text_of(file).splitlines()))
 
 
 def cited():
     """The names that other files import, with their modules, and those that a tactic names."""
-    names, told = set(), set()
+    names, by_tactics = set(), set()
     for file in files("proofs"):
         names |= {(module, there) for _, module, there, _ in imports(text_of(file))}
     for file in files("src"):
-        told |= set(TACTIC.findall(text_of(file)))
-    return names, told
+        by_tactics |= set(TACTIC.findall(text_of(file)))
+    return names, by_tactics
 
 
 def lemmas():
     """The lemmas that other files cite: the file, the line, the name, and whether a sentence is above it."""
-    names, told = cited()
+    names, by_tactics = cited()
     for file in files("proofs"):
         if file.name in ANSWERS:
             continue
@@ -67,7 +71,7 @@ def lemmas():
         for number, line in enumerate(lines):
             if found := LEMMA.match(line):
                 name = found[1] or found[2]
-                if (module, name) in names or name in told:
+                if (module, name) in names or name in by_tactics:
                     yield file, number + 1, name, number > 0 and lines[number - 1].lstrip().startswith("--")
 
 
@@ -131,7 +135,7 @@ def sources():
     for file in files("src"):
         text = text_of(file)
         for found in re.finditer(r"\bRandomSource\s+for\b", text):
-            if not file.relative_to(CRATES).parts[0].endswith("_tests"):
+            if not crate_of(file).endswith("_tests"):
                 yield file, text.count("\n", 0, found.start()) + 1
 
 
@@ -149,16 +153,12 @@ def paragraphs():
 def findings():
     """How many clauses and lemmas each crate has, and the places where a rule is broken."""
     counts, faults = collections.defaultdict(lambda: [0, 0]), []
-    for file, number, lines in clauses():
-        counts[file.relative_to(CRATES).parts[0]][0] += 1
-        for place, line in enumerate(lines, number):
-            # The layout keeps what a field promises and its proof on one line.
-            if len(line.partition(" by {")[0]) > COLUMNS:
-                faults.append(f"{file.relative_to(TOP)}:{place}: a clause's line of {len(line)} columns, of {COLUMNS} at most")
-    for file, number, name, is_told in lemmas():
-        counts[file.relative_to(CRATES).parts[0]][1] += 1
-        if not is_told:
-            faults.append(f"{file.relative_to(TOP)}:{number}: {name} is cited elsewhere, and no sentence stands above it")
+    for crate in clauses():
+        counts[crate][0] += 1
+    for file, number, name, is_explained in lemmas():
+        counts[crate_of(file)][1] += 1
+        if not is_explained:
+            faults.append(f"{file.relative_to(TOP)}:{number}: {name} is cited elsewhere, and no sentence is above it")
     for file, number, name in uncited():
         faults.append(f"{file.relative_to(TOP)}:{number}: nothing cites {name}")
     for file, number, name, other in stated_twice():

@@ -1,6 +1,6 @@
-/* Loaded before a program (LD_PRELOAD), it refuses one allocation: the one whose number, counted from 1, stands in
-   the environment as REFUSE_NTH; where REFUSE_REST stands there too, all that follow it as well. At the first it says
-   so on standard error, so that the caller knows that the program came that far. */
+/* Loaded before a program (LD_PRELOAD), it refuses one allocation: the one whose number, counted from 1, is REFUSE_NTH
+   in the environment. If REFUSE_REST is set, it also refuses all that follow. It reports the first one on standard
+   error, so that the caller knows that the program came that far. */
 #define _GNU_SOURCE
 #include <dlfcn.h>
 #include <errno.h>

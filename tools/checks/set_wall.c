@@ -1,5 +1,5 @@
-/* Loaded before a program (LD_PRELOAD), it moves the wall clock under it, by as many seconds as the file says that the environment
-   names as WALL_OFFSET. The monotonic clock stays as it is. */
+/* Loaded before a program (LD_PRELOAD), it moves the wall clock by the number of seconds in the file that WALL_OFFSET names in
+   the environment. The monotonic clock isn't changed. */
 #define _GNU_SOURCE
 #include <dlfcn.h>
 #include <stdio.h>

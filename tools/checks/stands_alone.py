@@ -1,5 +1,5 @@
 #!/usr/bin/env python3
-"""Fails where a file of the repository leans on something outside it.
+"""Fails if a file of the repository depends on something outside it.
 
 The repository must read whole to someone who has nothing else: no path of the machine that it was
 written on, no folder beside the repository, and no rule cited by its number in a paper that the reader
@@ -59,7 +59,7 @@ def main():
                     print(f"{path.relative_to(TOP)}:{number}: {what}: {line.strip()[:120]}")
                     faults += 1
     if faults:
-        print(f"{faults} places lean on something outside the repository")
+        print(f"{faults} places depend on something outside the repository")
         return 1
     return 0
 

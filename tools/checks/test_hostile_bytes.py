@@ -109,7 +109,7 @@ def may_be_silent(line):
 
 
 def replies_in(text):
-    """How many whole replies a text is made of, or None where it ends amid one. What a get shows goes on to its last line."""
+    """How many whole replies a text is made of, or None if it ends within one. What a get shows goes on to its last line."""
     count, at, is_open = 0, 0, False
     while at < len(text):
         end = text.find(b"\r\n", at)

@@ -25,8 +25,8 @@ FAULTY_CALLS = [
 
 def is_refused_address(address, shown=None):
     """The program reports that it can't listen, and why it can't listen there."""
-    status, out, told = ended("--listen", address)
-    first, _, second = told.partition("\n")
+    status, out, errors = ended("--listen", address)
+    first, _, second = errors.partition("\n")
     assert (status, out, first) == (1, "", "mcd: cannot listen"), address
     assert second.startswith(f"mcd: --listen {shown or address}: ") and second.count("\n") == 1
 
@@ -49,21 +49,21 @@ def test_what_is_no_address_is_refused():
 @fails_with("ends with 0", "ends with 1")
 def test_faults_of_the_command_line_end_with_2():
     for call in FAULTY_CALLS:
-        status, out, told = ended(*call.split())
-        assert (status, out, bool(told)) == (2, "", True), call
+        status, out, errors = ended(*call.split())
+        assert (status, out, bool(errors)) == (2, "", True), call
 
 
 @fails_with("ends with 0")
-def test_a_file_that_cannot_be_read_is_told():
+def test_a_file_that_cannot_be_read_is_reported():
     for file in (TOP / "examples/no such file", TOP / "examples"):
-        status, out, told = ended("--replay", str(file))
-        first, _, reason = told.partition("\n")
+        status, out, errors = ended("--replay", str(file))
+        first, _, reason = errors.partition("\n")
         assert (status, out, first) == (1, "", "mcd: cannot read the file"), file
         assert reason.startswith(f"mcd: --replay {file}: ")
 
 
 @fails_with("ends with 0")
-def test_a_replay_that_cannot_be_written_is_told():
+def test_a_replay_that_cannot_be_written_is_reported():
     for file in sorted(TOP.glob("examples/*.schedule")):
         with open("/dev/full", "wb") as full:
             ran = run("--replay", file, stdout=full)
@@ -72,8 +72,8 @@ def test_a_replay_that_cannot_be_written_is_told():
 
 @fails_with("ends with 1")
 def test_help_ends_with_0():
-    status, out, told = ended("--help")
-    assert (status, "--listen" in out, told) == (0, True, "")
+    status, out, errors = ended("--help")
+    assert (status, "--listen" in out, errors) == (0, True, "")
 
 
 def leaves(port, number):

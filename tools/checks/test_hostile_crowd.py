@@ -35,7 +35,7 @@ async def connected(port):
 
 
 async def asked(reader, writer, sent, wanted):
-    """Sends it, and wants this reply in time; the seconds that it took."""
+    """Sends it, and expects this reply in time; the seconds that it took."""
     began = time.monotonic()
     writer.write(sent)
     assert await asyncio.wait_for(reader.readexactly(len(wanted)), PATIENCE) == wanted

@@ -58,9 +58,9 @@ def compared(what, lines, kinds, step, command):
         for line, keys, found in zip(lines, batches, took):
             found.append(seconds_of(line, keys, command))
     chosen, other = map(statistics.median, took)
-    told = f"{what} {chosen * 1e6:.1f} µs, at random {other * 1e6:.1f}"
-    assert chosen <= 2 * other, f"chosen keys cost more than twice: {told}"
-    return told
+    note = f"{what} {chosen * 1e6:.1f} µs, at random {other * 1e6:.1f}"
+    assert chosen <= 2 * other, f"chosen keys cost more than twice: {note}"
+    return note
 
 
 @fails_with("slow for chosen keys")
@@ -73,5 +73,5 @@ def test_keys_of_one_hash_cost_no_more():
     assert hashes[0] == 1 and hashes[1] >= 1000, f"the keys are not as meant, but of {hashes} hashes"
     options = ("--shards", 2, "--bytes", 512 * MIB)
     with Server(*options) as ours, Server(*options) as theirs, Line(ours.port) as one, Line(theirs.port) as other:
-        told = [compared("set", (one, other), kinds, 1, b"ms %s 1 q\r\nv\r\n"), compared("get", (one, other), kinds, 4, b"mg %s q\r\n")]
-        print("; ".join(told))
+        note = [compared("set", (one, other), kinds, 1, b"ms %s 1 q\r\nv\r\n"), compared("get", (one, other), kinds, 4, b"mg %s q\r\n")]
+        print("; ".join(note))

@@ -217,7 +217,7 @@ def test_each_seat_serves_one_client_after_another(count=4000):
 
 
 @fails_with("ends a connection after a gigabyte", "changes a byte")
-def test_more_than_a_gigabyte_goes_over_one_connection(count=136):
+def test_one_connection_carries_more_than_a_gigabyte(count=136):
     """Each way: values of 8 MiB are stored and read. A count of bytes of 30 bits would be at its end."""
     value = random.Random(2).randbytes(8 * MIB)
     wanted = hit_of(b"a", value)

@@ -77,7 +77,7 @@ def test_announced_gigabytes_are_not_held():
 
 @fails_with("takes 4 MiB for what is open")
 def test_open_blocks_take_little_address_space():
-    """What is taken and not written to isn't resident, but counts where the system limits what is taken (ulimit -v)."""
+    """What is taken and not written to isn't resident, but counts if the system limits what is taken (ulimit -v)."""
     with served() as server:
         lines = [Line(server.port) for _ in range(SEATS)]
         for line in lines:

@@ -56,7 +56,7 @@ def relay_spoiled(server, client, spoil):
 
 
 def spoils(server, client, spoil, honest=relay_spoiled):
-    """Spoils a reply also where none is to be spoiled."""
+    """Spoils a reply even if none is to be spoiled."""
     honest(server, client, spoil or SPOILED["torn"])
 
 
@@ -138,7 +138,7 @@ def test_strangers_are_seen():
 
 @fails_with("drops connections", "changes a byte", "takes 1 MiB a connection")
 def test_a_short_soak():
-    assert [told for holds, told in soaking.soak(6) if not holds] == []
+    assert [note for holds, note in soaking.soak(6) if not holds] == []
 
 
 def test_the_soak_beside_them(soak):

@@ -99,7 +99,7 @@ def is_served(port):
 
 @fails_with("is another process")
 def test_open_files_that_run_out_refuse_by_memcacheds_rules():
-    """Where no more files may be open, each further connection is answered and closed, as where no seat is free."""
+    """Where no more files may be open, each further connection is answered and closed, as if no seat were free."""
     with Server("--seats", 16, "--drop-in") as server:
         with Line(server.port) as first:
             first.ask(ASKED, ANSWERED)
@@ -171,8 +171,8 @@ def test_replies_are_not_gathered_by_the_system(server):
     with Line(server.port) as first, Line(server.port) as second:
         for line in (first, second):
             line.ask(ASKED, ANSWERED)
-        told = [it.getsockopt(socket.IPPROTO_TCP, socket.TCP_NODELAY) != 0 for it in sockets_of(server) if not is_listening(it)]
-        assert told == [True, True]
+        nodelay = [it.getsockopt(socket.IPPROTO_TCP, socket.TCP_NODELAY) != 0 for it in sockets_of(server) if not is_listening(it)]
+        assert nodelay == [True, True]
 
 
 @fails_with("has one seat")

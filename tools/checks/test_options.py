@@ -30,7 +30,7 @@ def over_stdio(options, given):
 
 
 def all_of(line):
-    """What comes until the connection is closed, also where its peer had not read all that was sent."""
+    """What comes until the connection is closed, even if its peer hadn't read all that was sent."""
     found = b""
     try:
         while got := line.socket.recv(1 << 18):
@@ -163,7 +163,7 @@ def test_another_protocol():
 
 @fails_with("ignores the rules of memcached")
 def test_the_worked_rows_by_memcacheds_rules():
-    """Each row through the program; where one has a second output it is that of memcached's rules."""
+    """Each row through the program; if one has a second output it is that of memcached's rules."""
     for name, options, given, wanted in rows(drop_in=True):
         assert spoken(options, given) == wanted, name
 
@@ -210,12 +210,12 @@ def test_the_budget_by_default():
 
 def uniques(shards, keys):
     """What sets of these keys and a `gets` of each give: shard s of S assigns the uniques s+1, s+1+S, s+1+2S and so on."""
-    given, told = {}, b""
+    given, expected = {}, b""
     for key in keys:
         shard = place(key, shards)
-        told += b"VALUE %s 0 1 %d\r\nx\r\nEND\r\n" % (key, shard + 1 + shards * given.get(shard, 0))
+        expected += b"VALUE %s 0 1 %d\r\nx\r\nEND\r\n" % (key, shard + 1 + shards * given.get(shard, 0))
         given[shard] = given.get(shard, 0) + 1
-    return told
+    return expected
 
 
 @fails_with("ignores the number of shards")
@@ -223,9 +223,9 @@ def test_each_number_of_shards():
     # In this order no two numbers of shards give the same uniques.
     keys = [b"a", b"c", b"e", b"b", b"d", b"f", b"g"]
     given = b"".join(set_of(key, b"x") for key in keys) + b"".join(b"gets %s\r\n" % key for key in keys)
-    told = {shards: uniques(shards, keys) for shards in (1, 2, 3, 16)}
-    assert len(set(told.values())) == len(told)
-    for shards, wanted in told.items():
+    found = {shards: uniques(shards, keys) for shards in (1, 2, 3, 16)}
+    assert len(set(found.values())) == len(found)
+    for shards, wanted in found.items():
         row(f"--shards {shards}", given, len(keys) * STORED + wanted)
 
 
@@ -255,8 +255,8 @@ def one_listens_at(words, said, wanted):
 
 
 @fails_with("listens elsewhere", "listens at each address", "serves no metrics")
-def test_it_listens_where_it_is_told_alone():
-    """At the address that is given, or where none is at 127.0.0.1:11211; and the metrics at theirs."""
+def test_it_listens_at_its_addresses_alone():
+    """At the address that is given, or by default at 127.0.0.1:11211; and the metrics at theirs."""
     if subprocess.run([*ALONE, "true"], capture_output=True).returncode != 0:
         pytest.skip("no network of its own is to be had here")
     default, given = "127.0.0.1:11211", "127.0.0.2:11311"
@@ -401,7 +401,7 @@ def test_each_window():
         held_up_over_stdio(options, wanted)
 
 
-@fails_with("has a clock that stands still")
+@fails_with("has a clock that never moves")
 def test_the_clock_goes_on():
     """Without `--at` an item that lives a second is gone after two."""
     with running(mcd("--stdio"), stdin=subprocess.PIPE, stdout=subprocess.PIPE) as process:
@@ -413,8 +413,8 @@ def test_the_clock_goes_on():
         assert out == b"END\r\n" + hit_of(b"b", b"y")
 
 
-@fails_with("has a clock that stands still")
-def test_the_clock_tells_the_year():
+@fails_with("has a clock that never moves")
+def test_the_clock_shows_the_year():
     """An expiry as a second since 1970: one in a thousand seconds is to come, one of a thousand seconds ago is past."""
     now = int(time.time())
     given = b"set a 0 %d 1\r\nx\r\nset b 0 %d 1\r\ny\r\nget a\r\nget b\r\n" % (now + 1000, now - 1000)
@@ -422,7 +422,7 @@ def test_the_clock_tells_the_year():
     assert (ran.returncode, ran.stdout) == (0, 2 * STORED + hit_of(b"a", b"x") + b"END\r\n")
 
 
-@fails_with("has a clock that stands still")
+@fails_with("has a clock that never moves")
 def test_a_wall_clock_that_is_set_moves_no_expiry():
     """Neither an hour forward nor two back ends an item with a life of a minute, nor keeps one with a life of a second."""
     with tempfile.TemporaryDirectory() as folder:
@@ -502,14 +502,14 @@ WORDS = [
 @fails_with("ends with 0", "ends with 1")
 def test_each_fault_of_a_word():
     for call, word in WORDS:
-        status, out, told = ended(*call.split())
-        assert (status, out, told[:7], word in told.splitlines()[0]) == (2, "", "error: ", True), call
+        status, out, errors = ended(*call.split())
+        assert (status, out, errors[:7], word in errors.splitlines()[0]) == (2, "", "error: ", True), call
 
 
 @fails_with("ends with 0")
-def test_what_cannot_be_read_is_told():
-    status, out, told = ended("--replay", "no-such-file")
-    first, second = told.splitlines()
+def test_what_cannot_be_read_is_reported():
+    status, out, errors = ended("--replay", "no-such-file")
+    first, second = errors.splitlines()
     assert (status, out, first) == (1, "", "mcd: cannot read the file")
     assert second.startswith("mcd: --replay no-such-file: ")
     assert "No such file" in second
@@ -522,7 +522,7 @@ def test_what_cannot_be_read_is_told():
 
 
 @fails_with("ends with 0")
-def test_what_cannot_be_written_is_told():
+def test_what_cannot_be_written_is_reported():
     with tempfile.NamedTemporaryFile("w", suffix=".schedule") as file, open("/dev/full", "wb") as full:
         file.write("sim 1 1 1024 1\nopen 0\n")
         file.flush()
@@ -533,10 +533,10 @@ def test_what_cannot_be_written_is_told():
 
 
 @fails_with("ends with 0")
-def test_a_taken_address_is_told(server):
+def test_a_taken_address_is_reported(server):
     address = f"127.0.0.1:{server.port}"
-    status, out, told = ended("--listen", address)
-    first, second = told.splitlines()
+    status, out, errors = ended("--listen", address)
+    first, second = errors.splitlines()
     assert (status, out, first) == (1, "", "mcd: cannot listen")
     assert second.startswith(f"mcd: --listen {address}: Address already in use")
 
@@ -547,7 +547,7 @@ def limited(limit, *words):
 
 
 @fails_with("counts open files otherwise")
-def test_few_open_files_are_told():
+def test_few_open_files_are_reported():
     """Where fewer may be open than all seats need, the program says so and goes on."""
     with running(limited("-n 20", "--seats", "30"), stderr=subprocess.PIPE) as process:
         port = int(process.stderr.readline().rpartition(b":")[2])
@@ -563,8 +563,8 @@ def ended_under(limit, *words):
 
 
 @fails_with("ends with 0")
-def test_what_the_system_refuses_is_told():
+def test_what_the_system_refuses_is_reported():
     """Without the open files that the threads need, and without memory."""
     assert ended_under("-n 8", "--shards", "16") == (1, ["mcd: cannot start a thread", "mcd: --shards 16 needs 16 threads, and three open files each"])
-    status, told = ended_under("-v 100000", "--shards", "16", "--seats", "4096")
-    assert (status, told[-1]) == (1, "mcd: out of memory")
+    status, errors = ended_under("-v 100000", "--shards", "16", "--seats", "4096")
+    assert (status, errors[-1]) == (1, "mcd: out of memory")

@@ -2,8 +2,8 @@
 refusal. The tests are those that `rt ci`, or `rt test` in their crates, has just built: crates/NAME/out/NAME_tests.
 
 The tests of what takes no memory are run so with all allocations from the first on refused, then with all from the
-second on, and so on: in the last such run every call that they test finds none. It fails where such a run fails, and
-where a test makes fewer allocations than it must: then the test no longer reaches what takes memory.
+second on, and so on: in the last such run every call that they test finds none. It fails if such a run fails, and
+if a test makes fewer allocations than it must: then the test no longer reaches what takes memory.
 
 Then the program itself is run so over one line, with a window of one, so that the allocations of a command come before those of
 the next. Where one is refused before anything was read, the program reports so and ends; later on, the reply
@@ -102,16 +102,16 @@ def program_runs(refusing):
     whole = replies_to([it for it, _ in COMMANDS])[:3]
     met = [-1]
     for nth in range(1, MOST):
-        found, status, told, was_refused = replies_to([it for it, _ in COMMANDS], {**os.environ, **refusing, "REFUSE_NTH": str(nth)})
+        found, status, errors, was_refused = replies_to([it for it, _ in COMMANDS], {**os.environ, **refusing, "REFUSE_NTH": str(nth)})
         if not was_refused:
             missed = sorted(set(wanted.values()) - set(met))
             fault = f"never meets a refusal at the commands {missed}" if missed else None
-            return nth - 1, fault if (found, status, told) == whole else f"answers {found!r:.200} with all allocations"
-        if (found, status, told) == whole:
+            return nth - 1, fault if (found, status, errors) == whole else f"answers {found!r:.200} with all allocations"
+        if (found, status, errors) == whole:
             continue
-        place = -1 if (found, status, told) == (b"", 1, b"mcd: out of memory\n") else wanted.get(found)
-        if place is None or place < met[-1] or place >= 0 and (status, told) != (0, b""):
-            return nth, f"ends with {status} and {told!r:.80} and answers {found!r:.200} with its allocation {nth} refused"
+        place = -1 if (found, status, errors) == (b"", 1, b"mcd: out of memory\n") else wanted.get(found)
+        if place is None or place < met[-1] or place >= 0 and (status, errors) != (0, b""):
+            return nth, f"ends with {status} and {errors!r:.80} and answers {found!r:.200} with its allocation {nth} refused"
         met.append(place)
     return MOST, f"still allocates after {MOST} allocations"
 

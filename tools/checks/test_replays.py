@@ -89,7 +89,7 @@ def schedules(draw):
         pass
     resting = all(one is None or one.at_rest() for one in plan.world.at)
     idle = len(plan.lines) - 1 - plan.done
-    return Schedule("\n".join(plan.lines).encode() + b"\n", plan.world.told(plan.done, idle).encode(), resting)
+    return Schedule("\n".join(plan.lines).encode() + b"\n", plan.world.report(plan.done, idle).encode(), resting)
 
 
 @fails_with("changes what it replays")

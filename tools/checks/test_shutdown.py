@@ -23,7 +23,7 @@ def obedient(*options, **how):
     return Server("--drop-in", "--enable-shutdown", *options, **how)
 
 
-def told_to_end(line, command=FORMS[0]):
+def request_end(line, command=FORMS[0]):
     line.send(command)
     return time.monotonic()
 
@@ -38,7 +38,7 @@ def test_each_form_ends_it_in_order():
             half.ask(NO_OP, NO_OP_REPLY)
             half.send(b"set b 0 0 10\r\nhalf")
             time.sleep(0.2)
-            began = told_to_end(line, form)
+            began = request_end(line, form)
             assert [it.rest() for it in (line, idle, half)] == [b"", b"", b""], form
             for it in (line, idle, half):
                 it.close()
@@ -46,10 +46,10 @@ def test_each_form_ends_it_in_order():
 
 
 @fails_with("never lets clients end it", "ignores the rules of memcached")
-def test_what_comes_before_it_is_answered_and_nothing_behind_it():
+def test_what_comes_before_it_is_answered_and_nothing_after_it():
     with obedient() as server, Line(server.port) as line, Line(server.port) as other:
         other.ask(NO_OP, NO_OP_REPLY)
-        began = told_to_end(line, set_of(b"a", b"x") + b"get a\r\n" + FORMS[1] + set_of(b"a", b"y") + b"get a\r\n")
+        began = request_end(line, set_of(b"a", b"x") + b"get a\r\n" + FORMS[1] + set_of(b"a", b"y") + b"get a\r\n")
         assert line.rest() == STORED + hit_of(b"a", b"x")
         line.close()
         # Another connection is served until it has nothing more to say.
@@ -81,7 +81,7 @@ def test_other_modes_end_nothing():
 
 
 @fails_with("has memcached's rules", "warns of nothing")
-def test_by_its_own_rules_there_is_none():
+def test_natively_there_is_none():
     """The option is ignored with a warning."""
     with Server("--enable-shutdown") as server, Line(server.port) as line:
         assert server.line_said() == "mcd: warning: --enable-shutdown is ignored without --drop-in\n"
@@ -96,7 +96,7 @@ def test_by_its_own_rules_there_is_none():
 def test_what_others_were_owed_is_written():
     """And meanwhile no further connection is accepted."""
     with unread_replies(obedient, 20) as (server, line, wanted), Line(server.port) as other:
-        began = told_to_end(other)
+        began = request_end(other)
         assert other.rest() == b""
         time.sleep(1)
         assert server.is_running()
@@ -108,13 +108,13 @@ def test_what_others_were_owed_is_written():
 @fails_with("never lets clients end it", "drains for an hour")
 def test_one_that_takes_nothing_is_cut_off():
     with unread_replies(obedient, 3) as (server, _, _), Line(server.port) as other:
-        took = ends(server, CUT_OFF, told_to_end(other), within=3 + 4)
+        took = ends(server, CUT_OFF, request_end(other), within=3 + 4)
         assert 3 <= took
 
 
 @fails_with("never lets clients end it", "ignores that it is to be verbose")
 def test_the_log_has_its_reason():
     with obedient("--verbose") as server, Line(server.port) as line:
-        told_to_end(line)
+        request_end(line)
         assert "opened" in server.line_said()
         assert "client sent shutdown; 1 command, 10 bytes read, 0 bytes written" in server.line_said()

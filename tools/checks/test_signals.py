@@ -25,7 +25,7 @@ def blocked(*options):
     return Server(*options, before=BLOCKING)
 
 
-def told_to_end(server, number=signal.SIGTERM):
+def request_end(server, number=signal.SIGTERM):
     server.process.send_signal(number)
     return time.monotonic()
 
@@ -49,14 +49,14 @@ def ends_once_read(server, line, wanted, last, began):
 
 @fails_with("unblocks its signals", "gets no signal")
 def test_each_signal_ends_it_in_order():
-    """Also where a client has sent half a command, and one nothing at all."""
+    """Even if a client has sent half a command, and one nothing at all."""
     for number in (signal.SIGTERM, signal.SIGINT):
         with blocked() as server, Line(server.port) as idle, Line(server.port) as half, Line(server.port) as silent:
             idle.ask(set_of(b"a", b"x") + b"get a\r\n", STORED + hit_of(b"a", b"x"))
             half.ask(NO_OP, NO_OP_REPLY)
             half.send(b"set b 0 0 10\r\nhalf")
             time.sleep(0.2)
-            began = told_to_end(server, number)
+            began = request_end(server, number)
             # An end of their bytes, and no reset.
             assert [line.rest() for line in (idle, half, silent)] == [b"", b"", b""]
             for line in (idle, half, silent):
@@ -79,7 +79,7 @@ def unread_replies(started, drain):
 def test_what_was_taken_is_answered():
     """Replies that find no room on the way wait until their client takes them."""
     with unread_replies(blocked, 20) as (server, line, wanted):
-        began = told_to_end(server)
+        began = request_end(server)
         time.sleep(1)
         assert server.is_running()
         ends_once_read(server, line, wanted, IN_ORDER, began)
@@ -88,7 +88,7 @@ def test_what_was_taken_is_answered():
 @fails_with("cuts connections off at once", "drains for an hour")
 def test_one_that_takes_nothing_is_cut_off():
     with unread_replies(blocked, 3) as (server, _, _):
-        took = ends(server, CUT_OFF, told_to_end(server), within=3 + SOON)
+        took = ends(server, CUT_OFF, request_end(server), within=3 + SOON)
         assert 3 <= took
         print(f"after {took:.1f} s")
 
@@ -112,7 +112,7 @@ def test_one_that_asks_without_end_gets_whole_replies():
         asking = threading.Thread(target=ask)
         asking.start()
         time.sleep(0.5)
-        took = ends(server, IN_ORDER, told_to_end(server))
+        took = ends(server, IN_ORDER, request_end(server))
         stop.set()
         asking.join()
         assert len(found) > 0 and bytes(found) == NO_OP_REPLY * (len(found) // len(NO_OP_REPLY))
@@ -127,7 +127,7 @@ def test_no_further_connection_is_accepted():
         line.ask(set_of(b"a", value), STORED)
         line.send(8 * b"get a\r\n")
         time.sleep(0.5)
-        told_to_end(server)
+        request_end(server)
         time.sleep(1)
         assert server.is_running()
         try:
@@ -143,7 +143,7 @@ def test_it_ends_while_one_waits_for_a_seat():
         line.ask(NO_OP, NO_OP_REPLY)
         other.send(NO_OP)
         time.sleep(0.2)
-        began = told_to_end(server)
+        began = request_end(server)
         assert line.rest() == b""
         line.close()
         ends(server, IN_ORDER, began)
@@ -152,7 +152,7 @@ def test_it_ends_while_one_waits_for_a_seat():
 @fails_with("unblocks its signals", "gets no signal")
 def test_it_ends_where_nobody_came():
     with blocked("--metrics", 0, "--verbose", "--idle-timeout", 9) as server:
-        ends(server, IN_ORDER, told_to_end(server))
+        ends(server, IN_ORDER, request_end(server))
 
 
 @fails_with("unblocks its signals")

@@ -328,7 +328,7 @@ def test_each_form_of_a_size():
 
 @fails_with("has two shards")
 def test_as_many_shards_as_the_memory_needs():
-    """A shard has 64 GiB at most; where --shards is given it is kept, and what doesn't fit is refused."""
+    """A shard has 64 GiB at most; if --shards is given it is kept, and what doesn't fit is refused."""
     for words, shards, share in (
         ("--memory 4g", 2, 2048), ("--memory 128g", 2, 65536), ("--memory 129g", 3, 44032), ("--memory 4096g", 64, 65536),
         ("-m 131073", 3, 43691), ("--memory 129g --shards 4", 4, 33024), ("--shards 5", 5, 16), ("--bytes 1m", 2, 1),
@@ -383,7 +383,7 @@ SIZES = [
 @fails_with("plans a third", "plans ten times as much")
 def test_the_plan_is_kept():
     """What the process takes is no more than planned, and no less than half of it but for 24 MiB: at its start, and full."""
-    told = []
+    notes = []
     for options, length, expires, connections in SIZES:
         words = options.split()
         start, connected, full = planned(words)
@@ -402,14 +402,14 @@ def test_the_plan_is_kept():
             for line in lines:
                 line.close()
         most = full[length][expires]
-        told.append(f"{resident:.0f} of {most}")
+        notes.append(f"{resident:.0f} of {most}")
         assert resident <= most + 1 and resident >= most / 2 - 24, (options, length, expires)
-    print("; ".join(told) + " MiB")
+    print("; ".join(notes) + " MiB")
 
 
 @fails_with("ignores that it is to plan", "ends with 1")
 def test_the_plan_prints_alone():
-    """It starts nothing, also where the address is taken, and refuses what a server refuses."""
+    """It starts nothing, even if the address is taken, and refuses what a server refuses."""
     with Server() as server:
         status, out, said = ended("--plan", "--listen", str(server.port), "--memory", "4g", "--seats", "2000")
         assert (status, out.splitlines()[0], said) == (0, f"mcd {version()}: native rules, 2 threads, 4096 MiB, 2000 seats", "")

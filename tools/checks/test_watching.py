@@ -1,7 +1,7 @@
 """What an operator sees: idle connections that are closed, a line for each connection, metrics, and the page.
 
 What is expected is counted here from what the clients send and get. The text of the metrics is read by promtool, of Debian's
-prometheus, too where it is installed.
+prometheus, too if it is installed.
 """
 import multiprocessing
 import os
@@ -111,7 +111,7 @@ def test_dead_connections_free_their_seats():
 SEATS = ["mcd: all seats are taken", "mcd: a seat is free again"]
 
 
-def told_of(server, wanted, but=SEATS):
+def logged_by(server, wanted, but=SEATS):
     """The next `wanted` lines on standard error, but for these."""
     found = []
     while len(found) < wanted:
@@ -124,26 +124,26 @@ def told_of(server, wanted, but=SEATS):
 
 
 @fails_with("ignores that it is to be verbose")
-def test_each_connection_is_told():
+def test_each_connection_is_reported():
     with Server("--verbose", "--seats", 1) as server:
         with Line(server.port) as line:
             port = line.socket.getsockname()[1]
             line.ask(b"set a 0 0 1\r\nx\r\nget a\r\nget b\r\n", b"STORED\r\nVALUE a 0 1\r\nx\r\nEND\r\nEND\r\n")
             line.send(b"quit\r\n")
             assert line.rest() == b""
-        assert told_of(server, 2) == [f"mcd: 127.0.0.1:{port} on seat 0: opened",
-                                      f"mcd: 127.0.0.1:{port} on seat 0: client quit; 4 commands, 36 bytes read, 34 bytes written"]
+        assert logged_by(server, 2) == [f"mcd: 127.0.0.1:{port} on seat 0: opened",
+                                        f"mcd: 127.0.0.1:{port} on seat 0: client quit; 4 commands, 36 bytes read, 34 bytes written"]
 
 
 @fails_with("ignores that it is to be verbose")
-def test_a_client_of_a_unix_socket_is_told():
+def test_a_client_of_a_unix_socket_is_reported():
     with tempfile.TemporaryDirectory() as folder, Server("--verbose", "--seats", 1, "--listen", f"unix:{folder}/mcd") as server:
         with socket.socket(socket.AF_UNIX) as line:
             line.connect(f"{folder}/mcd")
             line.sendall(b"mn\r\nquit\r\n")
             assert line.recv(100) == NO_OP_REPLY
-            assert told_of(server, 2) == ["mcd: unix on seat 0: opened",
-                                          "mcd: unix on seat 0: client quit; 2 commands, 10 bytes read, 4 bytes written"]
+            assert logged_by(server, 2) == ["mcd: unix on seat 0: opened",
+                                            "mcd: unix on seat 0: client quit; 2 commands, 10 bytes read, 4 bytes written"]
 
 
 @fails_with("ignores that it is to be verbose")
@@ -160,27 +160,27 @@ def test_each_connection_has_one_seat():
                     time.sleep(0.01)
                 found = line.read(len(answered))
                 assert (len(found), found == answered) == (len(answered), True)
-            told = [re.sub(r"on seat \d+", "on a seat", it) for it in told_of(server, 2)]
-            assert told == [f"mcd: 127.0.0.1:{port} on a seat: opened",
-                            f"mcd: 127.0.0.1:{port} on a seat: closed by client; 2 commands, {len(asked)} bytes read, {len(answered)} bytes written"]
+            logged = [re.sub(r"on seat \d+", "on a seat", it) for it in logged_by(server, 2)]
+            assert logged == [f"mcd: 127.0.0.1:{port} on a seat: opened",
+                              f"mcd: 127.0.0.1:{port} on a seat: closed by client; 2 commands, {len(asked)} bytes read, {len(answered)} bytes written"]
 
 
 @fails_with("ignores that it is to be verbose")
-def test_one_that_breaks_is_told():
+def test_one_that_breaks_is_reported():
     with Server("--verbose", "--seats", 1) as server:
         line = Line(server.port)
         port = line.socket.getsockname()[1]
         line.ask(NO_OP, NO_OP_REPLY)
         line.reset()
-        assert told_of(server, 2)[1] == f"mcd: 127.0.0.1:{port} on seat 0: read failed; 1 command, 4 bytes read, 4 bytes written"
+        assert logged_by(server, 2)[1] == f"mcd: 127.0.0.1:{port} on seat 0: read failed; 1 command, 4 bytes read, 4 bytes written"
 
 
 @fails_with("ignores the idle timeout")
-def test_one_that_is_idle_is_told():
+def test_one_that_is_idle_is_reported():
     with Server("--verbose", "--idle-timeout", 1, "--seats", 1) as server, Line(server.port) as line:
         port = line.socket.getsockname()[1]
         line.ask(NO_OP, NO_OP_REPLY)
-        assert told_of(server, 2)[1] == f"mcd: 127.0.0.1:{port} on seat 0: idle timeout; 1 command, 4 bytes read, 4 bytes written"
+        assert logged_by(server, 2)[1] == f"mcd: 127.0.0.1:{port} on seat 0: idle timeout; 1 command, 4 bytes read, 4 bytes written"
 
 
 def end_of(options, sent):
@@ -193,7 +193,7 @@ def end_of(options, sent):
                 line.rest()
             except ConnectionResetError:
                 pass
-        found = re.fullmatch(r"mcd: 127\.0\.0\.1:\d+ on seat 0: (.*?); .*", told_of(server, 2)[1])
+        found = re.fullmatch(r"mcd: 127\.0\.0\.1:\d+ on seat 0: (.*?); .*", logged_by(server, 2)[1])
         counted = re.findall(r'^mcd_connections_ended_total\{reason="(\w+)"\} (\d+)$', server.metrics(), re.M)
         assert [reason for reason, _ in counted] == ["binary", "http", "tls", "line_too_long", "idle", "failed", "refused_memory"]
         return found[1], {reason for reason, count in counted if count != "0"}
@@ -215,13 +215,13 @@ ENDS = [
 
 
 @fails_with("ignores the rules of memcached")
-def test_each_reason_is_told_and_counted():
+def test_each_reason_is_logged_and_counted():
     for options, sent, why, counted in ENDS:
         assert (sent[:9], *end_of(options, sent)) == (sent[:9], why, counted), options
 
 
 @fails_with("ignores that it is to be verbose")
-def test_all_seats_taken_is_told():
+def test_all_seats_taken_is_reported():
     """Once, however many wait, and once one is free again."""
     with Server("--verbose", "--seats", 2) as server:
         lines = [Line(server.port) for _ in range(4)]
@@ -230,8 +230,8 @@ def test_all_seats_taken_is_told():
         time.sleep(0.5)
         for line in lines:
             line.close()
-        told = [line for line in told_of(server, 10, []) if line in SEATS]
-        assert told[:2] == SEATS
+        logged = [line for line in logged_by(server, 10, []) if line in SEATS]
+        assert logged[:2] == SEATS
 
 
 @fails_with("ignores that it is to be verbose")
@@ -239,9 +239,9 @@ def test_the_journal_gets_priorities():
     with Server("--verbose", env={**os.environ, "JOURNAL_STREAM": "8:12345"}) as server:
         with Line(server.port) as line:
             line.ask(NO_OP, NO_OP_REPLY)
-        told = told_of(server, 2)
-        assert [re.sub(r":\d+ on seat \d+", "", line) for line in told] == ["<6>127.0.0.1: opened",
-                                                                            "<6>127.0.0.1: closed by client; 1 command, 4 bytes read, 4 bytes written"]
+        logged = logged_by(server, 2)
+        assert [re.sub(r":\d+ on seat \d+", "", line) for line in logged] == ["<6>127.0.0.1: opened",
+                                                                              "<6>127.0.0.1: closed by client; 1 command, 4 bytes read, 4 bytes written"]
 
 
 @fails_with("ignores that it is to be verbose")
@@ -286,8 +286,8 @@ def test_what_finds_no_room_is_counted():
             with Line(server.port) as line:
                 line.ask(NO_OP + b"quit\r\n", NO_OP_REPLY)
                 assert line.rest() == b""
-        told, dropped, until = 0, 0, time.monotonic() + 120
-        while told + dropped < 2 * rounds:
+        logged, dropped, until = 0, 0, time.monotonic() + 120
+        while logged + dropped < 2 * rounds:
             assert time.monotonic() < until
             if not select.select([server.process.stderr], [], [], 1)[0]:
                 # What was dropped last is shown with the next line.
@@ -296,23 +296,23 @@ def test_what_finds_no_room_is_counted():
                 rounds += 1
             elif (said := server.line_said().rstrip()) not in SEATS:
                 found = re.fullmatch(r"mcd: log lines dropped: (\d+)", said)
-                told, dropped = told + (not found), dropped + int(found[1] if found else 0)
+                logged, dropped = logged + (not found), dropped + int(found[1] if found else 0)
         assert dropped > 0
-        print(f"{told} told, {dropped} dropped")
+        print(f"{logged} logged, {dropped} dropped")
 
 
 @fails_with("ignores that it is to be verbose")
-def test_an_accept_that_fails_is_told():
+def test_an_accept_that_fails_is_reported():
     words = ["prlimit", "--nofile=24:24", *mcd("--listen", "127.0.0.1:0", "--verbose", "--seats", "64")]
     lines = []
     with running(words, stderr=subprocess.PIPE, bufsize=0) as process:
         try:
             port = int(LISTENING.fullmatch(process.stderr.readline().decode())[1])
             lines = [Line(port) for _ in range(40)]
-            while select.select([process.stderr], [], [], 30)[0] and (told := process.stderr.readline()):
-                if told == b"mcd: accept failed: Too many open files (os error 24)\n":
+            while select.select([process.stderr], [], [], 30)[0] and (line := process.stderr.readline()):
+                if line == b"mcd: accept failed: Too many open files (os error 24)\n":
                     return
-            raise AssertionError("no failed accept is told")
+            raise AssertionError("no failed accept is logged")
         finally:
             for line in lines:
                 line.close()
@@ -401,7 +401,7 @@ def counted_at_once(clients, rounds):
 
 @fails_with("asks more than its clients", "counts otherwise")
 def test_no_count_is_lost():
-    """Each thread counts by itself: where two added to one counter, what one of them adds would now and then be lost. Seats that all count
+    """Each thread counts by itself: if two added to one counter, what one of them adds would now and then be lost. Seats that all count
     as those of the first thread were found by every second of these servers."""
     for _ in range(4):
         counted_at_once(8, 10_000)
@@ -438,7 +438,7 @@ def test_the_page_shows_what_is_counted():
 
 @fails_with("counts otherwise")
 def test_the_page_has_a_peak():
-    """It stays where the number falls."""
+    """It stays if the number falls."""
     with Watched("--seats", 9) as server:
         with Line(server.port) as line, Line(server.port) as other:
             line.ask(NO_OP, NO_OP_REPLY)
@@ -449,11 +449,11 @@ def test_the_page_has_a_peak():
 
 @fails_with("counts otherwise")
 def test_the_hit_ratio_is_a_percentage():
-    """Of the gets in five seconds; where nobody asks the curve has a gap, and no number."""
+    """Of the gets in five seconds; if nothing is requested the curve has a gap, and no number."""
     with Watched("--drop-in") as server, Line(server.port) as line:
         def found():
             page = page_of(server)
-            shown = {title: told for title, *told in FIGURE.findall(page)}
+            shown = {title: values for title, *values in FIGURE.findall(page)}
             return [shown["Requests"][0], *shown["Hit ratio"], re.search(r'"Hit ratio">.*?<path class="curve" d="([^"]*)"', page, re.S)[1]]
         eventually(found, ["0/s", "n/a", "", "", "100%", ""])
         line.ask(b"set a 0 0 1\r\nx\r\n" + 15 * b"get a\r\n" + 5 * b"get b\r\n",
@@ -464,7 +464,7 @@ def test_the_hit_ratio_is_a_percentage():
 
 @fails_with("serves half a page")
 def test_the_page_has_axes_and_limits():
-    """Each curve has its times, and those with a limit a line for it, at the top where nothing exceeds it."""
+    """Each curve has its times, and those with a limit a line for it, at the top if nothing exceeds it."""
     with Watched() as server:
         page = page_of(server)
         assert (page.count("<span>10 min ago</span><span>5 min ago</span><span>now</span>"), page.count('class="axes" d="M0,0V100H600V0')) == (8, 8)
@@ -482,7 +482,7 @@ def test_the_page_names_its_server():
 
 
 @fails_with("has another head on its page")
-def test_the_page_stands_alone():
+def test_the_page_loads_nothing_else():
     """It has no script, loads nothing, and follows the dark mode of its browser."""
     with Watched() as server:
         page = page_of(server)
@@ -515,10 +515,10 @@ def test_the_process_is_measured():
         time.sleep(1.1)
         before, used = server.resident(), server.cpu_seconds()
         values = server.values()
-        told = float(re.search(r"^process_cpu_seconds_total (\d+\.\d\d)$", server.metrics(), re.M)[1])
+        shown = float(re.search(r"^process_cpu_seconds_total (\d+\.\d\d)$", server.metrics(), re.M)[1])
         # More may be taken in between.
         assert before - MIB < values["process_resident_memory_bytes"] < server.resident() + MIB
-        assert 0 < used <= told <= used + 1
+        assert 0 < used <= shown <= used + 1
         assert -2 < values["process_start_time_seconds"] - began < 2
 
 
@@ -643,8 +643,8 @@ ASKED = [
 def test_each_command_is_counted_by_what_came_of_it():
     with Watched("--shards", 1) as server, Line(server.port) as line:
         def found():
-            told = re.findall(r'^memcached_commands_total\{command="(\w+)",status="(\w+)"\} (\d+)$', server.metrics(), re.M)
-            return {f"{command} {status}": int(count) for command, status, count in told if count != "0"}
+            shown = re.findall(r'^memcached_commands_total\{command="(\w+)",status="(\w+)"\} (\d+)$', server.metrics(), re.M)
+            return {f"{command} {status}": int(count) for command, status, count in shown if count != "0"}
         wanted = {}
         for asked, answered, counted in ASKED:
             line.ask(asked, answered)
@@ -655,7 +655,7 @@ def test_each_command_is_counted_by_what_came_of_it():
 
 
 @fails_with("counts otherwise")
-def test_items_and_evictions_are_told():
+def test_items_and_evictions_are_reported():
     """Items of 16 bytes of key, 100 of value and 64 beside them, in two shards of 1 MiB."""
     names = ["memcached_current_items", "memcached_current_bytes", "memcached_items_evicted_total", "mcd_out_of_memory_total"]
     with Watched("--shards", 2, "--bytes", "1m") as server, Line(server.port) as line:
@@ -676,7 +676,7 @@ def test_items_and_evictions_are_told():
 
 
 @fails_with("counts otherwise")
-def test_expired_items_and_values_too_large_are_told():
+def test_expired_items_and_values_too_large_are_reported():
     """Three items expire, one of which was fetched, and five that are stored later look at two each. The metrics and `stats` show the same."""
     with Watched("--drop-in", "--shards", 1, "--value-limit", 2048) as server, Line(server.port) as line:
         line.ask(b"".join(b"set dead:%d 0 1 1\r\nx\r\n" % it for it in range(3)) + b"get dead:1\r\n", 3 * STORED + b"VALUE dead:1 0 1\r\nx\r\nEND\r\n")
@@ -694,9 +694,9 @@ def test_expired_items_and_values_too_large_are_told():
 
 @fails_with("serves half a page")
 def test_the_version_is_the_programs():
-    told = ended("--version")[1]
+    version = ended("--version")[1]
     with Watched() as server:
-        assert f'memcached_version{{version="{told.split()[1]}"}} 1\n' in server.metrics()
+        assert f'memcached_version{{version="{version.split()[1]}"}} 1\n' in server.metrics()
 
 
 @fails_with("serves half a page")
@@ -719,19 +719,19 @@ def test_the_other_pages():
 
 
 @fails_with("serves no metrics")
-def test_it_is_told_to_this_machine_alone():
+def test_they_are_served_to_this_machine_alone():
     for where in ("0", ":0", "127.0.0.1:0"):
         with Watched(where=where) as server:
             assert server.get("/healthz")[0] == 200
 
 
 @fails_with("ends with 0")
-def test_a_taken_address_is_told():
+def test_a_taken_address_is_reported():
     with Watched() as server:
         status, _, said = ended("--listen", "127.0.0.1:0", "--metrics", server.metrics_port)
-        told = said.splitlines()
-        assert (status, told[-2], "listening" in said) == (1, "mcd: cannot listen", False)
-        assert told[-1].startswith(f"mcd: --metrics {server.metrics_port}: Address already in use")
+        errors = said.splitlines()
+        assert (status, errors[-2], "listening" in said) == (1, "mcd: cannot listen", False)
+        assert errors[-1].startswith(f"mcd: --metrics {server.metrics_port}: Address already in use")
 
 
 def slowest_of(server, stop):

@@ -1,7 +1,7 @@
 #!/usr/bin/env python3
 """Checks that no line is too wide: of definitions and lemmas (.antt) 120 columns, of a clause in the code (.rt) 100.
 
-    tools/checks/width.py            fails where a line is wider, and names each
+    tools/checks/width.py            fails if a line is wider, and names each
     tools/checks/width.py --write    breaks such lines first, and lays their files out by the kit's formatter
     tools/checks/width.py .. TREE    of another copy of the repository
 

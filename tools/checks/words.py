@@ -1,12 +1,12 @@
 #!/usr/bin/env python3
-"""Fails where a document or a comment uses a word for which the field has a better one.
+"""Fails if a document, a comment or a text of Python uses a word for which the field has a better one.
 
-    tools/checks/words.py          checks the documents in PLAIN, the comments of all crates but those in LEFT, and those of Python
+    tools/checks/words.py          checks the documents in PLAIN, the comments of all crates but those in LEFT, and the files in TOOLS
     tools/checks/words.py FILE ..  checks these files
 
-Of documents only prose is checked, without `code` and without blocks of code. Of sources (.rt, .antt) the comments are checked,
-those on lines of their own; of Python the comments and the doc strings. A comment or a doc string must not begin with "The same",
-which a generated page would show without its context.
+Of documents only prose is checked, without `code` and without blocks of code. Of sources (.rt, .antt) and scripts the comments are
+checked, those on lines of their own; of Python the comments, the doc strings, the texts of several words, and the names that are
+defined. A comment or a doc string must not begin with "The same", which a generated page would show without its context.
 """
 import ast
 import io
@@ -26,6 +26,10 @@ PLAIN = [
 
 # The crates whose comments aren't held to the list yet.
 LEFT = ["mc_seat", "mc_serve", "mc_threads"]
+
+# Python, scripts and programs in C.
+TOOLS = ["*.py", "tools/**/*.py", "packaging/*.py", "tools/**/*.p[hl]*", "tools/**/*.c", "packaging/mcd.[bds]*", "packaging/deb",
+         "packaging/oci", "packaging/scripts/*"]
 
 # What not to write, and what to write for it.
 BETTER = {
@@ -57,9 +61,16 @@ BETTER_IN_TEXT = {
 # What not to begin a comment with.
 BEGINNINGS = {r"(?<!.)the same": "say what it is"}
 
-# Where a word is right after all: the file, a piece of the line, and why.
+# What a comment on a line of its own begins with.
+SIGNS = {".rt": "//[/!]?", ".antt": "--", ".php": "//"}
+
+# Exceptions: the file, a piece of the line, and why.
 RIGHT: list[tuple[str, str, str]] = [
+    ("packaging/test_packaging.py", "/multi-user.target.wants/", "a folder of systemd"),
 ]
+
+# What has the words themselves.
+HERE = "tools/checks/words.py"
 
 
 def prose(text):
@@ -101,24 +112,45 @@ def explained(text):
             yield node.body[0].lineno, in_one_line(said.splitlines())
 
 
+def written(text):
+    """The texts of several words in a Python module, and the names that it defines, as words."""
+    for node in ast.walk(ast.parse(text)):
+        if isinstance(node, (ast.ClassDef, ast.FunctionDef)):
+            yield node.lineno, node.name.replace("_", " ")
+        elif isinstance(node, ast.arg):
+            yield node.lineno, node.arg.replace("_", " ")
+        elif isinstance(node, ast.Name) and isinstance(node.ctx, ast.Store):
+            yield node.lineno, node.id.replace("_", " ")
+        elif isinstance(node, ast.Constant) and isinstance(node.value, str) and " " in node.value:
+            yield node.lineno, in_one_line(node.value.splitlines())
+
+
+def commented(text):
+    """The comments of a program in C."""
+    for found in re.finditer(r"/\*(.*?)\*/", text, re.S):
+        yield text.count("\n", 0, found.start()) + 1, in_one_line(found[1].splitlines())
+
+
 def sources():
-    """The sources of the crates that aren't in LEFT, and Python's."""
+    """The sources of the crates that aren't in LEFT, and the files in TOOLS."""
     for crate in sorted((TOP / "crates").iterdir()):
         for folder, ending in ("src", "rt"), ("specs", "antt"), ("proofs", "antt"):
             if crate.name not in LEFT:
                 yield from sorted(str(it.relative_to(TOP)) for it in (crate / folder).rglob(f"*.{ending}"))
-    for pattern in "*.py", "tools/**/*.py", "packaging/*.py":
+    for pattern in TOOLS:
         yield from sorted(str(it.relative_to(TOP)) for it in TOP.glob(pattern))
 
 
 def pieces(name):
     """What is checked of a file, with numbers of lines."""
-    text = (TOP / name).read_text(encoding="utf-8")
-    if name.endswith(".rt"):
-        return comments(text, "//[/!]?")
-    if name.endswith(".py"):
-        return explained(text)
-    return comments(text, "--") if name.endswith(".antt") else prose(text)
+    text, ending = (TOP / name).read_text(encoding="utf-8"), pathlib.Path(name).suffix
+    if ending == ".py":
+        return [*explained(text), *(written(text) if name != HERE else [])]
+    if ending in SIGNS:
+        return comments(text, SIGNS[ending])
+    if ending == ".c":
+        return commented(text)
+    return prose(text) if ending in (".md", ".1") else comments(text, "#")
 
 
 def words_for(name):
@@ -139,7 +171,7 @@ def unused():
     """The exceptions that excuse nothing any more."""
     for file, piece, _ in RIGHT:
         if not any(piece in line for _, line in pieces(file)):
-            yield f"tools/checks/words.py: nothing in {file} has \"{piece}\""
+            yield f"{HERE}: nothing in {file} has \"{piece}\""
 
 
 def main():

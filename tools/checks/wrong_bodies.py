@@ -11,15 +11,15 @@
 
 `rt ci` tries each edit of must-fail/ by itself, over the whole crate, which it proves once more for them. That costs some 60
 processor seconds an edit, so must-fail/ has what no function has to itself: wrong constants, definitions and laws. This script
-tries those of classic-faults/ and wrong-bodies/, and of must-fail/ where it is asked to, many at a time: an edit changes one
+tries those of classic-faults/ and wrong-bodies/, and of must-fail/ if asked, many at a time: an edit changes one
 function, so the edits of different functions are made at once, and just these functions and those that they call are looked at.
 What the prover says of a function is said of its edit. An edit that isn't refused so, and one that changes more than one function
 or what is in none, is tried by itself over the whole crate.
 
-An edit shows something only where it is refused for what a contract says. So the checker's words are read: which goals it left
+An edit shows something only if it is refused for what a contract says. So the checker's words are read: which goals it left
 open, of which function, or which lines of the proof files it refused. Each edit is of one kind, the best that its words give:
 
-    contract   what the edited function ensures, or what its type promises, isn't met; or a caller's, where it has no contract
+    contract   what the edited function ensures, or what its type promises, isn't met; or a caller's, if it has no contract
     loop       what a loop keeps, or its measure, isn't met
     call       a call that the edit wrote or changed has a `requires` that isn't met
     lemma      a lemma or a worked row that the proofs depend on is false: so for constants
@@ -101,7 +101,7 @@ def applied(edit, texts=None):
         if file not in texts:
             texts[file] = (crate / file).read_text() if (crate / file).is_file() else ""
         if texts[file].count(old) != 1:
-            return None, f"its text stands {texts[file].count(old)} times in the file"
+            return None, f"its text occurs {texts[file].count(old)} times in the file"
         changes.append((file, texts[file].count("\n", 0, texts[file].index(old)) + 1, old, new))
         texts[file] = texts[file].replace(old, new)
     return ((texts, changes), None) if changes else (None, "it changes nothing")
@@ -241,7 +241,7 @@ class Copy:
         self.words += ["--jobs", "1", "--incremental", str(self.kept)]
 
     def check(self, texts, paths):
-        """What the checker says of the crate with these texts: of these functions, or where there are none, of all."""
+        """What the checker says of the crate with these texts: of these functions, or if there are none, of all."""
         try:
             for file, text in texts.items():
                 (self.folder / file).write_text(text)
@@ -261,8 +261,8 @@ class Copy:
 
     def result(self, edit, words, source):
         kind = judged(words, source, applied(edit)[0][1])
-        told = [it[:400] for it in words.splitlines() if OPEN_GOAL.match(it) or ": error" in it or ": no proof" in it]
-        return {"digest": digest(edit), "kind": kind, "said": told[:12]}
+        messages = [it[:400] for it in words.splitlines() if OPEN_GOAL.match(it) or ": error" in it or ": no proof" in it]
+        return {"digest": digest(edit), "kind": kind, "said": messages[:12]}
 
     def tried(self, edits, is_over):
         """Each edit with what was found of it, until it is said to be over. One that isn't refused among others is tried by itself
@@ -283,7 +283,7 @@ class Copy:
                 yield edit, self.alone(edit, source)
 
     def alone(self, edit, source):
-        """What is found of an edit by itself: of the edited function alone, and of the whole crate where that is proved."""
+        """What is found of an edit by itself: of the edited function alone, and of the whole crate if that is proved."""
         (texts, changes), _ = applied(edit)
         function = source.edited(changes)
         for paths in ([[function["path"]]] if function else []) + [[]]:

@@ -5,7 +5,7 @@ import sys
 
 from tools.served import mcd
 
-# What memcached is started with where a test says nothing else: its address, its port and its memory in MiB.
+# What memcached is started with by default: its address, its port and its memory in MiB.
 USUAL = {"-l": "127.0.0.1", "-p": "11211", "-m": "64"}
 IDLE = re.compile(r"idle_timeout=(\d+)")
 SHARDS = "MCD_TEST_SHARDS"

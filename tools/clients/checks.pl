@@ -47,7 +47,7 @@ tried('adds_replaces_and_deletes', sub { $client->delete('perl') && $client->add
 
 # Sends also what is too large for the server, and waits for each reply.
 my $patient = Cache::Memcached::Fast->new({ servers => ["$host:$port"], max_size => 4_194_304 });
-# What lies under a key behind a value that is too large.
+# The value of a key after a refused one that is too large.
 sub refused {
     return 'not refused' if !$patient->set('perlreplaced', 'old') || $patient->set('perlreplaced', 'v' x 2_097_152);
     return $patient->get('perlreplaced') // 'nothing';

@@ -1,6 +1,6 @@
 <?php
 // Drives a server as PHP's session handler, by a request of its own for each step. The handler speaks the binary protocol
-// where it isn't told otherwise (memcached.sess_binary_protocol=0). Prints `ok NAME` or `FAILED NAME: WHY`.
+// by default (memcached.sess_binary_protocol=0 turns it off). Prints `ok NAME` or `FAILED NAME: WHY`.
 //     php checks_session.php HOST PORT
 [, $host, $port] = $argv;
 

@@ -52,12 +52,12 @@ class Client:
         return bool(self.client.append(self.name(key), value))
 
     def flood(self, count):
-        """Many sets, without replies where the client can."""
+        """Many sets, without replies if the client can."""
         for number in range(count):
             self.set_silently(b"flood%d" % (number % 100), b"%d" % number)
 
     def set_silently(self, key, value):
-        """Sets without a reply where the client can."""
+        """Sets without a reply if the client can."""
         self.client.set(self.name(key), value, **self.silently)
 
     silently = {}
@@ -146,13 +146,13 @@ class Socket(Client):
     def close(self):
         self.line.close()
 
-    def told(self, sent):
+    def reply_to(self, sent):
         """The line that these bytes are answered by."""
         self.line.sendall(sent)
         return self.replies.readline().rstrip(b"\r\n")
 
     def stored(self, verb, key, value, expire=0, tail=b""):
-        return self.told(b"%s %s 0 %d %d%s\r\n%s\r\n" % (verb, key, expire, len(value), tail, value)) == b"STORED"
+        return self.reply_to(b"%s %s 0 %d %d%s\r\n%s\r\n" % (verb, key, expire, len(value), tail, value)) == b"STORED"
 
     def set(self, key, value, expire=0):
         return self.stored(b"set", key, value, expire)
@@ -168,7 +168,7 @@ class Socket(Client):
 
     def found(self, verb, keys):
         """The items that are found: the words behind each key, and the value."""
-        items, words = {}, self.told(verb + b" " + b" ".join(keys) + b"\r\n").split()
+        items, words = {}, self.reply_to(verb + b" " + b" ".join(keys) + b"\r\n").split()
         while words[0] == b"VALUE":
             items[words[1]] = words[3:], self.replies.read(int(words[3]) + 2)[:-2]
             words = self.replies.readline().split()
@@ -188,31 +188,31 @@ class Socket(Client):
         return first, self.stored(b"cas", key, value, tail=b" " + self.found(b"gets", [key])[key][0][1])
 
     def incr(self, key, by):
-        return self.told(b"incr %s %d\r\n" % (key, by))
+        return self.reply_to(b"incr %s %d\r\n" % (key, by))
 
     def decr(self, key, by):
-        return self.told(b"decr %s %d\r\n" % (key, by))
+        return self.reply_to(b"decr %s %d\r\n" % (key, by))
 
     def touch(self, key, expire):
-        return self.told(b"touch %s %d\r\n" % (key, expire)) == b"TOUCHED"
+        return self.reply_to(b"touch %s %d\r\n" % (key, expire)) == b"TOUCHED"
 
     def delete(self, key):
-        return self.told(b"delete %s\r\n" % key) == b"DELETED"
+        return self.reply_to(b"delete %s\r\n" % key) == b"DELETED"
 
     def set_silently(self, key, value):
         self.line.sendall(b"set %s 0 0 %d noreply\r\n%s\r\n" % (key, len(value), value))
 
     def version(self):
-        return self.told(b"version\r\n").removeprefix(b"VERSION ")
+        return self.reply_to(b"version\r\n").removeprefix(b"VERSION ")
 
     def flood(self, count):
         self.line.sendall(b"".join(b"set flood%d 0 0 %d noreply\r\n%d\r\n" % (number % 100, len(str(number)), number) for number in range(count)))
 
     def flush(self):
-        assert self.told(b"flush_all\r\n") == b"OK"
+        assert self.reply_to(b"flush_all\r\n") == b"OK"
 
     def stats(self):
-        found, words = {}, self.told(b"stats\r\n").split()
+        found, words = {}, self.reply_to(b"stats\r\n").split()
         while words[0] == b"STAT":
             found[words[1]] = words[2]
             words = self.replies.readline().split()

@@ -47,7 +47,7 @@ NOT_COUNTED = {"limit_maxbytes", "bytes", "curr_items", "evictions", "reclaimed"
 
 
 class Peer:
-    """A connection to one of the two servers. `known` has its counters where nothing was asked since they were read."""
+    """A connection to one of the two servers. `known` has its counters if nothing was asked since they were read."""
 
     def __init__(self, port):
         self.socket = socket.create_connection(("127.0.0.1", port), timeout=20)
@@ -158,7 +158,7 @@ BROKEN_BY_MEMCACHED = [
 
 
 def flags(letters, most, drop_in):
-    """Fewer than `most` of these flags, each with a token where it takes one, in any order. Memcached takes P and L, for a proxy, with each command."""
+    """Fewer than `most` of these flags, each with a token if it takes one, in any order. Memcached takes P and L, for a proxy, with each command."""
     pool = [b" " + bytes([it]) + token for it in letters + b"PL" * drop_in for token in TOKENS.get(bytes([it]), [b""])]
     return st.lists(st.sampled_from(pool), unique_by=lambda it: it[1], max_size=most - 1).map(b"".join)
 
@@ -242,7 +242,7 @@ NAMED = [
     ("a token of `O` that is too long", rb"ma .* O\S{32,}.*", None),
     ("`ma` with `C0`", rb"ma .* C0", None),
     ("`version`", rb"version", (rb"VERSION .*", rb"VERSION .*")),
-    ("faults are shown in spite of noreply", rb".* noreply", (FAULT, rb"")),
+    ("errors are shown in spite of noreply", rb".* noreply", (FAULT, rb"")),
     ("error texts", rb".*", (rb"CLIENT_ERROR [^\r]*\r\n", rb"CLIENT_ERROR [^\r]*\r\n")),
     ("`gat` without a key", rb"gats? \S+", (rb"(CLIENT_ERROR bad command line format|ERROR)\r\n", rb"END\r\n")),
     ("too few words", rb".*", (rb"CLIENT_ERROR bad command line format\r\n", rb"ERROR\r\n")),
@@ -258,7 +258,7 @@ NAMED = [
 
 
 # Those that are gone where mcd follows memcached's rules.
-GONE = ["exptimes have 64 bits", "too large a value leaves the old one", "`version`", "faults are shown in spite of noreply", "too few words",
+GONE = ["exptimes have 64 bits", "too large a value leaves the old one", "`version`", "errors are shown in spite of noreply", "too few words",
         "`C` of `ms` in other modes", "too large to append", "`c` where `ms` stored nothing", "`ma` with `C0`", "the order of marks"]
 # Those that replies show, beside the command.
 NAMES = [*dict.fromkeys(name for name, _, _ in NAMED), "the order of marks", "what counts as a use", "numbers aren't padded"]
@@ -324,28 +324,28 @@ STATS_NAMED = [
 
 # Why each of them stays.
 REASONS = {
-    "exptimes have 64 bits": "by its own rules the server keeps the number that was sent",
-    "too large a value leaves the old one": "by its own rules a refused command changes nothing",
-    "too large to append": "by its own rules the line gives the reason",
+    "exptimes have 64 bits": "natively the server keeps the number that was sent",
+    "too large a value leaves the old one": "natively a refused command changes nothing",
+    "too large to append": "natively the line has the reason",
     "`t` of an item that is dead at once": "no time is left, so it is 0",
     "`T` beside `N`": "an item that N makes has the time of N",
     "`T` of a number that gets longer": "memcached makes a new item, which loses T",
     "a key that was stored in base64": "a key is its bytes, and how it was spelled isn't kept",
     "a token of `O` that is too long": "a refused line changes and counts nothing",
-    "`version`": "by its own rules the server gives its own",
-    "faults are shown in spite of noreply": "by its own rules a client that is out of step sees it",
+    "`version`": "natively the server has its own",
+    "errors are shown in spite of noreply": "natively no error is hidden",
     "error texts": "one text for each kind of fault",
     "`gat` without a key": "a line without a key has too few words",
-    "too few words": "by its own rules the name is known, and the line is wrong",
-    "`C` of `ms` in other modes": "by its own rules C is for mode S",
+    "too few words": "natively the name is known, and the line is wrong",
+    "`C` of `ms` in other modes": "natively C is for mode S",
     "`C` without an item": "NF in each mode",
     "`C` of an empty value": "the unique is compared before the value is read",
-    "`ma` with `C0`": "by its own rules each unique is compared",
-    "`c` where `ms` stored nothing": "by its own rules no unique is shown where there is none",
-    "quiet `md` and `ma`": "protocol.txt hides HD and NF, and shows what was asked for",
+    "`ma` with `C0`": "natively each unique is compared",
+    "`c` where `ms` stored nothing": "natively no unique is shown if there is none",
+    "quiet `md` and `ma`": "protocol.txt hides HD and NF, and shows requested values",
     "`t` beside `T` and `N`": "the time after the command, in whatever order the flags are",
     "`R` beside `T`": "the time before the command, in whatever order the flags are",
-    "the order of marks": "by its own rules W is first",
+    "the order of marks": "natively W is first",
     "what counts as a use": "each use is noted, in its own second",
     "numbers aren't padded": "a number has its digits alone",
     "too large a value": "the line is refused before a shard is asked",
@@ -362,7 +362,7 @@ def grown_from(before, after):
 
 
 def counts_differ(asked, reply, ours, theirs):
-    """The name of the difference between what a command let grow; `None` where there is none, and where none is named the counters."""
+    """The name of the difference between what a command let grow; `None` if there is none, and if none is named the counters."""
     more = {name: theirs.get(name, 0) - ours.get(name, 0) for name in {*ours, *theirs}}
     more = {name: by for name, by in more.items() if by}
     line = asked.partition(b"\r\n")[0]
@@ -374,7 +374,7 @@ def counts_differ(asked, reply, ours, theirs):
 
 @contextlib.contextmanager
 def memcached(*options):
-    """memcached with these options at a port; none where it isn't installed."""
+    """memcached with these options at a port; none if it isn't installed."""
     if not shutil.which("memcached"):
         yield None
         return
@@ -403,7 +403,7 @@ def test_the_page_says_which_are_gone(page):
 
 @pytest.fixture(scope="module")
 def both():
-    """A connection to mcd with `--drop-in`, and one to memcached where it is there; and the counters that both have."""
+    """A connection to mcd with `--drop-in`, and one to memcached if it is there; and the counters that both have."""
     with Server("--drop-in") as ours, memcached() as port:
         peers = [Peer(ours.port), *([Peer(port)] if port else [])]
         yield peers, set.intersection(*(set(peer.counters()) for peer in peers)) - NOT_COUNTED
@@ -411,7 +411,7 @@ def both():
 
 @pytest.mark.parametrize("row", counted.ROWS, ids=lambda row: row[0])
 def test_a_kind_of_command_counts_as_in_memcached(both, row):
-    """What a row of counted.py lets the counters grow by, of mcd, and of memcached where it is there."""
+    """What a row of counted.py lets the counters grow by, of mcd, and of memcached if it is there."""
     peers, names = both
     found = [counted.growth(peer, row) for peer in peers]
     grown = [{name: by for name, by in growth.items() if name in names} for _, growth in found]
@@ -523,7 +523,7 @@ def test_random_commands(seed, drop_in):
             if unnamed := compare(drop_in, *peers, texts, met):
                 with servers(drop_in) as others:
                     again = compare(drop_in, *others, texts, collections.Counter())
-                assert {number: told for number, told in unnamed.items() if number in again} == {}
+                assert {number: what for number, what in unnamed.items() if number in again} == {}
 
         check()
     print(*(f"{times:6} times: {name} ({REASONS[name]})" for name, times in met.most_common()), sep="\n")
@@ -564,7 +564,7 @@ def forget(keys, *peers):
 
 
 def one_compared(drop_in, ours, theirs, keys, mine, other, counted_up):
-    """The name of the difference that one command shows, if any: `reply ..` or `counters ..` where none is named. Of the keys in
+    """The name of the difference that one command shows, if any: `reply ..` or `counters ..` if none is named. Of the keys in
     `counted_up` memcached may have a new item, without the marks of the one before."""
     my_reply, other_reply, grown = both_asked(drop_in, ours, theirs, mine, other)
     name = differs_later(drop_in, mine)

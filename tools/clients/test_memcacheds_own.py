@@ -43,10 +43,10 @@ TESTS = """
     issue_70 malicious-commands multiversioning noreply quit strtol-testing
 """.split()
 
-TEXT = "what stands behind CLIENT_ERROR"
+TEXT = "what follows CLIENT_ERROR"
 STATS = "a line of stats that memcached has of itself"
 OTHERWISE = {
-    "flush-all": {22: TEXT, 25: "-F, which forbids flush_all", 26: "the same", 27: "the same"},
+    "flush-all": {22: TEXT, **dict.fromkeys([25, 26, 27], "-F, which forbids flush_all")},
     "idle-timeout": {1: STATS, 9: STATS},
     "issue_152": {2: TEXT},
     "issue_163": {4: STATS},
@@ -55,7 +55,7 @@ OTHERWISE = {
     "issue_3": {2: TEXT},
     "issue_42": {11: "stats slabs"},
     "issue_61": {7: STATS},
-    "malicious-commands": {1: "HTTP is closed by a reset", 2: "the same", 3: "DELETE with no path behind it is read as a line"},
+    "malicious-commands": {**dict.fromkeys([1, 2], "HTTP is closed by a reset"), 3: "DELETE without a path is read as a line"},
     "metaget": {3: "me", 4: "me", 123: "the flag I of ms"},
     "strtol-testing": {2: "slabs reassign"},
 }
@@ -96,7 +96,7 @@ def prepare(sources, folder):
         (folder / name).chmod(0o755)
 
 
-def told_by(name, folder):
+def output_of(name, folder):
     """What a test prints, on both streams. It ends with its servers, at the latest after TEST_SECONDS."""
     shards = {SHARDS: "1"} if name in OF_ONE_SHARD else {}
     streams = {"stdin": subprocess.DEVNULL, "stdout": subprocess.PIPE, "stderr": subprocess.PIPE, "text": True, "errors": "replace"}
@@ -114,16 +114,16 @@ def told_by(name, folder):
 
 def run(name, folder):
     """How many assertions of a test hold, how many are answered otherwise as OTHERWISE says, and what failed."""
-    told, why = told_by(name, folder)
+    output, why = output_of(name, folder)
     otherwise, held, failed = OTHERWISE.get(name, {}), set(), []
-    for refused, number, what in ASSERTION.findall(told):
+    for refused, number, what in ASSERTION.findall(output):
         if not refused:
             held.add(int(number))
         elif int(number) not in otherwise:
             failed.append(f"{name} {number}{what}")
     failed += [f"{name} {number}: it holds, so OTHERWISE shouldn't have it" for number in held & set(otherwise)]
-    plan = PLAN.search(told)
-    if not plan or len(ASSERTION.findall(told)) != int(plan[1]):
+    plan = PLAN.search(output)
+    if not plan or len(ASSERTION.findall(output)) != int(plan[1]):
         failed.append(f"{name} wasn't run to its end: {why[-300:]}")
     return len(held), len(otherwise), failed
 

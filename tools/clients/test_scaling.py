@@ -17,7 +17,7 @@ KEYS = 1000
 
 
 def driven(port, what):
-    """Sets or gets all keys by one server or proxy, on one connection after another where one breaks; how many it could."""
+    """Sets or gets all keys by one server or proxy, on one connection after another if one breaks; how many it could."""
     it, done = None, 0
     for number in range(KEYS):
         key, value = b"scaled%d" % number, b"value of %d" % number

@@ -2,8 +2,11 @@
 use denote.RattleType.{RattleType}
 use denote.Param.Send.{IsSend, sendable}
 use Rattle.std.proofs.Crossing.{crosses}
+use Rattle.mc_seat.specs.declared.transport.Transport.{Ghosts}
+use Rattle.mc_seat.specs.declared.warrant.Warrant.{Ghosts as Warrants}
 use Rattle.mc_doors.specs.contracts.single_source.SingleSource as source
 
 -- A source for one line can be sent to another thread if its line can.
-pub source_send : (L : RattleType) → IsSend L → IsSend (source.the_row L)
-source_send L sent = search (sendable, crosses) depth 20
+pub source_send : (L T : RattleType) (line : Ghosts L.Denot T.Denot) (warrant : Warrants T.Denot) (token : _)
+    → IsSend L → IsSend (source.the_row L T line warrant token)
+source_send L T line warrant token sent = search (sendable, crosses) depth 20

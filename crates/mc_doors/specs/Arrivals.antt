@@ -26,7 +26,7 @@ StreamArrives arrival.NotYet old after = after ≡ old
 StreamArrives arrival.Over old after = (after ≡ old) × NoneComes old
 
 -- A line that was accepted has protocol detection, as the source requires it.
-abbrev pub CameWary : {S : Type 0} {g : Ghosts S} → Bool → Accept (TcpConnection S g) → Type 0
+abbrev pub CameWary : {S T : Type 0} {g : Ghosts S} → Bool → Accept (TcpConnection S T g) → Type 0
 CameWary sniffs_protocol (arrival.Came line) = line.sniff_protocol ≡ sniffs_protocol
 CameWary sniffs_protocol arrival.NotYet = Unit {0}
 CameWary sniffs_protocol arrival.Over = Unit {0}

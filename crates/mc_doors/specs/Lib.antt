@@ -1,6 +1,7 @@
 pub mod Told
 pub mod One
 pub mod Foreign
+pub mod Beginning
 pub mod Tcp
 pub mod Arrivals
 pub mod Known

@@ -2,6 +2,8 @@
 use Rattle.std.specs.Prelude.{ℕ, ◌≡◌, Bool, false, [], ◌∷◌, Option, Some, None}
 use Rattle.mc_wire.specs.Sink.{Sight}
 use Rattle.mc_seat.specs.Explains.{LineTold}
+use Rattle.mc_seat.specs.declared.transport.Transport.{Ghosts}
+use Rattle.mc_seat.specs.declared.warrant.Warrant.{Ghosts as Warrants}
 use Rattle.mc_doors.specs.declared.single_source.SingleSource.{SingleSource}
 use Rattle.mc_doors.specs.declared.single_source.ReturnedLine.{ReturnedLine}
 use Rattle.std.specs.declared.snapshot.Snapshot.{Snapshot}
@@ -30,7 +32,8 @@ told_one sight (Some line) None None over = TellsLines (Some (sight line ∷ [])
 told_one sight None None None over = TellsLines (Some []) None [] over
 
 -- the current history of a source, from the histories of its lines
-abbrev pub told_of : {L : Type 0} → (L → Sight) → SingleSource L → SourceTold
+abbrev pub told_of : {L T : Type 0} {g : Ghosts L T} {w : Warrants T} {t : _} → (L → Sight) → SingleSource L T g w t
+    → SourceTold
 told_of sight source = told_one sight source.waits source.out source.back source.over
 
 -- The line was served and returned in this state.

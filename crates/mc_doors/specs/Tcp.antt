@@ -37,7 +37,7 @@ new_line remaining contents =
     }
 
 -- the history of a connection
-abbrev pub sight_of : {S : Type 0} {g : Ghosts S} → TcpConnection S g → Sight
+abbrev pub sight_of : {S T : Type 0} {g : Ghosts S} → TcpConnection S T g → Sight
 sight_of {g = g} line = record {
   given = Listed line.tap.given;
   ended = line.ended;
@@ -67,7 +67,7 @@ TellsWrite (Err why) (Ok told) = told ≡ 0
 TellsWrite (Err why) (Err fault) = Unit {0}
 
 -- a closed connection: the bytes read and written
-abbrev pub gone_line : {S : Type 0} {g : Ghosts S} → ClosedConnection S g → LineTold
+abbrev pub gone_line : {S T : Type 0} {g : Ghosts S} → ClosedConnection S T g → LineTold
 gone_line gone = record {
   begin = sight_of gone.begin.value;
   now = sight_of gone.line.value;
@@ -76,11 +76,11 @@ gone_line gone = record {
 }
 
 -- the closed connections of a slot, in order
-abbrev pub gone_lines : {S : Type 0} {g : Ghosts S} → List (ClosedConnection S g × Unit {0}) → List LineTold
+abbrev pub gone_lines : {S T : Type 0} {g : Ghosts S} → List (ClosedConnection S T g × Unit {0}) → List LineTold
 gone_lines gone = map (λ one. gone_line one.0) gone
 
 -- the connection being served, in the state in which it was accepted
-abbrev pub out_line : {S : Type 0} {g : Ghosts S} → Option (Snapshot (TcpConnection S g)) → Option Sight
+abbrev pub out_line : {S T : Type 0} {g : Ghosts S} → Option (Snapshot (TcpConnection S T g)) → Option Sight
 out_line None = None
 out_line (Some begin) = Some (sight_of begin.value)
 
@@ -97,14 +97,14 @@ new_source remaining contents coming = TellsLines (new_lines remaining contents 
 
 -- the history of a slot's source: the streams to come, if they are known, the connection being served, the
 -- closed ones, and whether it returned that no more will come
-abbrev pub told_source : {S : Type 0} {g : Ghosts S} → Option (List S) → Option (Snapshot (TcpConnection S g))
-    → List (ClosedConnection S g × Unit {0}) → Bool → SourceTold
+abbrev pub told_source : {S T : Type 0} {g : Ghosts S} → Option (List S) → Option (Snapshot (TcpConnection S T g))
+    → List (ClosedConnection S T g × Unit {0}) → Bool → SourceTold
 told_source {g = g} coming out gone over =
     TellsLines (new_lines g.remaining g.contents coming) (out_line out) (gone_lines gone) over
 
 -- The stream of this connection, which was in this state when it was accepted, was read for exactly the bytes
 -- of the connection's input. It took exactly the connection's output, until the connection ended.
-pub record IsServed {S : Type 0} {g : Ghosts S} (stream : S) (one : ClosedConnection S g) : Type 0 where
+pub record IsServed {S T : Type 0} {g : Ghosts S} (stream : S) (one : ClosedConnection S T g) : Type 0 where
   pub gave : Consumes (g.remaining stream) (g.remaining one.line.value.tap.stream) one.line.value.tap.given
   pub took : Appends (g.contents stream) (g.contents one.line.value.tap.stream) one.line.value.tap.taken
 

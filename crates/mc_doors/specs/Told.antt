@@ -2,6 +2,7 @@
 use Rattle.std.specs.Prelude.{ℕ, ◌≡◌, Bool, true, List, [], ◌∷◌, ◌++◌, Option, Some, None, map}
 use Rattle.mc_wire.specs.Sink.{Sight}
 use Rattle.mc_seat.specs.Explains.{LineTold}
+use Rattle.mc_seat.specs.Place.{Place, no_place}
 use Rattle.mc_doors.specs.declared.connection_source.Accept.{Accept}
 use Rattle.mc_doors.specs.declared.connection_source.Accept.TheVariants as arrival
 
@@ -57,6 +58,12 @@ abbrev pub Arrives : {L : Type 0} → (L → Sight) → Accept L → SourceTold 
 Arrives sight (arrival.Came line) old new = IsNext (sight line) old × (new ≡ let_in (sight line) old)
 Arrives sight arrival.NotYet old new = new ≡ old
 Arrives sight arrival.Over old new = (new ≡ closed old) × IsDone old
+
+-- The line that came has not begun.
+abbrev pub IsUnplaced : {L : Type 0} → (L → Place) → Accept L → Type 0
+IsUnplaced place (arrival.Came line) = place line ≡ no_place
+IsUnplaced place arrival.NotYet = Unit {0}
+IsUnplaced place arrival.Over = Unit {0}
 
 -- These lines came, of those that were to come, if they are known.
 abbrev pub Comes : Option (List Sight) → List Sight → Option (List Sight) → Type 0

@@ -1,6 +1,6 @@
 //! The source of a slot's lines, one at a time, to which they are returned.
 ghost use Rattle.std.specs.Prelude.{◌≡◌};
-ghost use Rattle.mc_doors.specs.Told.{Arrives, SourceTold, took_back};
+ghost use Rattle.mc_doors.specs.Told.{Arrives, IsUnplaced, SourceTold, took_back};
 
 use mc_seat::Transport;
 
@@ -25,15 +25,18 @@ pub trait ConnectionSource {
 
     /// Returns the next line, if there is one. Never blocks.
     fn accept(&mut self) -> Accept<Self::Transport>
-        ensures { Arrives (λ line. Self.Transport.sight line) result (told self.old)
-            (told self.new) };
+        ensures told { Arrives (λ line. Self.Transport.sight line) result (told self.old)
+            (told self.new) }
+        // It has not begun.
+        ensures new { IsUnplaced (λ line. Self.Transport.place line) result };
 
     /// Ends the output of the line that is out, since memory to serve it is refused. Nothing is
     /// read or written. Returns whether the slot is woken again after a pause, so that it may wait.
     /// See docs/DECISIONS.md, N5.
     fn give_up(&mut self, line: &mut Self::Transport) -> bool
         ensures told { told self.new ≡ told self.old }
-        ensures line { Self.Transport.sight line.new ≡ Self.Transport.sight line.old };
+        ensures line { Self.Transport.sight line.new ≡ Self.Transport.sight line.old }
+        ensures place { Self.Transport.place line.new ≡ Self.Transport.place line.old };
 
     /// Takes back the line that was served: the number of commands, and whether it failed.
     fn give_back(&mut self, line: Self::Transport, commands: u64, broke: bool)

@@ -5,6 +5,7 @@
 
 mod acceptor;
 mod arrivals;
+mod beginning;
 mod connection_source;
 mod foreign;
 mod free_seats;

@@ -1,6 +1,7 @@
 //! A source in memory for a single line, which it keeps after it was served.
 ghost use Rattle.std.specs.Prelude.{◌≡◌, IfSome};
-ghost use Rattle.mc_doors.specs.One.{IsBack, told_of, waits};
+ghost use Rattle.std.specs.Option.{ForSome};
+ghost use Rattle.mc_seat.specs.Place.{no_place};
 
 use crate::connection_source::{Accept, ConnectionSource};
 use mc_seat::Transport;
@@ -34,18 +35,23 @@ impl<L: Drop> ReturnedLine<L> {
 
 /// A source for one line, which waits, is being served, or was returned.
 #[derive(Drop)]
-pub struct SingleSource<L> {
+pub struct SingleSource<L: Transport> {
     waits: Option<L>,
     /// The line being served, in the state in which it was accepted.
     out: Option<Snapshot<L>>,
     back: Option<ReturnedLine<L>>,
     /// `accept` has returned `Over`.
     over: bool,
+    // The line that waits has not begun.
+    ghost new: { ForSome waits (λ line. L.place line ≡ no_place) },
 }
 
 impl<L: Transport + Drop> SingleSource<L> {
-    /// A source with this line.
+    ghost use Rattle.mc_doors.specs.One.{IsBack, told_of, waits};
+
+    /// A source with this line, which has not begun.
     pub fn new(line: L) -> SingleSource<L>
+        requires { L.place line ≡ no_place }
         ensures { told_of (λ line. L.sight line) result ≡
             waits (L.sight line) }
     {
@@ -72,6 +78,8 @@ impl<L: Transport + Drop> SingleSource<L> {
 }
 
 impl<L: Transport + Drop> ConnectionSource for SingleSource<L> {
+    ghost use Rattle.mc_doors.specs.One.{told_of};
+
     type Transport = L;
 
     ghost told = { λ source.

@@ -2,7 +2,8 @@
 ghost use Rattle.std.specs.Prelude.{◌≡◌, ◌^◌, ◌-◌, length, min};
 ghost use Rattle.mc_doors.specs.Arrivals.{CameWary, KeepsContents};
 ghost use Rattle.mc_doors.specs.Tcp.{new_source, sight_of, told_source};
-ghost use Rattle.mc_doors.specs.Told.{Arrives, took_back};
+ghost use Rattle.mc_doors.specs.Beginning.{place_of};
+ghost use Rattle.mc_doors.specs.Told.{Arrives, IsUnplaced, took_back};
 
 use crate::arrivals::{Arrivals, NewStream};
 use crate::connection_source::{Accept, ConnectionSource};
@@ -10,22 +11,23 @@ use crate::lingering::{Lingering, Lingers};
 use crate::stream::Stream;
 use crate::tcp_connection::TcpConnection;
 use http_server::Log;
+use mc_seat::Warrant;
 use std::snapshot::Snapshot;
 use std::time;
 
 /// A served and closed connection, as contracts see it: its state when it was accepted, and just
 /// before it was closed.
 #[derive(Drop)]
-pub struct ClosedConnection<S: Stream> {
-    begin: Snapshot<TcpConnection<S>>,
-    line: Snapshot<TcpConnection<S>>,
+pub struct ClosedConnection<S: Stream, T = ()> {
+    begin: Snapshot<TcpConnection<S, T>>,
+    line: Snapshot<TcpConnection<S, T>>,
     commands: u64,
     broke: bool,
 }
 
 /// Accepts the streams of one slot as lines, and closes them after they were served. Contracts see
 /// the list of closed ones; at run time none is kept.
-pub struct StreamSource<R, A: Arrivals> {
+pub struct StreamSource<R, A: Arrivals, T = ()> {
     rt: R,
     arrivals: A,
     /// Whether connections of other protocols are detected and closed, as by memcached's rules. See
@@ -34,11 +36,11 @@ pub struct StreamSource<R, A: Arrivals> {
     /// The last stream, while it waits for its peer's end of input.
     lingering: Option<Lingering<A::Stream>>,
     /// The line being served, in the state in which it was accepted.
-    out: Option<Snapshot<TcpConnection<A::Stream>>>,
+    out: Option<Snapshot<TcpConnection<A::Stream, T>>>,
     /// Whether its output was ended, since memory to serve it was refused.
     gave_up: bool,
     /// The closed connections.
-    pub gone: Log<ClosedConnection<A::Stream>, ()>,
+    pub gone: Log<ClosedConnection<A::Stream, T>, ()>,
     /// `accept` has returned `Over`.
     is_over: bool,
     /// Number of ended connections; it saturates.
@@ -48,7 +50,7 @@ pub struct StreamSource<R, A: Arrivals> {
     ghost counted: { ended ≡ min (length gone.items) (2 ^ 64 - 1) },
 }
 
-impl<R: Drop, A: Arrivals + Drop> Drop for StreamSource<R, A> {
+impl<R: Drop, A: Arrivals + Drop, T: Drop> Drop for StreamSource<R, A, T> {
     /// Written by hand, so that its owners drop it by a single call (docs/DECISIONS.md, F20).
     fn drop(self) {
         let StreamSource {
@@ -66,10 +68,10 @@ impl<R: Drop, A: Arrivals + Drop> Drop for StreamSource<R, A> {
     }
 }
 
-impl<R: time::Clock, A: Arrivals> StreamSource<R, A> {
+impl<R: time::Clock, A: Arrivals, T: Warrant + Drop> StreamSource<R, A, T> {
     /// A source that has accepted nothing yet. The clock of `rt` limits how long a connection
     /// lingers.
-    pub fn new(rt: R, arrivals: A, sniffs_protocol: bool) -> StreamSource<R, A>
+    pub fn new(rt: R, arrivals: A, sniffs_protocol: bool) -> StreamSource<R, A, T>
         ensures sniff_protocol { result.sniffs_protocol ≡ sniffs_protocol }
         ensures told { told_source (A.coming result.arrivals) result.out result.gone.items
             result.is_over ≡
@@ -110,13 +112,13 @@ fn lingers<R: time::Clock, A: Arrivals>(
     true
 }
 
-impl<R: time::Clock, A: Arrivals> ConnectionSource for StreamSource<R, A> {
-    type Transport = TcpConnection<A::Stream>;
+impl<R: time::Clock, A: Arrivals, T: Warrant + Drop> ConnectionSource for StreamSource<R, A, T> {
+    type Transport = TcpConnection<A::Stream, T>;
 
     ghost told = { λ source.
         told_source (A.coming source.arrivals) source.out source.gone.items source.is_over };
 
-    fn accept(&mut self) -> Accept<TcpConnection<A::Stream>>
+    fn accept(&mut self) -> Accept<TcpConnection<A::Stream, T>>
         ensures told { Arrives (λ line. sight_of line) result
             (told_source (A.coming self.old.arrivals) self.old.out self.old.gone.items
             self.old.is_over)
@@ -124,6 +126,7 @@ impl<R: time::Clock, A: Arrivals> ConnectionSource for StreamSource<R, A> {
             self.new.is_over) }
         // By memcached's rules other protocols are detected.
         ensures sniff_protocol { CameWary self.old.sniffs_protocol result }
+        ensures new { IsUnplaced (λ line. place_of T.place_at line.begun) result }
     {
         if lingers(&self.rt, &self.arrivals, &mut self.lingering) {
             return Accept::NotYet;
@@ -149,12 +152,13 @@ impl<R: time::Clock, A: Arrivals> ConnectionSource for StreamSource<R, A> {
         }
     }
 
-    fn give_up(&mut self, line: &mut TcpConnection<A::Stream>) -> bool
+    fn give_up(&mut self, line: &mut TcpConnection<A::Stream, T>) -> bool
         ensures told { told_source (A.coming self.new.arrivals) self.new.out self.new.gone.items
             self.new.is_over ≡
             told_source (A.coming self.old.arrivals) self.old.out self.old.gone.items
             self.old.is_over }
         ensures line { sight_of line.new ≡ sight_of line.old }
+        ensures place { place_of T.place_at line.new.begun ≡ place_of T.place_at line.old.begun }
     {
         // Once: each end of a socket's output is an event for the poll.
         if !self.gave_up {
@@ -165,7 +169,7 @@ impl<R: time::Clock, A: Arrivals> ConnectionSource for StreamSource<R, A> {
         true
     }
 
-    fn give_back(&mut self, line: TcpConnection<A::Stream>, commands: u64, broke: bool)
+    fn give_back(&mut self, line: TcpConnection<A::Stream, T>, commands: u64, broke: bool)
         ensures told { told_source (A.coming self.new.arrivals) self.new.out self.new.gone.items
             self.new.is_over ≡
             took_back (sight_of line) commands broke

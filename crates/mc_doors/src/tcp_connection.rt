@@ -4,16 +4,19 @@ ghost use Rattle.std.specs.Io.KnownBytes.{Consumes, Keeps};
 ghost use Rattle.std.specs.Io.Slices.{io_slices_bytes};
 ghost use Rattle.mc_wire.specs.Sink.{ReadsIntoRoom, asked, broke, took};
 ghost use Rattle.mc_seat.specs.Lines.{ReadsIfReady};
+ghost use Rattle.mc_seat.specs.Place.{no_place};
+ghost use Rattle.mc_doors.specs.Beginning.{place_of};
 ghost use Rattle.mc_doors.specs.Foreign.{EndsWhere};
 ghost use Rattle.mc_doors.specs.Tcp.{ReadsStream, TellsWrite, WritesStream, new_line, sight_of};
 
+use crate::beginning::Beginning;
 use crate::stream::Stream;
 use crate::tap::Tap;
 use crate::trail::Trail;
 use http_server::Log;
-use mc_seat::{Ready, Taking, Transport, TransportError};
+use mc_seat::{Ready, Taking, Transport, TransportError, Warrant};
 use mc_watch::{Manner, Meter};
-use mc_wire::{Sink, SinkError};
+use mc_wire::SinkError;
 use std::io::{ErrorKind, IoSlice};
 use std::{io, thread};
 
@@ -22,7 +25,7 @@ const TOO_LONG: &[u8] = b"CLIENT_ERROR line too long\r\n";
 
 /// A connection over a stream. Its history of all bytes read and written is visible to contracts
 /// alone.
-pub struct TcpConnection<S: Stream> {
+pub struct TcpConnection<S: Stream, T = ()> {
     pub(crate) tap: Tap<S>,
     /// Whether a poll reports events of the stream. If so, it is only used after an event.
     is_polled: bool,
@@ -43,9 +46,11 @@ pub struct TcpConnection<S: Stream> {
     reads: Log<Trail, Trail>,
     /// The connection's meter.
     meter: Meter,
+    /// Which connection it is.
+    begun: Beginning<T>,
 }
 
-impl<S: Stream + Drop> Drop for TcpConnection<S> {
+impl<S: Stream + Drop, T: Drop> Drop for TcpConnection<S, T> {
     /// Written by hand, so that its owners drop it by a single call (docs/DECISIONS.md, F20).
     fn drop(self) {
         let TcpConnection {
@@ -60,17 +65,19 @@ impl<S: Stream + Drop> Drop for TcpConnection<S> {
             ended: _ended,
             reads: _reads,
             meter: _meter,
+            begun: _begun,
         } = self;
     }
 }
 
-impl<S: Stream> TcpConnection<S> {
+impl<S: Stream, T: Warrant + Drop> TcpConnection<S, T> {
     /// A line whose stream is tried at each call; nothing was read or written yet. It accepts any
     /// protocol.
-    pub fn new(stream: S) -> TcpConnection<S>
+    pub fn new(stream: S) -> TcpConnection<S, T>
         ensures stream { result.tap.stream ≡ stream }
         ensures new { sight_of result ≡ new_line (S.remaining stream) (S.contents stream) }
         ensures serves { result.sniff_protocol ≡ false }
+        ensures unplaced { place_of T.place_at result.begun ≡ no_place }
     {
         TcpConnection {
             tap: Tap::new(stream),
@@ -84,16 +91,23 @@ impl<S: Stream> TcpConnection<S> {
             ended: false,
             reads: Log::new(),
             meter: Meter::unwatched(),
+            begun: Beginning::none(),
         }
     }
 
     /// A line with a meter, and with a poll that reports its events, if `is_polled`; it counts as
     /// ready at first. It fails once the meter reports it idle. With `sniff_protocol`, first bytes
     /// of another protocol end the connection and are left unread.
-    pub fn begin(stream: S, meter: Meter, is_polled: bool, sniff_protocol: bool) -> TcpConnection<S>
+    pub fn begin(
+        stream: S,
+        meter: Meter,
+        is_polled: bool,
+        sniff_protocol: bool,
+    ) -> TcpConnection<S, T>
         ensures stream { result.tap.stream ≡ stream }
         ensures new { sight_of result ≡ new_line (S.remaining stream) (S.contents stream) }
         ensures sniff_protocol { result.sniff_protocol ≡ sniff_protocol }
+        ensures unplaced { place_of T.place_at result.begun ≡ no_place }
     {
         let mut line = TcpConnection::new(stream);
         line.is_polled = is_polled;
@@ -110,7 +124,8 @@ impl<S: Stream> TcpConnection<S> {
 
     /// Shuts down the sending side. Nothing is read or written; the line may still be served later.
     pub(crate) fn end_output(&mut self)
-        ensures { sight_of self.new ≡ sight_of self.old }
+        ensures sight { sight_of self.new ≡ sight_of self.old }
+        ensures begun { self.new.begun ≡ self.old.begun }
     {
         self.tap.end_output();
     }
@@ -119,6 +134,7 @@ impl<S: Stream> TcpConnection<S> {
     fn fail(&mut self, manner: Manner)
         ensures sight { sight_of self.new ≡ broke (sight_of self.old) }
         ensures tap { self.new.tap ≡ self.old.tap }
+        ensures begun { self.new.begun ≡ self.old.begun }
     {
         self.failed = true;
         self.meter.note_end(manner);
@@ -130,6 +146,7 @@ impl<S: Stream> TcpConnection<S> {
         ensures sight { sight_of self.new ≡ sight_of self.old }
         ensures tap { self.new.tap ≡ self.old.tap }
         ensures sniff_protocol { self.new.sniff_protocol ≡ self.old.sniff_protocol }
+        ensures begun { self.new.begun ≡ self.old.begun }
     {
         if self.meter.is_cut() {
             self.meter.note_end(Manner::Shutdown);
@@ -148,6 +165,7 @@ impl<S: Stream> TcpConnection<S> {
         ensures sight { sight_of self.new ≡ sight_of self.old }
         ensures tap { self.new.tap ≡ self.old.tap }
         ensures sniff_protocol { self.new.sniff_protocol ≡ self.old.sniff_protocol }
+        ensures begun { self.new.begun ≡ self.old.begun }
     {
         if bytes.ends_with(TOO_LONG) {
             self.meter.note_end(Manner::LineTooLong);
@@ -161,6 +179,7 @@ impl<S: Stream> TcpConnection<S> {
         ensures sight { sight_of self.new ≡ sight_of self.old }
         ensures tap { self.new.tap ≡ self.old.tap }
         ensures sniff_protocol { self.new.sniff_protocol ≡ self.old.sniff_protocol }
+        ensures begun { self.new.begun ≡ self.old.begun }
     {
         self.meter.note_end(Manner::ShutdownRequested);
         self.meter.request_shutdown();
@@ -171,6 +190,7 @@ impl<S: Stream> TcpConnection<S> {
         ensures sight { sight_of self.new ≡ asked (sight_of self.old) }
         ensures stream { self.new.tap.stream ≡ self.old.tap.stream }
         ensures same { self.new.sniff_protocol ≡ self.old.sniff_protocol }
+        ensures begun { self.new.begun ≡ self.old.begun }
     {
         self.reads = self.reads.and(&self.tap.given, &self.tap.taken);
     }
@@ -184,6 +204,7 @@ impl<S: Stream> TcpConnection<S> {
         ensures failed { self.new.failed ≡ self.old.failed }
         ensures serves { self.new.sniff_protocol ≡ false }
         ensures measured { self.new.meter.read ≡ min (self.old.meter.read + count) (2 ^ 64 - 1) }
+        ensures begun { self.new.begun ≡ self.old.begun }
     {
         self.sniff_protocol = false;
         self.ended = count == 0;
@@ -203,6 +224,7 @@ impl<S: Stream> TcpConnection<S> {
         ensures ok { IfOk result (λ _. sight_of self.new ≡ sight_of self.old) }
         ensures err { OnErr result (sight_of self.new ≡ broke (sight_of self.old)) }
         ensures tap { self.new.tap ≡ self.old.tap }
+        ensures begun { self.new.begun ≡ self.old.begun }
     {
         match done {
             Ok(count) if count > 0 => {
@@ -221,7 +243,7 @@ impl<S: Stream> TcpConnection<S> {
     }
 }
 
-impl<S: Stream + Drop> TcpConnection<S> {
+impl<S: Stream + Drop, T: Drop> TcpConnection<S, T> {
     /// The stream, if it is still usable: its input has not ended, and it has neither failed nor
     /// been given up, except by the server's shutdown.
     pub(crate) fn into_open(self, given_up: bool) -> Option<S>
@@ -239,6 +261,7 @@ impl<S: Stream + Drop> TcpConnection<S> {
             sniff_protocol: _sniff_protocol,
             is_over: _is_over,
             reads: _reads,
+            begun: _begun,
         } = self;
         let has_failed = (failed || given_up) && !matches!(meter.manner(), Manner::Shutdown);
         if has_failed || ended {
@@ -272,33 +295,19 @@ fn are_empty(bufs: &[IoSlice<'_>]) -> bool {
     bufs.iter().all(|buf| buf.as_slice().is_empty())
 }
 
-impl<S: Stream> Sink for TcpConnection<S> {
+impl<S: Stream, T: Warrant + Drop> Transport for TcpConnection<S, T> {
+    type Warrant = T;
+
     ghost sight = { sight_of };
 
-    fn write(&mut self, bytes: &[u8]) -> Result<usize, SinkError>
-        ensures within { IfOk result (λ count. count ≤ length bytes.now) }
-        ensures some { IfOk result (λ count. 0 < length bytes.now → 0 < count) }
-        ensures ok { IfOk result
-            (λ count. sight_of self.new ≡ took (take count bytes.now) (sight_of self.old)) }
-        ensures err { OnErr result (sight_of self.new ≡ broke (sight_of self.old)) }
-        // Exactly the bytes reported were written to the stream.
-        ensures stream { WritesStream bytes.now result (S.contents self.old.tap.stream)
-            (S.contents self.new.tap.stream) }
-    {
-        for _ in 0..u64::MAX {
-            let count = self.write_if_ready(bytes)?;
-            if count > 0 || bytes.is_empty() {
-                return Ok(count);
-            }
-            self.may_write = true;
-            thread::yield_now();
-        }
-        self.failed = true;
-        Err(SinkError)
-    }
-}
+    ghost place = { λ line. place_of T.place_at line.begun };
 
-impl<S: Stream> Transport for TcpConnection<S> {
+    fn begin(&mut self, seen: T) {
+        let tap = &self.tap;
+        let begun = Beginning::new(seen, &tap.given, &tap.taken);
+        self.begun = begun;
+    }
+
     fn read(&mut self, room: &mut [u8]) -> Result<usize, TransportError>
         ensures within { IfOk result (λ count. count ≤ length room.old) }
         ensures read { ReadsIntoRoom room.new result (sight_of self.old) (sight_of self.new) }
@@ -308,6 +317,7 @@ impl<S: Stream> Transport for TcpConnection<S> {
             (take count room.new)) }
         ensures fault { OnErr result
             (Keeps (S.remaining self.old.tap.stream) (S.remaining self.new.tap.stream)) }
+        ensures place { place_of T.place_at self.new.begun ≡ place_of T.place_at self.old.begun }
     {
         for _ in 0..u64::MAX {
             if let Some(count) = self.read_if_ready(room)? {
@@ -337,6 +347,7 @@ impl<S: Stream> Transport for TcpConnection<S> {
             (λ given. IfSome given (λ _. self.new.sniff_protocol ≡ false)) }
         ensures waits { IfOk result
             (λ given. IfNone given (self.new.sniff_protocol ≡ self.old.sniff_protocol)) }
+        ensures place { place_of T.place_at self.new.begun ≡ place_of T.place_at self.old.begun }
     {
         let may_read = self.may_read;
         if self.failed || self.lapses(may_read) {
@@ -369,7 +380,7 @@ impl<S: Stream> Transport for TcpConnection<S> {
         }
     }
 
-    fn write_if_ready(&mut self, bytes: &[u8]) -> Result<usize, SinkError>
+    fn write_if_ready(&mut self, bytes: &[u8], _seen: &T) -> Result<usize, SinkError>
         ensures within { IfOk result (λ count. count ≤ length bytes.now) }
         ensures ok { IfOk result
             (λ count. sight_of self.new ≡ took (take count bytes.now) (sight_of self.old)) }
@@ -377,6 +388,7 @@ impl<S: Stream> Transport for TcpConnection<S> {
         // Exactly the bytes reported were written to the stream.
         ensures stream { WritesStream bytes.now result (S.contents self.old.tap.stream)
             (S.contents self.new.tap.stream) }
+        ensures place { place_of T.place_at self.new.begun ≡ place_of T.place_at self.old.begun }
     {
         let may_write = self.may_write;
         if self.failed || self.lapses(may_write) {
@@ -393,7 +405,11 @@ impl<S: Stream> Transport for TcpConnection<S> {
         self.after_write(done)
     }
 
-    fn write_vectored_if_ready(&mut self, bufs: &[IoSlice<'_>]) -> Result<usize, SinkError>
+    fn write_vectored_if_ready(
+        &mut self,
+        bufs: &[IoSlice<'_>],
+        _seen: &T,
+    ) -> Result<usize, SinkError>
         ensures within { IfOk result (λ count. count ≤ length (io_slices_bytes bufs.now)) }
         ensures ok { IfOk result (λ count.
             sight_of self.new ≡ took (take count (io_slices_bytes bufs.now)) (sight_of self.old)) }
@@ -401,6 +417,7 @@ impl<S: Stream> Transport for TcpConnection<S> {
         // Exactly the bytes reported were written to the stream.
         ensures stream { WritesStream (io_slices_bytes bufs.now) result
             (S.contents self.old.tap.stream) (S.contents self.new.tap.stream) }
+        ensures place { place_of T.place_at self.new.begun ≡ place_of T.place_at self.old.begun }
     {
         let may_write = self.may_write;
         if self.failed || self.lapses(may_write) {

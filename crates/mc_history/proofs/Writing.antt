@@ -4,7 +4,7 @@ use Rattle.std.proofs.Common.{append_assoc}
 use Rattle.std.specs.List.{concat}
 use Rattle.std.proofs.lemmas.List.{map-append, take-append-drop, take_all}
 use Rattle.std.proofs.lemmas.List.Elements.{filter-append}
-use Rattle.mc_wire.specs.Sink.{Sight, took, with_bytes}
+use Rattle.mc_wire.specs.Sink.{Sight, with_bytes}
 use Rattle.mc_wire.proofs.Sinks.{with_bytes-append}
 use Rattle.mc_sizes.specs.Sizes.{rules_of}
 use Rattle.mc_sizes.specs.declared.sizes.Sizes.{Sizes}
@@ -18,6 +18,7 @@ use Rattle.mc_model.specs.Grows.{Lengthens}
 use Rattle.mc_model.specs.Headline.{replies_to}
 use Rattle.mc_model.specs.Log.{Entry, of_asker, replies_in, reply_to}
 use Rattle.mc_model.proofs.Growing.{concat-append, replies_stay}
+use Rattle.mc_seat.specs.Place.{bytes_seen}
 use Rattle.mc_history.specs.declared.event.Event.{Event}
 use Rattle.mc_history.specs.Worlds.{entries_of, link_in, ran_in, taken_in, world_in}
 use Rattle.mc_history.specs.Lawful.{IsHistory}
@@ -25,10 +26,10 @@ use Rattle.mc_history.specs.Writes.{MayWrite}
 use Rattle.mc_history.proofs.Holds.{holds}
 use Rattle.mc_history.proofs.Lists.{lengthens_picked}
 
--- A prefix of what may be written may be written.
-pub front_may : (sizes : Sizes) (number : ℕ) (begin now : Sight) (bytes more : List ℕ) (history : List Event)
-    → MayWrite sizes number begin now (bytes ++ more) history → MayWrite sizes number begin now bytes history
-front_may sizes number begin now bytes more history may = record {
+-- Of what was seen at the beginning, the bytes alone count.
+pub by_bytes : (sizes : Sizes) (number : ℕ) (begin now : Sight) (bytes : List ℕ) (history : List Event)
+    → MayWrite sizes number begin now bytes history → MayWrite sizes number (bytes_seen begin) now bytes history
+by_bytes sizes number begin now bytes history may = record {
   lawful = may.lawful;
   once = may.once;
   owned = may.owned;
@@ -40,30 +41,8 @@ front_may sizes number begin now bytes more history may = record {
   covers = may.covers;
   may = may.may;
   recorded = may.recorded;
-  rest = more ++ may.rest;
-  next = ap (λ l. may.written ++ l) (sym (append_assoc bytes more may.rest)) ∙ may.next;
-}
-
--- Once a prefix of it was written, the rest may be.
-pub behind_may : (sizes : Sizes) (number : ℕ) (begin now : Sight) (bytes more : List ℕ) (history : List Event)
-    → MayWrite sizes number begin now (bytes ++ more) history
-    → MayWrite sizes number begin (took bytes now) more history
-behind_may sizes number begin now bytes more history may = record {
-  lawful = may.lawful;
-  once = may.once;
-  owned = may.owned;
-  read = may.read;
-  written = may.written ++ bytes;
-  read_is = may.read_is;
-  written_is = ap (λ t. with_bytes t bytes) may.written_is ∙ with_bytes-append begin.taken may.written bytes;
-  taken = may.taken;
-  covers = may.covers;
-  may = may.may;
-  recorded = may.recorded;
   rest = may.rest;
-  next =
-      append_assoc may.written bytes (more ++ may.rest)
-      ∙ (ap (λ l. may.written ++ l) (sym (append_assoc bytes more may.rest)) ∙ may.next);
+  next = may.next;
 }
 
 -- Once more bytes were read, it still may be written.

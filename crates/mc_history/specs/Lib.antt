@@ -5,3 +5,5 @@ pub mod Rule
 pub mod Tokens
 pub mod Allowed
 pub mod Writes
+pub mod WritesLaws
+pub mod Places

@@ -8,6 +8,7 @@ use crate::knowledge::Knowledge;
 use crate::rule::{Hears, Looks};
 use atomic_table::Seat;
 use mc_ring::Token;
+use mc_seat::Warrant;
 use std::marker::Model;
 
 /// Evidence that these events happened first, in this order. It has a size of 0 bytes.
@@ -41,6 +42,29 @@ impl Token for Evidence {
     ghost may_send = { λ route before request e. MaySend route before request e };
 
     ghost may_give = { λ route before reply e. MayGive route before reply e };
+}
+
+/// With what the history shows, the replies to a connection's commands may be written to its line.
+impl Warrant for Evidence {
+    ghost use Rattle.std.specs.Prelude.{◌≡◌};
+    ghost use Rattle.mc_history.specs.Places.{place_in};
+    ghost use Rattle.mc_history.specs.Writes.{MayWrite};
+    ghost use Rattle.mc_history.specs.WritesLaws.{behind_may, front_may};
+
+    ghost place_at = { λ e begin. place_in e begin };
+
+    ghost may_write = { λ place now bytes e. (e.name ≡ place.name)
+        × MayWrite place.name.sizes place.number place.begin now bytes e.events };
+
+    ghost front = { λ place now bytes more e may. (
+      may.0,
+      front_may place.name.sizes place.number place.begin now bytes more e.events may.1,
+    ) };
+
+    ghost behind = { λ place now bytes more e may. (
+      may.0,
+      behind_may place.name.sizes place.number place.begin now bytes more e.events may.1,
+    ) };
 }
 
 impl Evidence {

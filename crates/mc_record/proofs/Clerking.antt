@@ -1,10 +1,11 @@
 -- What a seat's actor records.
-use Rattle.std.proofs.Common.{◌≡◌, ℕ, zero, suc, ◌+◌, true, List, [], ◌∷◌, ◌++◌, length, map, drop, Some, refl, sym, ap}
-use Rattle.std.proofs.Common.{subst, ◌∙◌, arith, append-nil, eq-eqb}
+use Rattle.std.proofs.Common.{◌≡◌, ℕ, zero, suc, ◌+◌, ◌-◌, true, List, [], ◌∷◌, ◌++◌, length, map, drop, Some, refl}
+use Rattle.std.proofs.Common.{sym, ap, subst, ◌∙◌, arith, append-nil, eq-eqb, length-append}
 use Rattle.std.specs.List.{AllByRecursion, slice_get}
 use Rattle.std.proofs.lemmas.List.{append_cancel_right, map-append}
 use Rattle.std.proofs.lemmas.List.Concat.{flat_map-append}
 use Rattle.std.proofs.lemmas.Option.{same_Some}
+use Rattle.mc_wire.specs.Sink.{Sight}
 use Rattle.mc_ring.proofs.Lists.{get_map}
 use Rattle.mc_ring.specs.declared.request.Request.{Request}
 use Rattle.mc_ring.specs.declared.request.Request.TheVariants as request
@@ -26,7 +27,7 @@ use Rattle.mc_history.specs.declared.knowledge.Role.TheVariants.{Seat}
 use Rattle.mc_history.specs.Allowed.{IsDueNext, MayGive, MaySend}
 use Rattle.mc_history.specs.Lawful.{IsHistory, MayFollow}
 use Rattle.mc_history.specs.Roles.{is_own, own_part, seat_of}
-use Rattle.mc_history.specs.Tokens.{Acting, Adds, Sees, Sight, TakesAll}
+use Rattle.mc_history.specs.Tokens.{Acting, Adds, Sees, Sight as Shows, TakesAll}
 use Rattle.mc_history.specs.Worlds.{IsLastOn, asked, numbers_on, ran_on, seats_in, seats_of, taken_in, took, work_on}
 use Rattle.mc_history.proofs.Holds.{holds}
 use Rattle.mc_history.proofs.Channels.{last_number}
@@ -36,7 +37,9 @@ use Rattle.mc_history.proofs.Seats.{ran_grows, seats_took, taken_same, work_open
 use Rattle.mc_history.proofs.Seeing.{added_commands, added_opening, heard_commands, lawful_before, own_all, part_added}
 use Rattle.mc_history.proofs.Seeing.{part_heard, part_of}
 use Rattle.mc_seat.specs.Clerk.{AddsWork, IsDueAt}
-use Rattle.mc_record.specs.Clerk.{HasOpened, IsSeatActor, answers_at, connection_of, last_after, taken_now, work_at}
+use Rattle.mc_seat.specs.Place.{Place, bytes_seen}
+use Rattle.mc_record.specs.Clerk.{HasOpened, IsSeatActor, answers_at, connection_of, last_after, place_of, taken_now}
+use Rattle.mc_record.specs.Clerk.{work_at}
 
 -- an actor with these events
 abbrev with_events : Acting → List Event → Acting
@@ -74,6 +77,13 @@ answers_grow old events s lawful more =
     let grows = ran_grows old.name.sizes (seat_of old.role) s old.events events lawful more in
     (map reply_to grows.0, ap replies_in grows.1 ∙ map-append reply_to (ran_on (seat_of old.role) s old.events) grows.0)
 
+-- The place is that of the name and the connection.
+pub same_place : (old new : Acting) → new.name ≡ old.name → connection_of new ≡ connection_of old → place_of new
+    ≡ place_of old
+same_place old new name number =
+    let put : Name → ℕ → Sight → Place = λ n k begin. record { name = n; number = k; begin = bytes_seen begin } in
+    ap (λ n. put n (connection_of new)) name ∙ ap (λ k. put old.name k) number
+
 lawful_with : (old new : Acting) → new.name ≡ old.name → IsHistory new.name.sizes new.events
     → IsHistory old.name.sizes new.events
 lawful_with old new name lawful = subst (λ (n : Name). IsHistory n.sizes new.events) name lawful
@@ -84,6 +94,7 @@ pub record OpensConnection (old new : Acting) : Type 0 where
   pub taken : taken_now new ≡ []
   pub work : (s : ℕ) → work_at new s ≡ work_at old s
   pub answers : (s : ℕ) → Lengthens (answers_at old s) (answers_at new s)
+  pub number : length (seats_in new.events) - 1 ≡ connection_of new
 
 -- A connection may be opened on the actor's seat.
 pub may_open : (actor : Acting) → IsSeatActor actor → (is_own actor.role (Opened (seat_of actor.role)) ≡ true)
@@ -119,8 +130,19 @@ opens old new is lawful' adds =
       answers =
           λ s. answers_grow old new.events s lawful
           (further old.events before new.events adds.more (event ∷ [], adds.events));
+      number =
+          let one : length (seats_in new.events) ≡ length (seats_in before) + 1 =
+          ap (λ (h : List Event). length (seats_in h)) adds.events
+          ∙ (ap length (flat_map-append seats_of before (event ∷ [])) ∙ length-append (seats_in before) (c ∷ [])) in
+          omega (arith, one) ∙ sym is_named.1;
     } in
     subst (λ (a : Acting). OpensConnection old a) (sym (is_with old new adds.name adds.role)) opened
+
+-- And it is so once the actor has shown it.
+pub opens_shown : (old new shown : Acting) → IsSeatActor old → IsHistory new.name.sizes new.events
+    → Adds (Opened (seat_of old.role)) old new → shown ≡ new → OpensConnection old shown
+opens_shown old new shown is lawful adds same =
+    subst (λ (a : Acting). OpensConnection old a) (sym same) (opens old new is lawful adds)
 
 -- what taking commands makes of it
 pub record TakesCommands (taken : List Taken) (old new : Acting) : Type 0 where
@@ -128,6 +150,7 @@ pub record TakesCommands (taken : List Taken) (old new : Acting) : Type 0 where
   pub taken_is : taken_now new ≡ taken_now old ++ taken
   pub work : (s : ℕ) → AddsWork old.name.sizes.shards s (taken_now old) (taken_now new) (work_at old s) (work_at new s)
   pub answers : (s : ℕ) → Lengthens (answers_at old s) (answers_at new s)
+  pub number : connection_of new ≡ connection_of old
 
 -- What is behind the first elements of a list.
 pub drop_front : {X : Type 0} (xs ys : List X) → drop (length xs) (xs ++ ys) ≡ ys
@@ -210,6 +233,7 @@ takes_commands taken old new is last lawful' takes =
       answers =
           λ s. answers_grow old new.events s lawful
           (further old.events before new.events takes.more (events, takes.events));
+      number = is_named.1;
     } in
     subst (λ (a : Acting). TakesCommands taken old a) (sym (is_with old new takes.name takes.role)) took_so
 
@@ -235,7 +259,7 @@ pub sends : (actor : Acting) → IsSeatActor actor → (shard : ℕ) (route : Ro
     → route ≡ route_from actor shard → IsDueAt (work_at actor shard) (length before) one
     → MaySend route before one (record { name = actor.name; events = actor.events })
 sends actor is shard route before one at next =
-    let sight : Sight = record { name = actor.name; events = actor.events } in
+    let sight : Shows = record { name = actor.name; events = actor.events } in
     subst (λ (r : Route). MaySend r before one sight) (sym at)
     (record { name = refl; lawful = is.lawful }, due_of actor shard before one next)
 
@@ -245,6 +269,7 @@ pub record HearsOfOthers (old new : Acting) : Type 0 where
   pub taken : HasOpened old → taken_now new ≡ taken_now old
   pub work : (s : ℕ) → work_at new s ≡ work_at old s
   pub answers : (s : ℕ) → Lengthens (answers_at old s) (answers_at new s)
+  pub number : HasOpened old → connection_of new ≡ connection_of old
 
 -- The actor hears of others, and does nothing itself.
 pub hears_of : (heard : List Event) (old new : Acting) → IsSeatActor old → IsHistory new.name.sizes new.events
@@ -265,6 +290,7 @@ hears_of heard old new is lawful' sees =
           ∙ heard_commands sizes c k heard old new lawful last.here is.role sees;
       work = λ s. ap (map snd) (work_stays sizes c s old.events new.events lawful sees.more same);
       answers = λ s. answers_grow old new.events s lawful sees.more;
+      number = λ last. (named old k new.events (last_stays c k old.events new.events sees.more same last)).1;
     } in
     subst (λ (a : Acting). HearsOfOthers old a) (sym (is_with old new sees.name sees.role)) hears
 
@@ -295,7 +321,7 @@ replies_to entry piece reply is at =
     (subst (λ p. IsReplyTo p (reply_to entry)) at (record { ticket = refl; part = refl; kind = refl }))
 
 -- The reply answers the piece in its place.
-pub hears_reply : (old new : Acting) (sight : Sight) (shard : ℕ) (before : List Shown) (reply : Shown) → IsSeatActor old
+pub hears_reply : (old new : Acting) (sight : Shows) (shard : ℕ) (before : List Shown) (reply : Shown) → IsSeatActor old
     → IsHistory new.name.sizes new.events → Sees sight.events old new
     → MayGive (route_from old shard) before reply sight
     → IsHeard old new shard before reply

@@ -96,11 +96,12 @@ fits_carried shards taken accepted received fits = record {
 
 -- the replies to the connection begin those by the history
 texts_at : (actor : Acting) (begin now : Sight) (bytes : List ℕ) → IsSeatActor actor
-    → (owed : IsOwed actor begin now bytes)
-    → Lengthens (all_texts owed.told)
+    → (has : IsOwed actor begin now bytes)
+    → Lengthens (all_texts has.owed.told)
     (replies_to actor.name.sizes (world_in actor.events) (connection_of actor)
     (link_in (connection_of actor) actor.events))
-texts_at actor begin now bytes is owed =
+texts_at actor begin now bytes is has =
+    let owed = has.owed in
     let sizes = actor.name.sizes in
     let k = connection_of actor in
     let told = owed.told in
@@ -110,7 +111,7 @@ texts_at actor begin now bytes is owed =
     (subst (λ ts. Fits sizes.shards ts (replies_in own) (by_shard own)) owed.recorded
     (history_fits sizes k actor.events is.lawful)) in
     let came : (s : ℕ) → s < sizes.shards → Lengthens (owed.received s) (by_shard own s) =
-    λ s below. came_at actor owed.before told owed.received s is owed.opened owed.kept owed.shards_are
+    λ s below. came_at actor owed.before told owed.received s is has.opened owed.kept owed.shards_are
     (subst (λ n. s < n) (sym owed.shards_are) below) in
     let there = subst (λ n. 0 < n) owed.shards_are owed.some_shards in
     let grown = replies_begin sizes.shards told.taken told.accepted (replies_in own) owed.received (by_shard own) there
@@ -126,12 +127,13 @@ texts_at actor begin now bytes is owed =
 -- What the line is owed may be written to it.
 pub owed_may : (actor : Acting) (begin now : Sight) (bytes : List ℕ) → IsSeatActor actor → IsOwed actor begin now bytes
     → MayWrite actor.name.sizes (connection_of actor) begin now bytes actor.events
-owed_may actor begin now bytes is owed =
+owed_may actor begin now bytes is has =
+    let owed = has.owed in
     let sizes = actor.name.sizes in
     let k = connection_of actor in
     let told = owed.told in
     let kept = holds sizes actor.events is.lawful in
-    let texts = texts_at actor begin now bytes is owed in
+    let texts = texts_at actor begin now bytes is has in
     record {
       lawful = kept.steps;
       once = kept.in_order;

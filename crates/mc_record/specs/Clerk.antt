@@ -1,21 +1,17 @@
 -- A seat's actor as the record of what the seat's connections take.
-use Rattle.std.specs.Prelude.{ℕ, ◌≡◌, ◌<◌, List, [], ◌∷◌, ◌++◌, map}
-use Rattle.std.specs.List.{concat}
-use Rattle.mc_wire.specs.Sink.{Sight, with_bytes}
-use Rattle.mc_sizes.specs.Sizes.{rules_of}
-use Rattle.mc_ring.specs.Ends.{Ends}
-use Rattle.mc_ring.specs.Channel.{Near}
+use Rattle.std.specs.Prelude.{ℕ, ◌≡◌, ◌<◌, List, [], ◌∷◌, map}
+use Rattle.mc_wire.specs.Sink.{Sight}
 use Rattle.mc_ring.specs.Reply.{Shown}
 use Rattle.mc_split.specs.declared.plan.Piece.{Piece}
-use Rattle.mc_conn.specs.History.{Taken, carried_out}
-use Rattle.mc_conn.specs.Told.{IsSound, Told, all_texts}
+use Rattle.mc_conn.specs.History.{Taken}
 use Rattle.mc_model.specs.Log.{replies_in}
 use Rattle.mc_history.specs.declared.knowledge.Role.TheVariants.{Seat}
 use Rattle.mc_history.specs.Lawful.{IsHistory}
 use Rattle.mc_history.specs.Roles.{seat_of}
 use Rattle.mc_history.specs.Tokens.{Acting}
 use Rattle.mc_history.specs.Worlds.{IsLastOn, numbers_on, ran_on, seats_in, taken_in, work_on}
-use Rattle.mc_seat.specs.Clerk.{IsKept}
+use Rattle.mc_seat.specs.Clerk.{IsOwed as IsOwedBy}
+use Rattle.mc_seat.specs.Place.{Place, bytes_seen}
 
 -- It acts for a seat that is there, and has seen a lawful history.
 pub record IsSeatActor (actor : Acting) : Type 0 where
@@ -48,26 +44,12 @@ work_at actor shard = map (λ one. one.1) (work_on actor.name.sizes.shards (seat
 abbrev pub answers_at : Acting → ℕ → List Shown
 answers_at actor shard = replies_in (ran_on (seat_of actor.role) shard actor.events)
 
--- The line of the seat's last connection is owed these bytes next. What is seen of the line was so at its beginning,
--- and is so now.
+-- the place of the line of the seat's last connection, of which this was seen at its beginning
+abbrev pub place_of : Acting → Sight → Place
+place_of actor begin = record { name = actor.name; number = connection_of actor; begin = bytes_seen begin }
+
+-- The line of the seat's last connection is owed these bytes next, by what the actor has seen. What is seen of the line
+-- was so at its beginning, and is so now.
 pub record IsOwed (actor : Acting) (begin now : Sight) (bytes : List ℕ) : Type 0 where
   pub opened : HasOpened actor
-  -- what was done to the connection, and the replies received for it, on ends that were so before it
-  pub told : Told
-  pub before : Ends Near
-  pub received : ℕ → List Shown
-  pub kept : IsKept (work_at actor) (taken_now actor) (answers_at actor) before told received
-  pub sound : IsSound told
-  pub some_shards : 0 < told.shards
-  pub shards_are : told.shards ≡ actor.name.sizes.shards
-  pub rules_are : told.rules ≡ rules_of actor.name.sizes
-  -- All that it took is recorded.
-  pub recorded : taken_now actor ≡ map carried_out told.taken
-  -- All that was fed to it was read of the line.
-  pub unread : List ℕ
-  pub read_is : now.given ≡ with_bytes begin.given (told.fed ++ unread)
-  -- Its replies begin with what was written to the line and then these bytes.
-  pub written : List ℕ
-  pub written_is : now.taken ≡ with_bytes begin.taken written
-  pub rest : List ℕ
-  pub next : written ++ (bytes ++ rest) ≡ concat (all_texts told)
+  pub owed : IsOwedBy actor.name.sizes (work_at actor) (taken_now actor) (answers_at actor) begin now bytes

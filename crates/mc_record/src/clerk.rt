@@ -1,7 +1,6 @@
 //! The record of a seat's connections in a history.
-ghost use Rattle.std.specs.Prelude.{◌≡◌, ℕ, List, length, drop, true};
+ghost use Rattle.std.specs.Prelude.{◌≡◌, length, drop, true};
 ghost use Rattle.std.specs.List.{AllByRecursion};
-ghost use Rattle.mc_wire.specs.Sink.{Sight};
 ghost use Rattle.mc_conn.specs.Conn.{taken_by};
 ghost use Rattle.mc_conn.specs.History.{MayBeTaken};
 ghost use Rattle.mc_model.specs.Grows.{Lengthens};
@@ -10,8 +9,7 @@ ghost use Rattle.mc_history.specs.declared.knowledge.Role.TheVariants.{Seat as O
 ghost use Rattle.mc_history.specs.Lawful.{MayFollow};
 ghost use Rattle.mc_history.specs.Roles.{is_own, seat_of};
 ghost use Rattle.mc_history.specs.Worlds.{IsLastOn};
-ghost use Rattle.mc_history.specs.Writes.{MayWrite};
-ghost use Rattle.mc_record.specs.Clerk.{HasOpened, IsOwed, IsSeatActor, connection_of, taken_now};
+ghost use Rattle.mc_record.specs.Clerk.{HasOpened, IsSeatActor, connection_of, taken_now};
 
 use mc_conn::Conn;
 use mc_history::{Evidence, Member};
@@ -45,23 +43,11 @@ impl SeatClerk {
     {
         SeatClerk { member }
     }
-
-    /// Evidence of all that the actor has seen. By it, what the line of the slot's last connection
-    /// is owed may be written to it.
-    pub fn evidence(&mut self) -> Evidence
-        ensures shown { result ≡ record { name = self.old.name; events = self.old.events } }
-        ensures may { (begin now : Sight) (bytes : List ℕ) → IsOwed self.old begin now bytes →
-            MayWrite result.name.sizes (connection_of self.old) begin now bytes result.events }
-        ensures kept { self.new ≡ self.old }
-    {
-        let SeatClerk { member } = self;
-        member.show()
-    }
 }
 
 impl Clerk<Evidence> for SeatClerk {
     ghost use Rattle.mc_history.specs.Roles.{seat_of};
-    ghost use Rattle.mc_record.specs.Clerk.{HasOpened, answers_at, taken_now, work_at};
+    ghost use Rattle.mc_record.specs.Clerk.{HasOpened, answers_at, place_of, taken_now, work_at};
 
     ghost keeps = { Unit {0} };
 
@@ -75,9 +61,12 @@ impl Clerk<Evidence> for SeatClerk {
 
     ghost answers = { λ c shard. answers_at c shard };
 
-    fn open(&mut self) {
+    ghost place = { λ c begin. place_of c begin };
+
+    fn open(&mut self) -> Evidence {
         may_open(&self.member);
         self.member.add(&());
+        self.member.show()
     }
 
     fn take_all(&mut self, conn: &Conn) {
@@ -87,6 +76,11 @@ impl Clerk<Evidence> for SeatClerk {
 
     fn token(&mut self) -> Evidence {
         self.member.show()
+    }
+
+    fn evidence(&mut self) -> Evidence {
+        let SeatClerk { member } = self;
+        member.show()
     }
 
     fn hear(&mut self, _shard: usize, token: Evidence, _reply: &Reply) {

@@ -1,9 +1,12 @@
 //! A line in memory that is cut into pieces and may fail.
 ghost use Rattle.std.specs.Prelude.{◌≡◌, None, IsTrue};
+ghost use Rattle.mc_seat.specs.Place.{no_place};
 
+use mc_history::Evidence;
 use mc_seat::{Transport, TransportError};
-use mc_wire::{Sink, SinkError};
+use mc_wire::SinkError;
 use std::alloc::Global;
+use std::snapshot::Snapshot;
 
 /// How a line is cut, and where it fails.
 #[derive(Clone, Copy)]
@@ -28,11 +31,18 @@ pub struct MemoryLine<'a> {
     failed_reading: bool,
     /// The last read returned the end of input.
     ended: bool,
+    /// What was shown when it began, if it has. Contracts alone see it.
+    begun: Snapshot<Option<Evidence>>,
 }
 
 impl<'a> MemoryLine<'a> {
-    /// A line that was neither read nor written yet.
-    pub fn new(alloc: Global, input: &'a [u8], cutting: Cutting) -> MemoryLine<'a> {
+    ghost use Rattle.mc_server.specs.Begun.{place_since};
+
+    /// A line that has not begun.
+    pub fn new(alloc: Global, input: &'a [u8], cutting: Cutting) -> MemoryLine<'a>
+        ensures { place_since result.begun.value ≡ no_place }
+    {
+        let begun: Option<Evidence> = None;
         MemoryLine {
             input,
             cutting,
@@ -42,6 +52,7 @@ impl<'a> MemoryLine<'a> {
             failed: false,
             failed_reading: false,
             ended: false,
+            begun: Snapshot::of(&begun),
         }
     }
 
@@ -76,6 +87,7 @@ impl<'a> MemoryLine<'a> {
         ensures failed { result ≡ self.new.failed }
         ensures stays { IsTrue self.old.failed → IsTrue self.new.failed }
         ensures ended { self.new.ended ≡ self.old.ended }
+        ensures begun { self.new.begun ≡ self.old.begun }
     {
         if self.calls == self.cutting.fails_at {
             self.failed = true;
@@ -85,8 +97,11 @@ impl<'a> MemoryLine<'a> {
     }
 }
 
-impl Sink for MemoryLine<'_> {
+impl Transport for MemoryLine<'_> {
     ghost use Rattle.mc_wire.specs.Sink.{Untold};
+    ghost use Rattle.mc_server.specs.Begun.{place_since};
+
+    type Warrant = Evidence;
 
     ghost sight = { λ line.
         record {
@@ -97,21 +112,13 @@ impl Sink for MemoryLine<'_> {
           failed = line.failed;
         } };
 
-    fn write(&mut self, bytes: &[u8]) -> Result<usize, SinkError> {
-        if self.fails() {
-            return Err(SinkError);
-        }
-        let count = bytes.len().min(self.cutting.portion.max(1));
-        let (front, _) = bytes.split_at(count);
-        if self.output.extend_from_slice(front).is_err() {
-            self.failed = true;
-            return Err(SinkError);
-        }
-        Ok(count)
-    }
-}
+    ghost place = { λ line. place_since line.begun.value };
 
-impl Transport for MemoryLine<'_> {
+    fn begin(&mut self, seen: Evidence) {
+        let begun = Some(seen);
+        self.begun = Snapshot::of(&begun);
+    }
+
     fn read(&mut self, room: &mut [u8]) -> Result<usize, TransportError> {
         if self.fails() {
             self.failed_reading = true;
@@ -124,6 +131,19 @@ impl Transport for MemoryLine<'_> {
         room.split_at_mut(count).0.copy_from_slice(now);
         self.given = self.given.saturating_add(count);
         self.ended = count == 0;
+        Ok(count)
+    }
+
+    fn write_if_ready(&mut self, bytes: &[u8], _seen: &Evidence) -> Result<usize, SinkError> {
+        if self.fails() {
+            return Err(SinkError);
+        }
+        let count = bytes.len().min(self.cutting.portion.max(1));
+        let (front, _) = bytes.split_at(count);
+        if self.output.extend_from_slice(front).is_err() {
+            self.failed = true;
+            return Err(SinkError);
+        }
         Ok(count)
     }
 }

@@ -4,6 +4,9 @@
 //! output, and those whose connection held too many bytes.
 #![tactic(auto)]
 
+ghost use Rattle.std.specs.Prelude.{◌≡◌};
+ghost use Rattle.mc_seat.specs.Place.{no_place};
+
 mod escape;
 mod held;
 mod line;
@@ -12,6 +15,7 @@ mod row;
 use held::{blocks_held, is_bounded};
 use line::{Cutting, MemoryLine};
 use mc_command::Profile;
+use mc_history::Evidence;
 use mc_seat::{Served, Transport};
 use mc_server::{FixedClock, serve_one};
 use mc_sizes::{DEFAULT_RING, MAX_BUDGET, MIN_BUDGET, Sizes};
@@ -54,13 +58,15 @@ const FAILURES: usize = 200;
 
 /// Serves a line by new shards, at the row's time and with this window; `None` if the server
 /// refuses.
-fn served<R: Wait + RandomSource, L: Transport>(
+fn served<R: Wait + RandomSource, L: Transport<Warrant = Evidence>>(
     rt: &R,
     alloc: Global,
     row: &Row,
     window: usize,
     line: &mut L,
-) -> Option<Served> {
+) -> Option<Served>
+    requires { L.place line.old ≡ no_place }
+{
     let is_budget = row.bytes >= MIN_BUDGET && row.bytes <= MAX_BUDGET;
     if !is_budget || row.value > MAX_VALUE_LIMIT {
         return None;

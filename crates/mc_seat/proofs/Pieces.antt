@@ -90,6 +90,15 @@ first_of all offered count begin within = record {
   same = sym (take-append-le count offered begin.rest within) ∙ ap (take count) begin.all_is;
 }
 
+-- What the buffers of one write have is a beginning of what waits.
+pub begins_offered : (front : List ℕ) (chunks : List Chunk) (tail : List ℕ) (one two three four : IoSlice)
+    → io_slice_bytes one ≡ front → io_slice_bytes two ≡ piece_behind chunks tail 0 → io_slice_bytes three
+    ≡ piece_behind chunks tail 1 → io_slice_bytes four ≡ piece_behind chunks tail 2
+    → Begins (front ++ (flat_map bytes_of chunks ++ tail)) (io_slices_bytes (one ∷ two ∷ three ∷ four ∷ []))
+begins_offered front chunks tail one two three four is_one is_two is_three is_four =
+    let offered : io_slices_bytes (one ∷ two ∷ three ∷ four ∷ []) ≡ offered_front front chunks tail = cc in
+    rw offered (begins front chunks tail)
+
 -- the first bytes of the buffers that one write offers
 pub first_offered : (front : List ℕ) (chunks : List Chunk) (tail : List ℕ) (one two three four : IoSlice)
     → io_slice_bytes one ≡ front → io_slice_bytes two ≡ piece_behind chunks tail 0 → io_slice_bytes three
@@ -97,9 +106,8 @@ pub first_offered : (front : List ℕ) (chunks : List Chunk) (tail : List ℕ) (
     → count ≤ length (io_slices_bytes (one ∷ two ∷ three ∷ four ∷ []))
     → AreFirst (front ++ (flat_map bytes_of chunks ++ tail)) (io_slices_bytes (one ∷ two ∷ three ∷ four ∷ [])) count
 first_offered front chunks tail one two three four is_one is_two is_three is_four count within =
-    let offered : io_slices_bytes (one ∷ two ∷ three ∷ four ∷ []) ≡ offered_front front chunks tail = cc in
     first_of (front ++ (flat_map bytes_of chunks ++ tail)) (io_slices_bytes (one ∷ two ∷ three ∷ four ∷ [])) count
-    (rw offered (begins front chunks tail)) within
+    (begins_offered front chunks tail one two three four is_one is_two is_three is_four) within
 
 -- A write that takes no more than it is offered takes no more than waits in all.
 pub offer_within : {E : Type 0} (result : Result ℕ E) (all offered : List ℕ)

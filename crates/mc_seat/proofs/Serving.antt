@@ -1,10 +1,11 @@
 -- A line is served step by step, whatever its shards sent.
-use Rattle.std.proofs.Common.{◌≡◌, ℕ, ◌+◌, ◌-◌, ◌<◌, ◌≤◌, ◌^◌, min, Bool, List, [], ◌∷◌, ◌++◌, length, refl, sym, ap}
-use Rattle.std.proofs.Common.{subst, ◌∙◌, arith, append_assoc, append-nil, length-append}
-use Rattle.std.specs.List.{slice_get}
-use Rattle.std.proofs.lemmas.List.{length-map}
-use Rattle.mc_wire.specs.Sink.{Listed, Sight, sight_out, took}
-use Rattle.mc_wire.proofs.Sinks.{took-nil}
+use Rattle.std.proofs.Common.{◌≡◌, ℕ, ◌+◌, ◌-◌, ◌<◌, ◌≤◌, ◌^◌, min, Bool, List, [], ◌∷◌, ◌++◌, length, drop, refl}
+use Rattle.std.proofs.Common.{sym, ap, subst, ◌∙◌, arith, append_assoc, append-nil, length-append}
+use Rattle.std.specs.List.{concat, slice_get}
+use Rattle.std.proofs.lemmas.List.{length-map, take-append-drop, take_all}
+use Rattle.std.proofs.lemmas.List.Folds.{concat-append}
+use Rattle.mc_wire.specs.Sink.{Listed, Sight, sight_out, took, with_bytes}
+use Rattle.mc_wire.proofs.Sinks.{took-nil, with_bytes-append}
 use Rattle.mc_reply.specs.declared.ticket.Ticket.{Ticket}
 use Rattle.mc_ring.specs.Reply.{Shown}
 use Rattle.mc_conn.specs.declared.conn.Conn.{Conn}
@@ -14,7 +15,7 @@ use Rattle.mc_conn.specs.Conn.{HandsOut, IsConn, TakeSays, TakesCommand}
 use Rattle.mc_conn.specs.Due.{due, channel, pieces_from}
 use Rattle.mc_conn.specs.Fits.{KeysFit}
 use Rattle.mc_conn.specs.History.{Taken}
-use Rattle.mc_conn.specs.Told.{KeepsHanded, Told, all_texts, commands_of, told_nothing}
+use Rattle.mc_conn.specs.Told.{KeepsHanded, Told, all_texts, commands_of, told_nothing, waiting_text}
 use Rattle.mc_conn.proofs.Fitting.{due-append}
 use Rattle.mc_conn.proofs.Gets.{get_front}
 use Rattle.mc_conn.proofs.Staying.{is_sound, keeps_take}
@@ -22,7 +23,7 @@ use Rattle.mc_seat.specs.declared.read_side.ReadSide.{ReadSide}
 use Rattle.mc_seat.specs.declared.buffered_conn.BufferedConn.{BufferedConn}
 use Rattle.mc_seat.specs.declared.write_buffer.WriteBuffer.{WriteBuffer}
 use Rattle.mc_seat.specs.Later.{text_in}
-use Rattle.mc_seat.specs.Lines.{HasGrown}
+use Rattle.mc_seat.specs.Lines.{HasGrown, TakesFront}
 use Rattle.mc_seat.specs.BufferedConn.{HasStopped, IsNew, IsServing, ServesOn, TakesAll}
 use Rattle.mc_seat.specs.internal.Stands.{Serving, handed_texts}
 use Rattle.mc_seat.specs.internal.Steps.{GoesOn, StopsAt, all_handed}
@@ -55,6 +56,9 @@ serving_first may_answer line shards rules window buffered_conn new = record {
   moments = tt;
   unbroken = refl;
   counted = new.none_taken;
+  written = [];
+  written_is = sym (ap (λ (s : Sight). s.taken) (took-nil line));
+  in_order = new.none_waits;
 }
 
 -- where the keys fit the pieces of more commands, they fit those of the first
@@ -100,6 +104,11 @@ serving_take received may_answer begin now told buffered_conn conn later moment 
             length-map taken (λ (x : Taken). x.entry),
             length-append told.taken (opens.one ∷ []),
           );
+      written = serves.written;
+      written_is = serves.written_is;
+      in_order =
+          serves.in_order
+          ∙ ap concat (sym (keeps_take buffered_conn.conn told opens.one serves.conn_is).same);
     }
 
 -- some commands more were taken, in each round one
@@ -171,6 +180,9 @@ stops_now received may_answer begin now told buffered_conn conn stop rounds some
             moments = some.serves.moments;
             unbroken = some.serves.unbroken;
             counted = some.serves.counted;
+            written = some.serves.written;
+            written_is = some.serves.written_is;
+            in_order = some.serves.in_order;
           };
       stops = stops;
     };
@@ -240,6 +252,9 @@ stops_carried received later may_answer begin now told buffered_conn conn out le
         moments = serves.moments;
         unbroken = serves.unbroken;
         counted = serves.counted;
+        written = serves.written;
+        written_is = serves.written_is;
+        in_order = serves.in_order ∙ ap concat (sym keeps.same);
       };
       stops = stops_along buffered_conn.stop told out lent accepted told.handed stopped.stops;
     }
@@ -273,19 +288,51 @@ stops_in received may_answer begin now told buffered_conn other same stopped =
             moments = serves.moments;
             unbroken = serves.unbroken;
             counted = serves.counted;
+            written = serves.written;
+            written_is = serves.written_is;
+            in_order = ap (λ bytes. serves.written ++ bytes) same ∙ serves.in_order;
           };
       stops = stopped.stops;
     }
 
+-- what was handed out waits behind what waited
+pub waits_behind : (told : Told) (count : ℕ) (conn : Conn) (waited waits : List ℕ) (was is : Bool)
+    → HandsOut told count conn (sight_out (Listed waited) was) (sight_out (Listed waits) is)
+    → waits ≡ waited ++ waiting_text told
+waits_behind told count conn waited waits was is out =
+    let listed : Listed waits ≡ Listed (waited ++ waiting_text told) = ap (λ (s : Sight). s.taken) out.written in cc
+
+-- The texts handed out, and then those whose turn has come, are all.
+pub handed_and_waiting : (told : Told) → concat (handed_texts told) ++ waiting_text told ≡ concat (all_texts told)
+handed_and_waiting told =
+    sym (concat-append (handed_texts told) (drop told.handed (all_texts told)))
+    ∙ ap concat (take-append-drop told.handed (all_texts told))
+
+handed_then : (told : Told) → concat (handed_texts told) ++ waiting_text told ≡ concat (handed_texts (all_handed told))
+handed_then told =
+    handed_and_waiting told ∙ ap concat (sym (take_all (length (all_texts told)) (all_texts told) (omega arith)))
+
+-- of these the line took some more, and the others wait
+flushed_order : (written waited front left waits : List ℕ) (told : Told) → written ++ waited
+    ≡ concat (handed_texts told) → waits ≡ waited ++ waiting_text told → front ++ left ≡ waits
+    → (written ++ front) ++ left ≡ concat (handed_texts (all_handed told))
+flushed_order written waited front left waits told in_order behind parts =
+    append_assoc written front left
+    ∙ (ap (λ l. written ++ l) (parts ∙ behind)
+    ∙ (sym (append_assoc written waited (waiting_text told))
+    ∙ (ap (λ l. l ++ waiting_text told) in_order ∙ handed_then told)))
+
 -- And the line took some of them: it is as if it took the rest.
 pub stops_flushed : (received : ℕ → List Shown) (may_answer : ℕ → Type 0) (begin old now : Sight) (told : Told)
     (buffered_conn : BufferedConn) (conn : Conn) (waits : List ℕ) (left : WriteBuffer) → IsConn conn (all_handed told)
-    × Serving received begin (took waits old) buffered_conn.seat.unread (all_handed told) → took (text_in left) now
-    ≡ took waits old → HasGrown old now
+    × Serving received begin (took waits old) buffered_conn.seat.unread (all_handed told) → waits
+    ≡ text_in buffered_conn.unwritten ++ waiting_text told → took (text_in left) now ≡ took waits old
+    → TakesFront waits (text_in left) old now → HasGrown old now
     → HasStopped received may_answer begin old told buffered_conn
     → HasStopped received may_answer begin now (all_handed told)
     (record buffered_conn { conn = conn; unwritten = left })
-stops_flushed received may_answer begin old now told buffered_conn conn waits left handed same more stopped =
+stops_flushed received may_answer begin old now told buffered_conn conn waits left handed behind same takes more stopped
+    =
     let serves = stopped.serves in
     let grown = serves.grown in
     let P : Sight → Type 0 = λ seen. Serving received begin seen buffered_conn.seat.unread (all_handed told) in
@@ -297,6 +344,14 @@ stops_flushed received may_answer begin old now told buffered_conn conn waits le
         moments = serves.moments;
         unbroken = serves.unbroken;
         counted = serves.counted;
+        written = serves.written ++ takes.front;
+        written_is =
+            ap (λ (s : Sight). s.taken) takes.now
+            ∙ (ap (λ t. with_bytes t takes.front) serves.written_is
+            ∙ with_bytes-append begin.taken serves.written takes.front);
+        in_order =
+            flushed_order serves.written (text_in buffered_conn.unwritten) takes.front (text_in left) waits told
+            serves.in_order behind takes.parts;
       };
       stops =
           stops_along buffered_conn.stop told told.out told.lent told.accepted (length (all_texts told)) stopped.stops;
@@ -352,6 +407,11 @@ serving_read received may_answer begin before now told buffered_conn conn seat n
       moments = stopped.serves.moments;
       unbroken = stopped.serves.unbroken;
       counted = stopped.serves.counted;
+      written = concat (handed_texts (all_handed told));
+      written_is = goes.serving.taken_is;
+      in_order =
+          ap (λ bytes. concat (handed_texts (all_handed told)) ++ bytes) none
+          ∙ append-nil (concat (handed_texts (all_handed told)));
     }
 
 -- And commands were taken, as far as there are any.

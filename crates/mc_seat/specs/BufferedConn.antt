@@ -1,18 +1,18 @@
 -- How one line is served, whatever its shards sent.
 use Rattle.std.specs.Prelude.{ℕ, ◌≡◌, ◌+◌, ◌<◌, Bool, false, ◌⊎◌, List, [], ◌++◌, length}
-use Rattle.std.specs.List.{AllByRecursion}
-use Rattle.mc_wire.specs.Sink.{Sight, took}
+use Rattle.std.specs.List.{AllByRecursion, concat}
+use Rattle.mc_wire.specs.Sink.{Sight, took, with_bytes}
 use Rattle.mc_ring.specs.Reply.{Shown}
 use Rattle.mc_conn.specs.declared.conn.Taken.TheVariants as took
 use Rattle.mc_conn.specs.Conn.{IsConn}
 use Rattle.mc_conn.specs.History.{Taken}
-use Rattle.mc_conn.specs.Told.{Told, told_nothing}
+use Rattle.mc_conn.specs.Told.{Told, told_nothing, waiting_text}
 use Rattle.mc_seat.specs.declared.buffered_conn.BufferedConn.{BufferedConn}
 use Rattle.mc_seat.specs.declared.buffered_conn.LineStep.{LineStep}
 use Rattle.mc_seat.specs.declared.buffered_conn.LineStep.TheVariants as stepped
 use Rattle.mc_seat.specs.Later.{text_in}
 use Rattle.mc_seat.specs.Lines.{HasGrown}
-use Rattle.mc_seat.specs.internal.Stands.{IsComplete, Serving}
+use Rattle.mc_seat.specs.internal.Stands.{IsComplete, Serving, handed_texts}
 use Rattle.mc_seat.specs.internal.Steps.{IsServed, StopsAt}
 use Rattle.mc_command.specs.declared.rules.Rules.{Rules}
 
@@ -33,6 +33,10 @@ pub record IsServing (received : ℕ → List Shown) (may_answer : ℕ → Type 
   pub moments : AllByRecursion (λ one. may_answer one.moment) told.taken
   pub unbroken : told.broken ≡ false
   pub counted : buffered_conn.commands ≡ length told.taken
+  -- Of the replies handed out the line took these bytes, and the others wait.
+  pub written : List ℕ
+  pub written_is : now.taken ≡ with_bytes begin.taken written
+  pub in_order : written ++ text_in buffered_conn.unwritten ≡ concat (handed_texts told)
 
 -- And no further command of it was taken, for the reason that is noted.
 pub record HasStopped (received : ℕ → List Shown) (may_answer : ℕ → Type 0) (begin now : Sight) (told : Told)
@@ -91,3 +95,10 @@ abbrev pub GoOnSays : LineStep → (ℕ → Type 0) → BufferedConn → Sight �
 GoOnSays did may_answer old before new now =
     (received : ℕ → List Shown) (begin : Sight) (told : Told) → HasStopped received may_answer begin before told old
     → IsComplete received told → ServiceSays did received may_answer begin now told new
+
+-- What waits may be written, and then all replies whose turn has come.
+pub record MayGoOn (may_write : List ℕ → Type 0) (buffered_conn : BufferedConn) : Type 0 where
+  pub told : Told
+  pub conn_is : IsConn buffered_conn.conn told
+  pub unbroken : told.broken ≡ false
+  pub may : may_write (text_in buffered_conn.unwritten ++ waiting_text told)

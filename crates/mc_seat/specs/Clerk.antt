@@ -1,6 +1,9 @@
 -- What a seat's clerk records, and when its record fits a connection.
 use Rattle.std.specs.Prelude.{ℕ, ◌≡◌, ◌<◌, List, ◌++◌, length, map, Some}
-use Rattle.std.specs.List.{slice_get}
+use Rattle.std.specs.List.{concat, slice_get}
+use Rattle.mc_wire.specs.Sink.{Sight, with_bytes}
+use Rattle.mc_sizes.specs.Sizes.{rules_of}
+use Rattle.mc_sizes.specs.declared.sizes.Sizes.{Sizes}
 use Rattle.mc_ring.specs.declared.request.Request.{Request}
 use Rattle.mc_ring.specs.declared.request.Request.TheVariants as request
 use Rattle.mc_ring.specs.Ends.{Ends, received_on, sent_on}
@@ -10,7 +13,7 @@ use Rattle.mc_split.specs.declared.plan.Piece.{Piece}
 use Rattle.mc_conn.specs.Due.{due}
 use Rattle.mc_conn.specs.Fits.{Fits, KeysFit}
 use Rattle.mc_conn.specs.History.{Taken, carried_out}
-use Rattle.mc_conn.specs.Told.{Told}
+use Rattle.mc_conn.specs.Told.{IsSound, Told, all_texts}
 use Rattle.mc_model.specs.Grows.{Lengthens}
 
 -- The request is the piece that is due in this place, or the End.
@@ -43,3 +46,27 @@ pub record IsAnsweredNext (work : List Piece) (told : Told) (shard : ℕ) (recei
   pub piece : Piece
   pub due_is : slice_get (due told.shards shard told.taken) (length received) ≡ Some piece
   pub work_is : slice_get work (length came) ≡ Some piece
+
+-- A line is owed these bytes next, by a record for a server of these sizes: what is due, what the line's connection
+-- took, and the answers. What is seen of the line was so at its beginning, and is so now.
+pub record IsOwed (sizes : Sizes) (work : ℕ → List Piece) (taken : List Taken) (answers : ℕ → List Shown)
+    (begin now : Sight) (bytes : List ℕ) : Type 0 where
+  -- what the connection was told, and the replies received for it, on ends that were so before it
+  pub told : Told
+  pub before : Ends Near
+  pub received : ℕ → List Shown
+  pub kept : IsKept work taken answers before told received
+  pub sound : IsSound told
+  pub some_shards : 0 < told.shards
+  pub shards_are : told.shards ≡ sizes.shards
+  pub rules_are : told.rules ≡ rules_of sizes
+  -- All that it took is recorded.
+  pub recorded : taken ≡ map carried_out told.taken
+  -- All that was fed to it was read of the line.
+  pub unread : List ℕ
+  pub read_is : now.given ≡ with_bytes begin.given (told.fed ++ unread)
+  -- Its replies begin with what was written to the line and then these bytes.
+  pub written : List ℕ
+  pub written_is : now.taken ≡ with_bytes begin.taken written
+  pub rest : List ℕ
+  pub next : written ++ (bytes ++ rest) ≡ concat (all_texts told)

@@ -1,3 +1,4 @@
+pub mod Place
 pub mod Lines
 pub mod Chunks
 pub mod Later

@@ -1,6 +1,6 @@
 -- What a line is read by.
-use Rattle.std.specs.Prelude.{ℕ, ◌≡◌, ◌≤◌, List, length, take, Option, Some, None, Result, Ok, Err}
-use Rattle.mc_wire.specs.Sink.{Sight, Trace, Untold, Counted, Listed, asked, broke, gave}
+use Rattle.std.specs.Prelude.{ℕ, ◌≡◌, ◌≤◌, List, ◌++◌, length, take, Option, Some, None, Result, Ok, Err}
+use Rattle.mc_wire.specs.Sink.{Sight, Trace, Untold, Counted, Listed, asked, broke, gave, took}
 
 -- It was read where it had something to give: the first count bytes of the room, or none where it failed. Else it is as
 -- it was.
@@ -18,3 +18,9 @@ told (Listed bytes) = length bytes
 -- The line has taken all the bytes that it had taken, as far as it tells how many they are.
 abbrev pub HasGrown : Sight → Sight → Type 0
 HasGrown old new = told old.taken ≤ told new.taken
+
+-- The line took a prefix of what waited, and this is left.
+pub record TakesFront (waited left : List ℕ) (old new : Sight) : Type 0 where
+  pub front : List ℕ
+  pub parts : front ++ left ≡ waited
+  pub now : new ≡ took front old

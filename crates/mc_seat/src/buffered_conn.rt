@@ -64,7 +64,7 @@ impl BufferedConn {
     ghost use Rattle.mc_conn.specs.Conn.{IfConn};
     ghost use Rattle.mc_conn.specs.Shutdown.{asks_shutdown};
     ghost use Rattle.mc_conn.specs.Told.{IsAtRest, IsOver};
-    ghost use Rattle.mc_seat.specs.BufferedConn.{GoOnSays, IsNew, TakesFor, WaitsForLine};
+    ghost use Rattle.mc_seat.specs.BufferedConn.{GoOnSays, IsNew, MayGoOn, TakesFor, WaitsForLine};
     ghost use Rattle.mc_seat.specs.internal.Reading.{ReadingSays};
 
     /// Of a line of which nothing was taken yet.
@@ -107,22 +107,27 @@ impl BufferedConn {
     /// took them all, reads on and takes commands. Nothing waits here, where the line doesn't.
     /// Where memory for replies that the line doesn't take at once is refused, the line is given
     /// up: nothing more is read of it or written to it. The rooms are those of the thread, to read
-    /// into.
+    /// into. The replies may be written, by what the warrant shows.
     pub fn go_on<L: Transport, K: Clock>(
         &mut self,
         line: &mut L,
         clock: &K,
         pool: &mut BufferPool,
+        seen: &L::Warrant,
     ) -> LineStep
+        requires may { MayGoOn
+            (λ bytes. L.Warrant.may_write (L.place line.old) (L.sight line.old) bytes seen.now)
+            self.old }
         ensures says { GoOnSays result (K.may_answer clock.now) self.old (L.sight line.old) self.new
             (L.sight line.new) }
         ensures waits { result ≡ LineStep.Waits → WaitsForLine self.new }
+        ensures place { L.place line.new ≡ L.place line.old }
     {
         self.unwritten.borrow_room(pool);
         if let Err(_refused) = self.conn.hand(&mut self.unwritten) {
             return self.ended(true);
         }
-        match self.unwritten.flush(line) {
+        match self.unwritten.flush(line, seen) {
             Ok(true) => {
                 self.unwritten.return_room(pool);
                 self.go_on_reading(line, clock, pool)
@@ -146,6 +151,7 @@ impl BufferedConn {
         ensures says { ReadingSays result (K.may_answer clock.now) self.old (L.sight line.old)
             self.new (L.sight line.new) }
         ensures waits { result ≡ LineStep.Waits → self.new.stop ≡ Taken.NeedMore }
+        ensures place { L.place line.new ≡ L.place line.old }
     {
         match self.seat.go_on(&mut self.conn, line, self.stop, pool) {
             AfterTurn::Continues => {

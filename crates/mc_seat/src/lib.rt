@@ -8,6 +8,7 @@ mod laws;
 mod read_buffer;
 mod read_side;
 mod transport;
+mod warrant;
 mod write_buffer;
 
 pub use buffer_pool::BufferPool;
@@ -15,4 +16,5 @@ pub use buffered_conn::{BufferedConn, LineStep, Served};
 pub use clerk::Clerk;
 pub use laws::{heard_replies_answer_their_pieces, recorded_pieces_are_next_on_their_channels};
 pub use transport::{Clock, Ready, Taking, Transport, TransportError};
+pub use warrant::Warrant;
 pub use write_buffer::WriteBuffer;

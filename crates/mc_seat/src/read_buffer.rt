@@ -108,6 +108,7 @@ impl ReadBuffer {
         ensures same { IfOk result (λ got. got ≢ Bytes → L.sight line.new ≡ L.sight line.old) }
         ensures none { IfOk result (λ got. got ≢ Bytes → self.new ≡ []) }
         ensures err { OnErr result (L.sight line.new ≡ broke (asked (L.sight line.old))) }
+        ensures place { L.place line.new ≡ L.place line.old }
     {
         self.start = 0;
         self.end = 0;

@@ -57,6 +57,7 @@ impl ReadSide {
         ensures says { HandedSays result stop conn.old self.old.unread (L.sight line.old) conn.new
             self.new.unread (L.sight line.new) }
         ensures waits { result ≡ AfterTurn.Waits → stop ≡ Taken.NeedMore }
+        ensures place { L.place line.new ≡ L.place line.old }
     {
         match stop {
             Taken::NeedMore => self.read_on(conn, line, pool),
@@ -73,8 +74,9 @@ impl ReadSide {
         line: &mut L,
         pool: &mut BufferPool,
     ) -> AfterTurn
-        ensures { ReadOnSays result conn.old self.old.unread (L.sight line.old) conn.new
+        ensures says { ReadOnSays result conn.old self.old.unread (L.sight line.old) conn.new
             self.new.unread (L.sight line.new) }
+        ensures place { L.place line.new ≡ L.place line.old }
     {
         if !self.unread.is_empty() {
             self.feed(conn, pool);

@@ -4,9 +4,11 @@ ghost use Rattle.std.specs.Io.{StartsWith};
 ghost use Rattle.std.specs.Io.Slices.{io_slices_bytes};
 ghost use Rattle.mc_wire.specs.Sink.{ReadsIntoRoom, broke, took};
 ghost use Rattle.mc_seat.specs.Lines.{ReadsIfReady};
+ghost use Rattle.mc_seat.specs.Place.{bytes_seen, no_place};
 
+use crate::warrant::Warrant;
 use mc_conn::StatsSource;
-use mc_wire::{Sink, SinkError};
+use mc_wire::SinkError;
 use std::io::IoSlice;
 use thiserror::Error;
 
@@ -49,15 +51,35 @@ fn first_filled<'a>(bufs: &[IoSlice<'a>]) -> &'a [u8]
     &[]
 }
 
-/// A line of bytes in both directions, over memory, a stream or a socket. Its sight as a sink shows
-/// what it gave and took, if it lists its bytes.
-pub trait Transport: Sink {
+/// A line of bytes in both directions, over memory, a stream or a socket. Each write requires that
+/// its warrant allows the bytes. No other method writes.
+pub trait Transport {
+    ghost use Rattle.mc_wire.specs.Sink.{Sight};
+    ghost use Rattle.mc_seat.specs.Place.{Place};
+
+    /// What allows bytes to be written to it.
+    type Warrant: Warrant;
+
+    // What is seen of it: what it gave and took, if it lists its bytes.
+    ghost sight: { Self → Sight };
+
+    // Which connection it is, once it has begun.
+    ghost place: { Self → Place };
+
+    /// Notes that it begins to be served, as the connection that was opened last. It begins once.
+    fn begin(&mut self, seen: Self::Warrant)
+        requires { Self.place self.old ≡ no_place }
+        ensures place { Self.place self.new ≡
+            Self.Warrant.place_at seen (bytes_seen (Self.sight self.old)) }
+        ensures sight { Self.sight self.new ≡ Self.sight self.old };
+
     /// Reads some bytes into the front of the room, and gives how many: none only at the end of the
     /// input. At a fault it gives none, and has failed.
     fn read(&mut self, room: &mut [u8]) -> Result<usize, TransportError>
         requires { 0 < length room.old }
         ensures within { IfOk result (λ count. count ≤ length room.old) }
-        ensures read { ReadsIntoRoom room.new result (Self.sight self.old) (Self.sight self.new) };
+        ensures read { ReadsIntoRoom room.new result (Self.sight self.old) (Self.sight self.new) }
+        ensures place { Self.place self.new ≡ Self.place self.old };
 
     /// The same, of a line that may have nothing to give yet: then it gives `None`, and is as it
     /// was. Where it isn't told how else, a line waits until there is something.
@@ -65,45 +87,55 @@ pub trait Transport: Sink {
         requires { 0 < length room.old }
         ensures within { IfOk result (λ given. IfSome given (λ count. count ≤ length room.old)) }
         ensures read { ReadsIfReady room.new result (Self.sight self.old) (Self.sight self.new) }
+        ensures place { Self.place self.new ≡ Self.place self.old }
     {
         let count = self.read(room)?;
         Ok(Some(count))
     }
 
-    /// Takes a beginning of the bytes, as far as it can without waiting, and gives how many bytes
-    /// it took: none where it takes nothing now. At a fault it takes none, and has failed. Where it
-    /// isn't told how else, a line waits until it takes some.
-    fn write_if_ready(&mut self, bytes: &[u8]) -> Result<usize, SinkError>
+    /// Takes a beginning of the bytes, and gives how many bytes it took: none where it takes
+    /// nothing now. At a fault it takes none, and has failed. The bytes may be written, by what the
+    /// warrant shows.
+    fn write_if_ready(&mut self, bytes: &[u8], seen: &Self::Warrant) -> Result<usize, SinkError>
+        requires may { Self.Warrant.may_write (Self.place self.old) (Self.sight self.old) bytes.now
+            seen.now }
         ensures within { IfOk result (λ count. count ≤ length bytes.now) }
         ensures ok { IfOk result
             (λ count. Self.sight self.new ≡ took (take count bytes.now) (Self.sight self.old)) }
         ensures err { OnErr result (Self.sight self.new ≡ broke (Self.sight self.old)) }
-    {
-        self.write(bytes)
-    }
+        ensures place { Self.place self.new ≡ Self.place self.old };
 
     /// The same of the bytes of all the buffers, one after another. Where it isn't told how else, a
     /// line is offered the first of them that isn't empty.
-    fn write_vectored_if_ready(&mut self, bufs: &[IoSlice<'_>]) -> Result<usize, SinkError>
+    fn write_vectored_if_ready(
+        &mut self,
+        bufs: &[IoSlice<'_>],
+        seen: &Self::Warrant,
+    ) -> Result<usize, SinkError>
+        requires may { Self.Warrant.may_write (Self.place self.old) (Self.sight self.old)
+            (io_slices_bytes bufs.now) seen.now }
         ensures within { IfOk result (λ count. count ≤ length (io_slices_bytes bufs.now)) }
         ensures ok { IfOk result (λ count.
             Self.sight self.new ≡
             took (take count (io_slices_bytes bufs.now)) (Self.sight self.old)) }
         ensures err { OnErr result (Self.sight self.new ≡ broke (Self.sight self.old)) }
+        ensures place { Self.place self.new ≡ Self.place self.old }
     {
-        self.write_if_ready(first_filled(bufs))
+        self.write_if_ready(first_filled(bufs), seen)
     }
 
     /// Notes how many of its commands were taken so far, and whether more are. Nothing that is seen
     /// of it changes.
     fn note_taken(&mut self, _commands: u64, _taking: Taking)
-        ensures { Self.sight self.new ≡ Self.sight self.old }
+        ensures sight { Self.sight self.new ≡ Self.sight self.old }
+        ensures place { Self.place self.new ≡ Self.place self.old }
     {}
 
     /// Tells the line that it may give bytes or take some again. Nothing that is seen of it
     /// changes.
     fn rouse(&mut self, _ready: Ready)
-        ensures { Self.sight self.new ≡ Self.sight self.old }
+        ensures sight { Self.sight self.new ≡ Self.sight self.old }
+        ensures place { Self.place self.new ≡ Self.place self.old }
     {}
 }
 

@@ -2,7 +2,7 @@
 ghost use Rattle.std.specs.Prelude.{◌≡◌, ◌<◌, ◌≤◌, ◌++◌, [], false, IfOk, IsTrue, OnErr, OnOk, drop, length, take};
 ghost use Rattle.std.specs.Arc.{arc_slice_items};
 ghost use Rattle.mc_wire.specs.Sink.{Listed, broke, sight_out, took};
-ghost use Rattle.mc_seat.specs.Lines.{HasGrown};
+ghost use Rattle.mc_seat.specs.Lines.{HasGrown, TakesFront};
 ghost use Rattle.mc_seat.specs.Chunks.{bytes_of};
 
 use crate::buffer_pool::BufferPool;
@@ -155,22 +155,26 @@ impl WriteBuffer {
 
     /// Offers a beginning of what waits to the line, which gives how many bytes it took, without
     /// waiting: what lies together by a plain write, else the rest of the front and at most three
-    /// pieces behind it, in one write.
-    fn offer<L: Transport>(&self, line: &mut L) -> Result<usize, SinkError>
+    /// pieces behind it, in one write. All that waits may be written.
+    fn offer<L: Transport>(&self, line: &mut L, seen: &L::Warrant) -> Result<usize, SinkError>
+        requires may { L.Warrant.may_write (L.place line.old) (L.sight line.old) (text_in self.now)
+            seen.now }
         ensures within { IfOk result (λ count. count ≤ length (text_in self.now)) }
         ensures ok { IfOk result (λ count.
             L.sight line.new ≡ took (take count (text_in self.now)) (L.sight line.old)) }
         ensures err { OnErr result (L.sight line.new ≡ broke (L.sight line.old)) }
+        ensures place { L.place line.new ≡ L.place line.old }
     {
         if self.is_last() {
-            return line.write_if_ready(self.rest());
+            return line.write_if_ready(self.rest(), seen);
         }
-        line.write_vectored_if_ready(&[
+        let bufs = [
             IoSlice::new(self.rest()),
             IoSlice::new(self.piece(0)),
             IoSlice::new(self.piece(1)),
             IoSlice::new(self.piece(2)),
-        ])
+        ];
+        line.write_vectored_if_ready(&bufs, seen)
     }
 
     /// The first `count` bytes of what waits were written.
@@ -249,8 +253,14 @@ impl WriteBuffer {
 
     /// Writes to the line what it takes without waiting, and returns whether that was all. After an
     /// error the rest still waits. Once all is written, it keeps no memory but a room for the next
-    /// replies.
-    pub fn flush<L: Transport>(&mut self, line: &mut L) -> Result<bool, SinkError>
+    /// replies. All that waits may be written, by what the warrant shows.
+    pub fn flush<L: Transport>(
+        &mut self,
+        line: &mut L,
+        seen: &L::Warrant,
+    ) -> Result<bool, SinkError>
+        requires may { L.Warrant.may_write (L.place line.old) (L.sight line.old) (text_in self.old)
+            seen.now }
         ensures out { IfOk result (λ out. IsTrue out → text_in self.new ≡ []) }
         ensures ok { IfOk result (λ _.
             took (text_in self.new) (L.sight line.new) ≡
@@ -260,10 +270,13 @@ impl WriteBuffer {
             broke (took (text_in self.old) (L.sight line.old))) }
         ensures some { OnErr result (0 < length (text_in self.new)) }
         ensures grows { HasGrown (L.sight line.old) (L.sight line.new) }
+        ensures takes { IfOk result (λ _. TakesFront (text_in self.old) (text_in self.new)
+            (L.sight line.old) (L.sight line.new)) }
+        ensures place { L.place line.new ≡ L.place line.old }
     {
         for _ in 0..u64::MAX {
             if !self.rest().is_empty() {
-                let count = self.offer(line)?;
+                let count = self.offer(line, seen)?;
                 if count == 0 {
                     return Ok(false);
                 }

@@ -10,6 +10,7 @@ use Rattle.mc_wake.specs.Zips.{Zips}
 use Rattle.mc_ring.proofs.Lists.{get_map}
 use Rattle.mc_sizes.specs.declared.sizes.Sizes.{Sizes}
 use Rattle.mc_conn.specs.History.{AnsweredCommand}
+use Rattle.mc_history.specs.Tokens.{Sight as Shown}
 use Rattle.mc_seat.specs.Explains.{IsLogOfLines, LineTold}
 use Rattle.mc_doors.specs.declared.stream.Stream.{Ghosts}
 use Rattle.mc_doors.specs.declared.stream_source.ClosedConnection.{ClosedConnection}
@@ -64,11 +65,11 @@ notes_kept sizes may_answer (line ∷ lines) (history ∷ histories) zips = (
 )
 
 -- A connection that came in over this stream was over it to the end.
-is_served : {S : Type 0} {g : Ghosts S} (stream : S) (one : ClosedConnection S g)
+is_served : {S T : Type 0} {g : Ghosts S} (stream : S) (one : ClosedConnection S T g)
     → new_line (g.remaining stream) (g.contents stream) ≡ (gone_line one).begin → KeepsNotes (gone_line one)
     → IsServed stream one
 unfolding first_note
-is_served {S} {g} stream one is kept =
+is_served {S} {T} {g} stream one is kept =
     let begin = one.line.value.tap.begin.value in
     let note : note_of (g.remaining begin) (g.contents begin) ≡ note_of (g.remaining stream) (g.contents stream) =
     ap first_note kept.are ∙ ap (λ (sight : Sight). first_note sight.reads) (sym is) in
@@ -93,7 +94,7 @@ rest_of [] = []
 rest_of (line ∷ lines) = lines
 
 -- The same of all streams of a seat.
-all_served : {S : Type 0} {g : Ghosts S} (streams : List S) (gone : List (ClosedConnection S g × Unit {0}))
+all_served : {S T : Type 0} {g : Ghosts S} (streams : List S) (gone : List (ClosedConnection S T g × Unit {0}))
     → map (λ stream. new_line (g.remaining stream) (g.contents stream)) streams
     ≡ map (λ line. line.begin) (gone_lines gone) → AllByRecursion KeepsNotes (gone_lines gone)
     → Zips (λ stream one. IsServed stream one.0) streams gone
@@ -107,11 +108,11 @@ all_served (stream ∷ streams) (one ∷ gone) came kept = (
 )
 
 -- Each connection was over its own stream.
-pub all_own : {S : Type 0} {g : Ghosts S} (gone : List (ClosedConnection S g × Unit {0})) → AreServed None gone
+pub all_own : {S T : Type 0} {g : Ghosts S} (gone : List (ClosedConnection S T g × Unit {0})) → AreServed None gone
 all_own [] = tt
 all_own (one ∷ gone) = (record { gave = one.0.line.value.tap.gave; took = one.0.line.value.tap.took }, all_own gone)
 
-own_seats : {S : Type 0} {g : Ghosts S} (seats : List (List (ClosedConnection S g × Unit {0})))
+own_seats : {S T : Type 0} {g : Ghosts S} (seats : List (List (ClosedConnection S T g × Unit {0})))
     → AllByRecursion (AreServed None) seats
 own_seats [] = tt
 own_seats (gone ∷ seats) = (all_own gone, own_seats seats)
@@ -142,7 +143,7 @@ all_came coming lines rest back comes done =
     let none : comes.0 ≡ [] = subst D comes.2 done in
     comes.1 ∙ (ap (λ left. lines ++ left) none ∙ append-nil lines)
 
-seat_served : {S : Type 0} {g : Ghosts S} (coming : Option (List S)) (gone : List (ClosedConnection S g × Unit {0}))
+seat_served : {S T : Type 0} {g : Ghosts S} (coming : Option (List S)) (gone : List (ClosedConnection S T g × Unit {0}))
     (after : SourceTold) → IsAllBack (new_lines g.remaining g.contents coming) (gone_lines gone) after
     → AllByRecursion KeepsNotes (gone_lines gone) → AreServed coming gone
 seat_served None gone after all kept = all_own gone
@@ -157,7 +158,7 @@ back_lines (TellsLines coming out back over) = back
 
 -- Sources of streams, and what is known of each.
 module _ {S A D : Type 0} {g : Ghosts S} (coming : A → Option (List S)) (coming_by : D → Option (List S))
-    (out : D → Option (Snapshot (TcpConnection S g))) (gone : D → List (ClosedConnection S g × Unit {0}))
+    (out : D → Option (Snapshot (TcpConnection S Shown g))) (gone : D → List (ClosedConnection S Shown g × Unit {0}))
     (over : D → Bool) where
   abbrev told : D → SourceTold
   told source = told_source (coming_by source) (out source) (gone source) (over source)
@@ -244,7 +245,7 @@ module _ {S A D : Type 0} {g : Ghosts S} (coming : A → Option (List S)) (comin
       (λ i told_lines here. (let explains = serves.each i told_lines here in
       notes_kept sizes may_answer told_lines explains.histories explains.each)) in
       let many : length (seats_of served) ≡ length arrivals = ap length are ∙ (length-map back gone ∙ seats.count) in
-      let Z : List (List (ClosedConnection S g × Unit {0})) → Type 0 =
+      let Z : List (List (ClosedConnection S Shown g × Unit {0})) → Type 0 =
       λ these. Zips AreServed (map coming arrivals) these in
       let L : ℕ → Type 0 = λ n. IsLogOfLines sizes n serves.log in
       record {

@@ -9,6 +9,8 @@ use Rattle.mc_model.proofs.Lists.{take_next}
 use Rattle.mc_wire.specs.Sink.{Sight}
 use Rattle.mc_ring.specs.Made.{AreChannels}
 use Rattle.mc_seat.specs.declared.clerk.Clerk.{Ghosts}
+use Rattle.mc_seat.specs.declared.warrant.Warrant.{Ghosts as Warrants}
+use Rattle.mc_seat.specs.Place.{Place}
 use Rattle.mc_worker.specs.WorkerState.{WorkerState, Goes}
 use Rattle.mc_worker.specs.WorkerStateLaws.{goes_refl, goes_trans}
 use Rattle.mc_wake.specs.Zips.{Zips}
@@ -28,55 +30,63 @@ use Rattle.mc_threads.specs.Session.{seat_ends}
 use Rattle.mc_ring.proofs.Lists.{get_map, all_append}
 
 -- A seat stands, and how it is seen: by what is told of its source, its session and its phase.
-abbrev pub Stands : {S L : Type 0} {T C : Type 0} {g : Ghosts C T} → (L → Sight) → (S → SourceTold)
-    → (S → Session T C g) → (S → SlotState L) → ℕ → Rules → (ℕ → Type 0) → SeatAt → S → Type 0
-Stands sight told session now shards rules may_answer sat one =
-    SeatStands sight shards rules may_answer sat (told one) (session one) (now one)
+abbrev pub Stands : {S L : Type 0} {T C : Type 0} {w : Warrants T} {g : Ghosts C T} → (L → Place) → (L → Sight)
+    → (S → SourceTold)
+    → (S → Session T C w g) → (S → SlotState L) → ℕ → Rules → (ℕ → Type 0) → SeatAt → S → Type 0
+Stands place sight told session now shards rules may_answer sat one =
+    SeatStands place sight shards rules may_answer sat (told one) (session one) (now one)
 
-abbrev pub at : {S : Type 0} {T C : Type 0} {g : Ghosts C T} → (S → SourceTold) → (S → Session T C g) → S → SeatAt
+abbrev pub at : {S : Type 0} {T C : Type 0} {w : Warrants T} {g : Ghosts C T} → (S → SourceTold)
+    → (S → Session T C w g) → S → SeatAt
 at told session one = seat_at (told one) (seat_ends (session one))
 
 -- The seats of a thread have sat down, so they stand as they began.
-pub seats_begin : {S L : Type 0} {T C : Type 0} {g : Ghosts C T} (seats : List S) (sight : L → Sight)
-    (told : S → SourceTold) (session : S → Session T C g) (now : S → SlotState L) (shards : ℕ) (rules : Rules)
+pub seats_begin : {S L : Type 0} {T C : Type 0} {w : Warrants T} {g : Ghosts C T} (seats : List S) (place : L → Place)
+    (sight : L → Sight)
+    (told : S → SourceTold) (session : S → Session T C w g) (now : S → SlotState L) (shards : ℕ) (rules : Rules)
     (may_answer : ℕ → Type 0)
     → AllByRecursion (λ one. HasSatDown shards rules (told one) (session one) (now one)) seats
-    → Zips (Stands sight told session now shards rules may_answer) (map (at told session) seats) seats
-seats_begin [] sight told session now shards rules may_answer all = tt
-seats_begin {S} {L} (one ∷ seats) sight told session now shards rules may_answer all =
+    → Zips (Stands place sight told session now shards rules may_answer) (map (at told session) seats) seats
+seats_begin [] place sight told session now shards rules may_answer all = tt
+seats_begin {S} {L} (one ∷ seats) place sight told session now shards rules may_answer all =
     let down = all.0 in
     let P : SlotState L → Type 0 =
-    λ p. SeatStands sight shards rules may_answer (at told session one) (told one) (session one) p in (
+    λ p. SeatStands place sight shards rules may_answer (at told session one) (told one) (session one) p in (
       subst P (sym down.none)
-          (sits_first shards rules may_answer (told one) (session one) down.window down.free down.width down.vacant),
-      seats_begin seats sight told session now shards rules may_answer all.1,
+          (sits_first shards rules may_answer (told one)
+          (session one) down.window down.free down.width down.vacant down.ruled),
+      seats_begin seats place sight told session now shards rules may_answer all.1,
     )
 
 -- All channels were closed, so they have served.
-pub seats_over : {S L : Type 0} {T C : Type 0} {g : Ghosts C T} (seats : List S) (sats : List SeatAt)
-    (sight : L → Sight) (told : S → SourceTold) (session : S → Session T C g) (now : S → SlotState L) (shards : ℕ)
+pub seats_over : {S L : Type 0} {T C : Type 0} {w : Warrants T} {g : Ghosts C T} (seats : List S) (sats : List SeatAt)
+    (place : L → Place) (sight : L → Sight) (told : S → SourceTold) (session : S → Session T C w g)
+    (now : S → SlotState L) (shards : ℕ)
     (rules : Rules) (may_answer : ℕ → Type 0)
     → AllByRecursion (λ one. now one ≡ slot_state.Over) seats
-    → Zips (Stands sight told session now shards rules may_answer) sats seats
+    → Zips (Stands place sight told session now shards rules may_answer) sats seats
     → Zips (SeatServes shards rules may_answer) sats (map (at told session) seats)
-seats_over [] [] sight told session now shards rules may_answer all zips = tt
-seats_over (one ∷ seats) [] sight told session now shards rules may_answer all zips = absurd zips
-seats_over [] (sat ∷ sats) sight told session now shards rules may_answer all zips = absurd zips
-seats_over {S} {L} (one ∷ seats) (sat ∷ sats) sight told session now shards rules may_answer all zips =
-    let P : SlotState L → Type 0 = λ p. SeatStands sight shards rules may_answer sat (told one) (session one) p in
-    (subst P all.0 zips.0, seats_over seats sats sight told session now shards rules may_answer all.1 zips.1)
+seats_over [] [] place sight told session now shards rules may_answer all zips = tt
+seats_over (one ∷ seats) [] place sight told session now shards rules may_answer all zips = absurd zips
+seats_over [] (sat ∷ sats) place sight told session now shards rules may_answer all zips = absurd zips
+seats_over {S} {L} (one ∷ seats) (sat ∷ sats) place sight told session now shards rules may_answer all zips =
+    let P : SlotState L → Type 0 = λ p. SeatStands place sight shards rules may_answer sat (told one) (session one) p in
+    (subst P all.0 zips.0, seats_over seats sats place sight told session now shards rules may_answer all.1 zips.1)
 
 -- The seat at a place may be stepped, once it is what it became.
-pub seat_steps : {S L : Type 0} {T C : Type 0} {g : Ghosts C T} (seats : List S) (sats : List SeatAt) (place : ℕ)
-    (one next : S) (sight : L → Sight) (told : S → SourceTold) (session : S → Session T C g) (now : S → SlotState L)
+pub seat_steps : {S L : Type 0} {T C : Type 0} {w : Warrants T} {g : Ghosts C T} (seats : List S) (sats : List SeatAt)
+    (number : ℕ)
+    (one next : S) (place : L → Place) (sight : L → Sight) (told : S → SourceTold) (session : S → Session T C w g)
+    (now : S → SlotState L)
     (shards : ℕ) (rules : Rules) (may_answer : ℕ → Type 0)
-    → slice_get seats place ≡ Some one
-    → ((sat : SeatAt) → Stands sight told session now shards rules may_answer sat one
-    → Stands sight told session now shards rules may_answer sat next)
-    → Zips (Stands sight told session now shards rules may_answer) sats seats → CanStep (now next) (session next)
-seat_steps seats sats place one next sight told session now shards rules may_answer here became zips =
-    let met = met_at (Stands sight told session now shards rules may_answer) sats seats place one zips here in
-    can_step shards rules may_answer sight met.one (told next) (session next) (now next) (became met.one met.met)
+    → slice_get seats number ≡ Some one
+    → ((sat : SeatAt) → Stands place sight told session now shards rules may_answer sat one
+    → Stands place sight told session now shards rules may_answer sat next)
+    → Zips (Stands place sight told session now shards rules may_answer) sats seats
+    → CanStep place sight may_answer (now next) (session next)
+seat_steps seats sats number one next place sight told session now shards rules may_answer here became zips =
+    let met = met_at (Stands place sight told session now shards rules may_answer) sats seats number one zips here in
+    can_step shards rules may_answer place sight met.one (told next) (session next) (now next) (became met.one met.met)
 
 -- The workers of a thread are before their first turn.
 pub workers_begin : {W : Type 0} (workers : List W) (worker_state : W → WorkerState)

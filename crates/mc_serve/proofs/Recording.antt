@@ -26,7 +26,7 @@ module _ (sizes : Sizes) (name : Name) (capacity : ℕ) (near : List (Ends Near)
   new_clerk number = record { name = name; role = Seat number; events = [] }
 
   clerk_fits : (number : ℕ) (seat : Ends Near) → slice_get near number ≡ Some seat
-      → IsClerkOf seat (new_clerk number)
+      → IsClerkOf sizes seat (new_clerk number)
   clerk_fits number seat here =
       let new = channels.each_seat number seat here in
       let sent = λ (shard : ℕ).
@@ -34,6 +34,7 @@ module _ (sizes : Sizes) (name : Name) (capacity : ℕ) (near : List (Ends Near)
       let received = λ (shard : ℕ).
       none_read (λ (end : Near). end.past.received) (λ end unused. unused.received) seat.channels shard new.unused in
       record {
+        sizes_are = same;
         routes =
             record {
               each = λ shard end at. routed number shard seat end here at;
@@ -48,11 +49,12 @@ module _ (sizes : Sizes) (name : Name) (capacity : ℕ) (near : List (Ends Near)
       }
 
   -- Each clerk is the one of its seat.
-  pub clerks_fit : (clerks : List Acting) → ActInOrder Seat name sizes.seats clerks → Zips IsClerkOf near clerks
+  pub clerks_fit : (clerks : List Acting) → ActInOrder Seat name sizes.seats clerks → Zips (IsClerkOf sizes) near clerks
   clerks_fit clerks act =
-      zips_from IsClerkOf near clerks (act.counted ∙ sym channels.seat_count)
+      zips_from (IsClerkOf sizes) near clerks (act.counted ∙ sym channels.seat_count)
       (λ number seat clerk here there.
-      subst (λ (one : Acting). IsClerkOf seat one) (sym (act.each number clerk there)) (clerk_fits number seat here))
+      subst (λ (one : Acting). IsClerkOf sizes seat one) (sym (act.each number clerk there))
+      (clerk_fits number seat here))
 
   -- the actor of a shard that has done nothing
   abbrev new_recorder : ℕ → Acting

@@ -32,6 +32,7 @@ use Rattle.mc_ring.specs.contracts.shard.ShardEnds.TheInside as in_shard_ends
 use Rattle.mc_ring.proofs.request.Request.TheSendSync as request_sent
 use Rattle.mc_ring.proofs.reply.Reply.TheSendSync as reply_sent
 use Rattle.mc_seat.specs.declared.clerk.Clerk.{Ghosts as ClerkGhosts}
+use Rattle.mc_seat.specs.declared.warrant.Warrant.{Ghosts as WarrantGhosts}
 use Rattle.mc_seat.specs.contracts.buffered_conn.BufferedConn as buffered_conn
 use Rattle.mc_seat.proofs.buffered_conn.BufferedConn.TheSendSync as buffered_conn_sent
 use Rattle.mc_worker.specs.declared.scribe.Scribe.{Ghosts as ScribeGhosts}
@@ -41,6 +42,7 @@ use Rattle.mc_worker.specs.contracts.worker.Worker as worker
 use Rattle.mc_worker.specs.contracts.worker.Worker.TheInside as in_worker
 use Rattle.mc_history.specs.contracts.evidence.Evidence as evidence
 use Rattle.mc_history.specs.contracts.evidence.EvidenceToken.TheImpl.{ghosts as tokens}
+use Rattle.mc_history.specs.contracts.evidence.EvidenceWarrant.TheImpl.{ghosts as warrants}
 use Rattle.mc_history.proofs.evidence.Evidence.TheSendSync as evidence_sent
 use Rattle.mc_record.specs.contracts.clerk.SeatClerk as clerk
 use Rattle.mc_record.specs.contracts.clerk.SeatClerkClerkEvidence.TheImpl.{ghosts as keeps_seat}
@@ -116,11 +118,11 @@ sizes_send : IsSend sizes.the_row
 sizes_send = search (sendable, crosses) depth 20
 
 -- what a seat holds, where its tokens and its clerk may go
-module _ (T C : RattleType) (tokens : TokenGhosts T.Denot) (clerk : ClerkGhosts C.Denot T.Denot) (token : IsSend T)
-    (own : IsSend C) where
-  shard_link_send : IsSend (shard_link.the_row T C clerk tokens)
+module _ (T C : RattleType) (tokens : TokenGhosts T.Denot) (warrants : WarrantGhosts T.Denot)
+    (clerk : ClerkGhosts C.Denot T.Denot) (token : IsSend T) (own : IsSend C) where
+  shard_link_send : IsSend (shard_link.the_row T C warrants clerk tokens)
   shard_link_send =
-      declared_send (shard_link.the_type T C clerk tokens) (
+      declared_send (shard_link.the_type T C warrants clerk tokens) (
         seat_ends_send T tokens token,
         (
           as_row_send (row_field C) own,
@@ -131,9 +133,9 @@ module _ (T C : RattleType) (tokens : TokenGhosts T.Denot) (clerk : ClerkGhosts 
         ),
       )
 
-  pub session_send : IsSend (session.the_row T C clerk tokens)
+  pub session_send : IsSend (session.the_row T C warrants clerk tokens)
   session_send =
-      declared_send (session.the_type T C clerk tokens) (
+      declared_send (session.the_type T C warrants clerk tokens) (
         search (sendable, crosses) depth 20,
         (shard_link_send, (sizes_send, (option.the_send buffered_conn.the_row buffered_conn_sent.the_send, tt))),
       )
@@ -166,24 +168,25 @@ module _ (T S : RattleType) (tokens : TokenGhosts T.Denot) (scribe : ScribeGhost
         ),
       )
 
-slot_send : (D L : RattleType) → IsSend D → IsSend L → IsSend (slot.the_row D L)
-slot_send D L source line =
-    declared_send (slot.the_type D L) (
-      session_send evidence.the_row clerk.the_row tokens keeps_seat evidence_sent.the_send clerk_sent.the_send,
+slot_send : (D L T : RattleType) → IsSend D → IsSend L → IsSend (slot.the_row D L T)
+slot_send D L T source line =
+    declared_send (slot.the_type D L T) (
+      session_send evidence.the_row clerk.the_row tokens warrants keeps_seat evidence_sent.the_send clerk_sent.the_send,
       (slot_state.the_send L line, (as_row_send (row_field D) source, tt)),
     )
 
-seats_send : (D L : RattleType) → IsSend D → IsSend L → IsSend (seats.the_row D L)
-seats_send D L source line =
-    declared_send (seats.the_type D L) (vec_send (slot.the_row D L) (slot_send D L source line), (search sendable, tt))
+seats_send : (D L T : RattleType) → IsSend D → IsSend L → IsSend (seats.the_row D L T)
+seats_send D L T source line =
+    declared_send (seats.the_type D L T)
+    (vec_send (slot.the_row D L T) (slot_send D L T source line), (search sendable, tt))
 
 -- What one thread serves may go to it where its sources, their lines, the clock and the gate may, and the gate may be
 -- shared.
-pub part_send : (D G K L : RattleType) → IsSend D → IsSend G → IsSync G → IsSend K → IsSend L
-    → IsSend (part.the_row D G K L)
-part_send D G K L source gate shared clock line =
-    declared_send (part.the_type D G K L) (
-      seats_send D L source line,
+pub part_send : (D G K L T : RattleType) → IsSend D → IsSend G → IsSync G → IsSend K → IsSend L
+    → IsSend (part.the_row D G K L T)
+part_send D G K L T source gate shared clock line =
+    declared_send (part.the_type D G K L T) (
+      seats_send D L T source line,
       (
         vec_send (working.the_row G evidence.the_row recorder.the_row keeps_shard tokens)
             (working_send evidence.the_row recorder.the_row tokens keeps_shard evidence_sent.the_send

@@ -10,6 +10,8 @@ use Rattle.mc_conn.specs.declared.conn.Conn.{Conn}
 use Rattle.mc_conn.specs.Conn.{IsConn}
 use Rattle.mc_conn.specs.Told.{IsAtRest, IsOver, Told}
 use Rattle.mc_seat.specs.declared.clerk.Clerk.{Ghosts}
+use Rattle.mc_seat.specs.declared.warrant.Warrant.{Ghosts as Warrants}
+use Rattle.mc_seat.specs.Place.{Place, no_place}
 use Rattle.mc_seat.specs.LineServed.{LineServed}
 use Rattle.mc_seat.specs.Explains.{LineTold}
 use Rattle.mc_seat.specs.declared.buffered_conn.BufferedConn.{BufferedConn}
@@ -18,7 +20,7 @@ use Rattle.mc_threads.specs.Serving.{IsIdle}
 use Rattle.mc_threads.specs.Ending.{EndsFirst}
 use Rattle.mc_threads.specs.Records.{RecordsPastOf}
 use Rattle.mc_threads.specs.Service.{WasServedBy}
-use Rattle.mc_threads.specs.Session.{HasServed, IsServingLine, IsVacant, seat_ends}
+use Rattle.mc_threads.specs.Session.{HasServed, IsLineAt, IsRuled, IsServingLine, IsVacant, seat_ends}
 use Rattle.mc_threads.proofs.Ending.{ends_none}
 use Rattle.mc_threads.proofs.Sessions.{SomeAnd, may_serve, some_and}
 use Rattle.mc_doors.specs.Told.{SourceTold, IsDone, IsFree, IsNext, closed, let_in, took_back}
@@ -31,10 +33,11 @@ use Rattle.mc_command.specs.declared.rules.Rules.{Rules}
 
 module _ (shards : ℕ) (rules : Rules) (may_answer : ℕ → Type 0) where
   -- A seat that has just sat down.
-  pub sits_first : {T C : Type 0} {g : Ghosts C T} (source : SourceTold) (session : Session T C g) (window : ℕ)
+  pub sits_first : {T C : Type 0} {w : Warrants T} {g : Ghosts C T} (source : SourceTold) (session : Session T C w g)
+      (window : ℕ)
       → IsFree source → length (seat_ends session).channels ≡ shards → IsVacant rules window session
-      → SitsFree shards rules may_answer (seat_at source (seat_ends session)) source session
-  sits_first source session window free width vacant =
+      → IsRuled rules session → SitsFree shards rules may_answer (seat_at source (seat_ends session)) source session
+  sits_first source session window free width vacant ruled =
       record {
         free = free;
         lines = [];
@@ -43,31 +46,33 @@ module _ (shards : ℕ) (rules : Rules) (may_answer : ℕ → Type 0) where
         width = width;
         window = window;
         vacant = vacant;
+        ruled = ruled;
       }
 
   -- The source had no line.
-  pub stays_free : {T C : Type 0} {g : Ghosts C T} (sat : SeatAt) (source source' : SourceTold)
-      (session : Session T C g) → source' ≡ source → SitsFree shards rules may_answer sat source session
+  pub stays_free : {T C : Type 0} {w : Warrants T} {g : Ghosts C T} (sat : SeatAt) (source source' : SourceTold)
+      (session : Session T C w g) → source' ≡ source → SitsFree shards rules may_answer sat source session
       → SitsFree shards rules may_answer sat source' session
   stays_free sat source source' session same sits = let S : SourceTold → Type 0 =
       λ d. SitsFree shards rules may_answer sat d session in subst S (sym same) sits
 
   -- A line came in.
-  pub comes_in : {T C : Type 0} {g : Ghosts C T} (sat : SeatAt) (source source' : SourceTold) (begin : Sight)
-      (session : Session T C g) → IsNext begin source → source' ≡ let_in begin source
-      → SitsFree shards rules may_answer sat source session
-      → SitsBeginning shards rules may_answer sat source' begin session
-  comes_in sat source source' begin session next came sits =
-      record { before = source; sits = sits; next = next; came = came }
+  pub comes_in : {T C : Type 0} {w : Warrants T} {g : Ghosts C T} (sat : SeatAt) (source source' : SourceTold)
+      (place : Place) (begin : Sight) (session : Session T C w g) → place ≡ no_place → IsNext begin source
+      → source' ≡ let_in begin source → SitsFree shards rules may_answer sat source session
+      → SitsBeginning shards rules may_answer sat source' place begin session
+  comes_in sat source source' place begin session new next came sits =
+      record { before = source; sits = sits; next = next; came = came; new = new }
 
   -- The line that came in begins to be served.
-  pub begins : {T C : Type 0} {g : Ghosts C T} (sat : SeatAt) (source : SourceTold) (begin : Sight)
-      (session session' : Session T C g)
+  pub begins : {T C : Type 0} {w : Warrants T} {g : Ghosts C T} (sat : SeatAt) (source : SourceTold)
+      (place place' : Place) (begin : Sight) (session session' : Session T C w g)
       → ((rules : Rules) (window : ℕ) (line : Sight) → IsVacant rules window session
       → IsServingLine (length (seat_ends session).channels) rules may_answer line line (seat_ends session) session')
-      → SitsBeginning shards rules may_answer sat source begin session
-      → SitsServing shards rules may_answer sat source begin session'
-  begins sat source begin session session' serves came =
+      → ((rules : Rules) → IsRuled rules session → IsLineAt rules place' begin session')
+      → SitsBeginning shards rules may_answer sat source place begin session
+      → SitsServing shards rules may_answer sat source place' begin session'
+  begins sat source place place' begin session session' serves line came =
       let sits = came.sits in
       let S : ℕ → Type 0 = λ n. IsServingLine n rules may_answer begin begin (seat_ends session) session' in
       record {
@@ -82,51 +87,65 @@ module _ (shards : ℕ) (rules : Rules) (may_answer : ℕ → Type 0) where
         lines_are = sits.lines_are;
         width = sits.width;
         serving = subst S sits.width (serves rules sits.window begin sits.vacant);
+        line = line rules sits.ruled;
       }
 
   -- The line waits, with the session as it was.
-  pub still_begins : {T C : Type 0} {g : Ghosts C T} (sat : SeatAt) (source : SourceTold) (begin : Sight)
-      (session session' : Session T C g) → session' ≡ session
-      → SitsBeginning shards rules may_answer sat source begin session
-      → SitsBeginning shards rules may_answer sat source begin session'
-  still_begins {T} {C} {g} sat source begin session session' same came = let S : Session T C g → Type 0 =
-      λ s. SitsBeginning shards rules may_answer sat source begin s in subst S (sym same) came
+  pub still_begins : {T C : Type 0} {w : Warrants T} {g : Ghosts C T} (sat : SeatAt) (source : SourceTold)
+      (place : Place) (begin : Sight) (session session' : Session T C w g) → session' ≡ session
+      → SitsBeginning shards rules may_answer sat source place begin session
+      → SitsBeginning shards rules may_answer sat source place begin session'
+  still_begins {T} {C} {w} {g} sat source place begin session session' same came = let S : Session T C w g → Type 0 =
+      λ s. SitsBeginning shards rules may_answer sat source place begin s in subst S (sym same) came
 
   -- The line begins to be served where there was memory for it; else it waits, with its output ended.
-  pub begins_where : {L E : Type 0} {T C : Type 0} {g : Ghosts C T} (sight : L → Sight) (sat : SeatAt)
-      (source source' : SourceTold) (line line' : L) (session session' : Session T C g) (tried : Result (Unit {0}) E)
+  pub begins_where : {L E : Type 0} {T C : Type 0} {w : Warrants T} {g : Ghosts C T} (place : L → Place)
+      (sight : L → Sight) (sat : SeatAt) (source source' : SourceTold) (line begun line' : L)
+      (session session' : Session T C w g) (tried : Result (Unit {0}) E)
       → OnOk tried ((rules : Rules) (window : ℕ) (begin : Sight) → IsVacant rules window session
       → IsServingLine (length (seat_ends session).channels) rules may_answer begin begin (seat_ends session) session')
-      → OnErr tried (session' ≡ session) → source' ≡ source → sight line' ≡ sight line
-      → SitsBeginning shards rules may_answer sat source (sight line) session
-      → SeatStands sight shards rules may_answer sat source' session' (slot_state.Out line' (is_ok tried))
-  begins_where sight sat source source' line line' session session' (Ok done) serves same told seen came =
-      let D : SourceTold → Type 0 = λ d. SitsServing shards rules may_answer sat d (sight line') session' in
-      let S : Sight → Type 0 = λ now. SitsServing shards rules may_answer sat source now session' in
-      subst D (sym told) (subst S (sym seen) (begins sat source (sight line) session session' serves came))
-  begins_where sight sat source source' line line' session session' (Err refused) serves same told seen came =
-      let D : SourceTold → Type 0 = λ d. SitsBeginning shards rules may_answer sat d (sight line') session' in
-      let S : Sight → Type 0 = λ now. SitsBeginning shards rules may_answer sat source now session' in
-      subst D (sym told) (subst S (sym seen) (still_begins sat source (sight line) session session' same came))
+      → OnOk tried ((rules : Rules) → IsRuled rules session → IsLineAt rules (place begun) (sight line) session')
+      → OnErr tried (session' ≡ session) → OnErr tried (place begun ≡ place line) → source' ≡ source
+      → place line' ≡ place begun → sight line' ≡ sight line
+      → SitsBeginning shards rules may_answer sat source (place line) (sight line) session
+      → SeatStands place sight shards rules may_answer sat source' session' (slot_state.Out line' (is_ok tried))
+  begins_where place sight sat source source' line begun line' session session' (Ok done) serves at same unplaced told
+      placed seen came =
+      let D : SourceTold → Type 0 =
+      λ d. SitsServing shards rules may_answer sat d (place line') (sight line') session' in
+      let P : Place → Type 0 = λ at. SitsServing shards rules may_answer sat source at (sight line') session' in
+      let S : Sight → Type 0 = λ now. SitsServing shards rules may_answer sat source (place begun) now session' in
+      subst D (sym told) (subst P (sym placed) (subst S (sym seen)
+      (begins sat source (place line) (place begun) (sight line) session session' serves at came)))
+  begins_where place sight sat source source' line begun line' session session' (Err refused) serves at same unplaced
+      told placed seen came =
+      let D : SourceTold → Type 0 =
+      λ d. SitsBeginning shards rules may_answer sat d (place line') (sight line') session' in
+      let P : Place → Type 0 = λ at. SitsBeginning shards rules may_answer sat source at (sight line') session' in
+      let S : Sight → Type 0 = λ now. SitsBeginning shards rules may_answer sat source (place line) now session' in
+      subst D (sym told) (subst P (sym (placed ∙ unplaced)) (subst S (sym seen)
+      (still_begins sat source (place line) (sight line) session session' same came)))
 
   -- The line that is out is looked at again, with nothing read or written meanwhile.
-  pub stands_out : {L : Type 0} {T C : Type 0} {g : Ghosts C T} (sight : L → Sight) (sat : SeatAt) (source : SourceTold)
-      (session : Session T C g) (now : SlotState L) (line line' : L) (begun : Bool) → now ≡ slot_state.Out line begun
-      → sight line' ≡ sight line
-      → SeatStands sight shards rules may_answer sat source session now
-      → SeatStands sight shards rules may_answer sat source session (slot_state.Out line' begun)
-  stands_out {L} sight sat source session now line line' false is same stands =
-      let P : SlotState L → Type 0 = λ p. SeatStands sight shards rules may_answer sat source session p in
-      let S : Sight → Type 0 = λ seen. SitsBeginning shards rules may_answer sat source seen session in
-      subst S (sym same) (subst P is stands)
-  stands_out {L} sight sat source session now line line' true is same stands =
-      let P : SlotState L → Type 0 = λ p. SeatStands sight shards rules may_answer sat source session p in
-      let S : Sight → Type 0 = λ seen. SitsServing shards rules may_answer sat source seen session in
-      subst S (sym same) (subst P is stands)
+  pub stands_out : {L : Type 0} {T C : Type 0} {w : Warrants T} {g : Ghosts C T} (place : L → Place) (sight : L → Sight)
+      (sat : SeatAt) (source : SourceTold) (session : Session T C w g) (now : SlotState L) (line line' : L)
+      (begun : Bool) → now ≡ slot_state.Out line begun → place line' ≡ place line → sight line' ≡ sight line
+      → SeatStands place sight shards rules may_answer sat source session now
+      → SeatStands place sight shards rules may_answer sat source session (slot_state.Out line' begun)
+  stands_out {L} place sight sat source session now line line' false is placed same stands =
+      let P : SlotState L → Type 0 = λ p. SeatStands place sight shards rules may_answer sat source session p in
+      let A : Place → Type 0 = λ at. SitsBeginning shards rules may_answer sat source at (sight line) session in
+      let S : Sight → Type 0 = λ seen. SitsBeginning shards rules may_answer sat source (place line') seen session in
+      subst S (sym same) (subst A (sym placed) (subst P is stands))
+  stands_out {L} place sight sat source session now line line' true is placed same stands =
+      let P : SlotState L → Type 0 = λ p. SeatStands place sight shards rules may_answer sat source session p in
+      let A : Place → Type 0 = λ at. SitsServing shards rules may_answer sat source at (sight line) session in
+      let S : Sight → Type 0 = λ seen. SitsServing shards rules may_answer sat source (place line') seen session in
+      subst S (sym same) (subst A (sym placed) (subst P is stands))
 
   -- No line comes any more.
-  pub comes_none : {T C : Type 0} {g : Ghosts C T} (sat : SeatAt) (source source' : SourceTold)
-      (session : Session T C g) → source' ≡ closed source → IsDone source
+  pub comes_none : {T C : Type 0} {w : Warrants T} {g : Ghosts C T} (sat : SeatAt) (source source' : SourceTold)
+      (session : Session T C w g) → source' ≡ closed source → IsDone source
       → SitsFree shards rules may_answer sat source session
       → SitsClosing shards rules may_answer 0 sat source' (seat_ends session)
   comes_none sat source source' session now done sits = record {
@@ -143,13 +162,14 @@ module _ (shards : ℕ) (rules : Rules) (may_answer : ℕ → Type 0) where
   }
 
   -- The line that is out was served a step further.
-  pub serves_on : {T C : Type 0} {g : Ghosts C T} (sat : SeatAt) (source : SourceTold) (now now' : Sight)
-      (session session' : Session T C g)
+  pub serves_on : {T C : Type 0} {w : Warrants T} {g : Ghosts C T} (sat : SeatAt) (source : SourceTold)
+      (place place' : Place) (now now' : Sight) (session session' : Session T C w g)
       → ((begin : Sight) (before : Ends Near) → IsServingLine shards rules may_answer begin now before session
       → IsServingLine shards rules may_answer begin now' before session')
-      → SitsServing shards rules may_answer sat source now session
-      → SitsServing shards rules may_answer sat source now' session'
-  serves_on sat source now now' session session' goes sits = record {
+      → ((rules : Rules) (begin : Sight) → IsLineAt rules place begin session → IsLineAt rules place' begin session')
+      → SitsServing shards rules may_answer sat source place now session
+      → SitsServing shards rules may_answer sat source place' now' session'
+  serves_on sat source place place' now now' session session' goes stays sits = record {
     free = sits.free;
     lines = sits.lines;
     before = sits.before;
@@ -161,6 +181,7 @@ module _ (shards : ℕ) (rules : Rules) (may_answer : ℕ → Type 0) where
     lines_are = sits.lines_are;
     width = sits.width;
     serving = goes sits.begin sits.ends sits.serving;
+    line = stays rules sits.begin sits.line;
   }
 
   -- the line is served over the ends as they are called once the session was renewed
@@ -186,7 +207,8 @@ module _ (shards : ℕ) (rules : Rules) (may_answer : ℕ → Type 0) where
   }
 
   -- what renewing a session does
-  pub record Renews {T C : Type 0} {g : Ghosts C T} (another : Bool) (old new : Session T C g) : Type 0 where
+  pub record Renews {T C : Type 0} {w : Warrants T} {g : Ghosts C T} (another : Bool)
+      (old new : Session T C w g) : Type 0 where
     pub when : (buffered_conn : BufferedConn) (told : Told) → old.buffered_conn ≡ Some buffered_conn
         → IsConn buffered_conn.conn told → IsTrue another ↔ (IsAtRest told × IsOver told)
     pub vacant : IsTrue another → (buffered_conn : BufferedConn) (told : Told) → old.buffered_conn ≡ Some buffered_conn
@@ -196,12 +218,16 @@ module _ (shards : ℕ) (rules : Rules) (may_answer : ℕ → Type 0) where
     pub ends : seat_ends new ≡ seat_ends old
 
   -- The line that was out was served and went back. Each reply was the answer to its piece, so the session is renewed.
-  module _ {T C : Type 0} {g : Ghosts C T} (sat : SeatAt) (source source' : SourceTold) (now now' : Sight)
-      (commands : ℕ) (broke another : Bool) (session session' last : Session T C g) (keeps : g.keeps)
+  module _ {T C : Type 0} {w : Warrants T} {g : Ghosts C T} (sat : SeatAt) (source source' : SourceTold)
+      (place place' : Place) (now now' : Sight) (commands : ℕ) (broke another : Bool)
+      (session session' last : Session T C w g) (keeps : g.keeps)
       (goes : (begin : Sight) (before : Ends Near) → IsServingLine shards rules may_answer begin now before session
       → HasServed shards rules may_answer begin now' before session' commands broke)
       (back : source' ≡ took_back now' commands broke source) (renews : Renews another session' last)
-      (sits : SitsServing shards rules may_answer sat source now session) where
+      (stays : (rules : Rules) (begin : Sight) → IsLineAt rules place begin session
+      → IsLineAt rules place' begin session')
+      (kept : (rules : Rules) → IsRuled rules session' → IsRuled rules last)
+      (sits : SitsServing shards rules may_answer sat source place now session) where
     -- what the line was served by
     abbrev by : SomeAnd session'.buffered_conn
         (λ buffered_conn. WasServedBy shards rules may_answer sits.begin now' sits.ends session'.shard_link
@@ -253,20 +279,22 @@ module _ (shards : ℕ) (rules : Rules) (may_answer : ℕ → Type 0) where
               subst V served.rules_are
               (renews.vacant another_comes by.some served.told by.is served.conn_is (served.shards_is ∙ sym wide)
               by.holds.idle by.holds.recorded);
+          ruled = kept rules (stays rules sits.begin sits.line).ruled;
         }
 
   -- One channel more was closed.
-  pub closes_on : {L : Type 0} {T C : Type 0} {g : Ghosts C T} (sight : L → Sight) (sat : SeatAt) (count : ℕ)
-      (source : SourceTold) (old new : Session T C g) (now : SlotState L)
+  pub closes_on : {L : Type 0} {T C : Type 0} {w : Warrants T} {g : Ghosts C T} (place : L → Place)
+      (sight : L → Sight) (sat : SeatAt) (count : ℕ)
+      (source : SourceTold) (old new : Session T C w g) (now : SlotState L)
       → ((served : Ends Near) → EndsFirst count served (seat_ends old) → ClosesOn served now (seat_ends new))
       → SitsClosing shards rules may_answer count sat source (seat_ends old)
-      → SeatStands sight shards rules may_answer sat source new now
-  closes_on sight sat count source old new slot_state.Free closes sits = absurd (closes sits.served sits.closed)
-  closes_on sight sat count source old new (slot_state.Out line begun) closes sits =
+      → SeatStands place sight shards rules may_answer sat source new now
+  closes_on place sight sat count source old new slot_state.Free closes sits = absurd (closes sits.served sits.closed)
+  closes_on place sight sat count source old new (slot_state.Out line begun) closes sits =
       absurd (closes sits.served sits.closed)
-  closes_on sight sat count source old new (slot_state.Closing more) closes sits =
+  closes_on place sight sat count source old new (slot_state.Closing more) closes sits =
       record { served = sits.served; serves = sits.serves; closed = closes sits.served sits.closed }
-  closes_on sight sat count source old new slot_state.Over closes sits =
+  closes_on place sight sat count source old new slot_state.Over closes sits =
       let serves = sits.serves in
       record {
         lines = serves.lines;
@@ -279,13 +307,15 @@ module _ (shards : ℕ) (rules : Rules) (may_answer : ℕ → Type 0) where
       }
 
   -- A seat that stands may go a step further.
-  pub can_step : {L : Type 0} {T C : Type 0} {g : Ghosts C T} (sight : L → Sight) (sat : SeatAt) (source : SourceTold)
-      (session : Session T C g) (now : SlotState L) → SeatStands sight shards rules may_answer sat source session now
-      → CanStep now session
-  can_step sight sat source session slot_state.Free stands = tt
-  can_step sight sat source session (slot_state.Out line false) stands = tt
-  can_step sight sat source session (slot_state.Out line true) stands =
-      may_serve shards rules may_answer stands.begin (sight line) stands.ends session.shard_link session.buffered_conn
-      stands.serving
-  can_step sight sat source session (slot_state.Closing count) stands = tt
-  can_step sight sat source session slot_state.Over stands = tt
+  pub can_step : {L : Type 0} {T C : Type 0} {w : Warrants T} {g : Ghosts C T} (place : L → Place) (sight : L → Sight)
+      (sat : SeatAt) (source : SourceTold)
+      (session : Session T C w g) (now : SlotState L)
+      → SeatStands place sight shards rules may_answer sat source session now
+      → CanStep place sight may_answer now session
+  can_step place sight sat source session slot_state.Free stands = tt
+  can_step place sight sat source session (slot_state.Out line false) stands = stands.new
+  can_step place sight sat source session (slot_state.Out line true) stands =
+      may_serve shards rules may_answer stands.begin (sight line) stands.ends session.shard_link (place line)
+      session.buffered_conn stands.serving stands.line
+  can_step place sight sat source session (slot_state.Closing count) stands = tt
+  can_step place sight sat source session slot_state.Over stands = tt

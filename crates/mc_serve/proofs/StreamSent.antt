@@ -62,13 +62,16 @@ tap_send : (S : RattleType) (stream : StreamGhosts S.Denot) → IsSend S → IsS
 tap_send S stream sent = declared_send (tap.the_type S stream) (search (trail_send, sendable, crosses) depth 20)
 
 -- A line over a stream may go to another thread where the stream may.
-pub line_send : (S : RattleType) (stream : StreamGhosts S.Denot) → IsSend S → IsSend (tcp_connection.the_row S stream)
-line_send S stream sent =
+pub line_send : (S T : RattleType) (stream : StreamGhosts S.Denot) → IsSend S → IsSend T
+    → IsSend (tcp_connection.the_row S T stream)
+line_send S T stream sent token =
     let tap_sent : IsSend (tap.the_row S stream) = tap_send S stream sent in
-    declared_send (tcp_connection.the_type S stream) (search (tap_sent, reads_send, meter_send, sendable) depth 20)
+    declared_send (tcp_connection.the_type S T stream)
+    (search (tap_sent, reads_send, meter_send, sendable, crosses) depth 20)
 
 -- A source for streams may go to another thread where its clock, its arrivals and its streams may.
-pub stream_source_send : (R A S : RattleType) (arrivals : ArrivalsGhosts A.Denot S.Denot)
-    (stream : StreamGhosts S.Denot) → IsSend R → IsSend A → IsSend S
-    → IsSend (stream_source.the_row R A S arrivals stream)
-stream_source_send R A S arrivals stream clock handoffs sent = search (lingering.the_send, sendable, crosses) depth 20
+pub stream_source_send : (R A T S : RattleType) (arrivals : ArrivalsGhosts A.Denot S.Denot)
+    (stream : StreamGhosts S.Denot) → IsSend R → IsSend A → IsSend T → IsSend S
+    → IsSend (stream_source.the_row R A T S arrivals stream)
+stream_source_send R A T S arrivals stream clock handoffs token sent =
+    search (lingering.the_send, sendable, crosses) depth 20

@@ -3,6 +3,7 @@ use Rattle.std.specs.Prelude.{ℕ, ◌≡◌, ◌+◌, ◌-◌, ◌^◌, min, Li
 use Rattle.std.specs.List.{AllByRecursion, slice_get}
 use Rattle.mc_sizes.specs.declared.sizes.Sizes.{Sizes}
 use Rattle.mc_model.specs.Log.{Entry}
+use Rattle.mc_history.specs.Tokens.{Sight}
 use Rattle.mc_wake.specs.Zips.{Zips}
 use Rattle.mc_seat.specs.Explains.{IsLogOfLines}
 use Rattle.mc_doors.specs.declared.stream.Stream.{Ghosts}
@@ -12,7 +13,7 @@ use Rattle.mc_serve.specs.Served.{ExplainsSeat}
 use Rattle.mc_serve.specs.declared.outcome.Outcome.{Outcome}
 
 -- the connections of each seat, one after another
-abbrev pub seats_of : {S : Type 0} {g : Ghosts S} → Outcome S g → List (List (ClosedConnection S g × Unit {0}))
+abbrev pub seats_of : {S : Type 0} {g : Ghosts S} → Outcome S g → List (List (ClosedConnection S Sight g × Unit {0}))
 seats_of served = map (λ seat. seat.0.items) served.seats.items
 
 -- how many connections all seats have served
@@ -22,7 +23,8 @@ how_many (lines ∷ seats) = length lines + how_many seats
 
 -- Of a seat: just the streams that were to come were served, in their order, where they are known; where they aren't,
 -- just what came in was.
-abbrev pub AreServed : {S : Type 0} {g : Ghosts S} → Option (List S) → List (ClosedConnection S g × Unit {0}) → Type 0
+abbrev pub AreServed : {S T : Type 0} {g : Ghosts S} → Option (List S) → List (ClosedConnection S T g × Unit {0}) → Type
+    0
 AreServed None gone = AllByRecursion (λ one. IsServed one.0.line.value.tap.begin.value one.0) gone
 AreServed (Some streams) gone = Zips (λ stream one. IsServed stream one.0) streams gone
 
@@ -36,5 +38,6 @@ pub record ServesConnections {S : Type 0} {g : Ghosts S} (sizes : Sizes) (may_an
   pub whole : AllByRecursion (AreServed None) (seats_of served)
   pub log : List Entry
   pub log_is : IsLogOfLines sizes (length (seats_of served)) log
-  pub each : (seat : ℕ) (gone : List (ClosedConnection S g × Unit {0})) → slice_get (seats_of served) seat ≡ Some gone
+  pub each : (seat : ℕ) (gone : List (ClosedConnection S Sight g × Unit {0}))
+      → slice_get (seats_of served) seat ≡ Some gone
       → ExplainsSeat sizes may_answer log seat (gone_lines gone)

@@ -4,4 +4,5 @@ pub mod Logs
 pub mod Seats
 pub mod Served
 pub mod Over
+pub mod Placed
 pub mod Connections

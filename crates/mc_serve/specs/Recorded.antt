@@ -1,4 +1,5 @@
 -- Who records what goes over the channels of a seat or of a shard.
+use Rattle.std.specs.Prelude.{◌≡◌}
 use Rattle.mc_sizes.specs.declared.sizes.Sizes.{Sizes}
 use Rattle.mc_ring.specs.Channel.{Far, Near}
 use Rattle.mc_ring.specs.Ends.{Ends}
@@ -10,8 +11,10 @@ use Rattle.mc_record.specs.Recorder.{log_in, shard_of}
 use Rattle.mc_threads.specs.Routes.{AreOnRoutes, IsUpToDate}
 use Rattle.mc_threads.specs.Workers.{IsRecordOf}
 
--- The clerk is the one of the seat of these ends: its record is of their channels, and of all that has passed there.
-pub record IsClerkOf (ends : Ends Near) (clerk : Acting) : Type 0 where
+-- The clerk is the one of the seat of these ends, in a server of these sizes: its record is of their channels, and of
+-- all that has passed there.
+pub record IsClerkOf (sizes : Sizes) (ends : Ends Near) (clerk : Acting) : Type 0 where
+  pub sizes_are : clerk.name.sizes ≡ sizes
   pub routes : AreOnRoutes (λ shard. record { seat = seat_of clerk.role; shard = shard; name = clerk.name }) ends
   pub past : IsUpToDate (work_at clerk) (answers_at clerk) ends
 

@@ -6,11 +6,13 @@ use Rattle.mc_ring.specs.Ends.{Ends}
 use Rattle.mc_conn.specs.declared.conn.Conn.{Conn}
 use Rattle.mc_conn.specs.Fits.{KeysFit}
 use Rattle.mc_seat.specs.declared.clerk.Clerk.{Ghosts}
+use Rattle.mc_seat.specs.declared.warrant.Warrant.{Ghosts as Warrants}
+use Rattle.mc_seat.specs.Place.{Place, no_place}
 use Rattle.mc_seat.specs.LineServed.{LineServed}
 use Rattle.mc_seat.specs.Explains.{LineTold}
 use Rattle.mc_threads.specs.Ending.{EndsFirst}
 use Rattle.mc_threads.specs.Serving.{EndsAll}
-use Rattle.mc_threads.specs.Session.{IsServingLine, IsVacant, MayStep, seat_ends}
+use Rattle.mc_threads.specs.Session.{IsLineAt, IsRuled, IsServingLine, IsVacant, MayStep, seat_ends}
 use Rattle.mc_threads.specs.declared.session.Session.{Session}
 use Rattle.mc_doors.specs.Told.{SourceTold, IsDone, IsFree, IsNext, Passes, closed, let_in}
 use Rattle.mc_serve.specs.declared.connection_slot.SlotState.{SlotState}
@@ -62,10 +64,10 @@ pub record SeatServes (shards : ℕ) (rules : Rules) (may_answer : ℕ → Type 
   pub over : SourceIsClosed passed rose.source
   pub closed : EndsAll served rose.ends
 
-module _ {T C : Type 0} {g : Ghosts C T} where
+module _ {T C : Type 0} {w : Warrants T} {g : Ghosts C T} where
   -- Lines of the source were served, none is out, and the seat may serve another.
   pub record SitsFree (shards : ℕ) (rules : Rules) (may_answer : ℕ → Type 0) (sat : SeatAt) (source : SourceTold)
-      (session : Session T C g) : Type 0 where
+      (session : Session T C w g) : Type 0 where
     pub free : IsFree sat.source
     pub lines : List LineTold
     pub passed : Passes sat.source lines source
@@ -73,19 +75,21 @@ module _ {T C : Type 0} {g : Ghosts C T} where
     pub width : length (seat_ends session).channels ≡ shards
     pub window : ℕ
     pub vacant : IsVacant rules window session
+    pub ruled : IsRuled rules session
 
   -- Lines of the source were served, and one came in, which is out and so now; nothing was done with it yet.
   pub record SitsBeginning (shards : ℕ) (rules : Rules) (may_answer : ℕ → Type 0) (sat : SeatAt) (source : SourceTold)
-      (now : Sight) (session : Session T C g) : Type 0 where
+      (place : Place) (now : Sight) (session : Session T C w g) : Type 0 where
     -- the source before the line came in
     pub before : SourceTold
     pub sits : SitsFree shards rules may_answer sat before session
     pub next : IsNext now before
     pub came : source ≡ let_in now before
+    pub new : place ≡ no_place
 
   -- Lines of the source were served, and the one that is out is being served; it is so now.
   pub record SitsServing (shards : ℕ) (rules : Rules) (may_answer : ℕ → Type 0) (sat : SeatAt) (source : SourceTold)
-      (now : Sight) (session : Session T C g) : Type 0 where
+      (place : Place) (now : Sight) (session : Session T C w g) : Type 0 where
     pub free : IsFree sat.source
     pub lines : List LineTold
     -- the source before the line came in, and the line and the ends as it came in
@@ -98,6 +102,7 @@ module _ {T C : Type 0} {g : Ghosts C T} where
     pub lines_are : ServesLines shards rules may_answer lines sat.ends ends
     pub width : length ends.channels ≡ shards
     pub serving : IsServingLine shards rules may_answer begin now ends session
+    pub line : IsLineAt rules place begin session
 
 -- Lines of the source were served, until it said that no more come, and then the first count channels were closed.
 pub record SitsClosing (shards : ℕ) (rules : Rules) (may_answer : ℕ → Type 0) (count : ℕ) (sat : SeatAt)
@@ -106,37 +111,39 @@ pub record SitsClosing (shards : ℕ) (rules : Rules) (may_answer : ℕ → Type
   pub serves : ServesSource shards rules may_answer sat (seat_at source served)
   pub closed : EndsFirst count served ends
 
-module _ {T C : Type 0} {g : Ghosts C T} where
+module _ {T C : Type 0} {w : Warrants T} {g : Ghosts C T} where
   -- How a seat stands between two steps, since it began like this.
-  abbrev pub SeatStands : {L : Type 0} → (L → Sight) → ℕ → Rules → (ℕ → Type 0) → SeatAt → SourceTold → Session T C g
-      → SlotState L → Type 0
-  SeatStands sight shards rules may_answer sat source session slot_state.Free =
+  abbrev pub SeatStands : {L : Type 0} → (L → Place) → (L → Sight) → ℕ → Rules → (ℕ → Type 0) → SeatAt → SourceTold
+      → Session T C w g → SlotState L → Type 0
+  SeatStands place sight shards rules may_answer sat source session slot_state.Free =
       SitsFree shards rules may_answer sat source session
-  SeatStands sight shards rules may_answer sat source session (slot_state.Out line false) =
-      SitsBeginning shards rules may_answer sat source (sight line) session
-  SeatStands sight shards rules may_answer sat source session (slot_state.Out line true) =
-      SitsServing shards rules may_answer sat source (sight line) session
-  SeatStands sight shards rules may_answer sat source session (slot_state.Closing count) =
+  SeatStands place sight shards rules may_answer sat source session (slot_state.Out line false) =
+      SitsBeginning shards rules may_answer sat source (place line) (sight line) session
+  SeatStands place sight shards rules may_answer sat source session (slot_state.Out line true) =
+      SitsServing shards rules may_answer sat source (place line) (sight line) session
+  SeatStands place sight shards rules may_answer sat source session (slot_state.Closing count) =
       SitsClosing shards rules may_answer count sat source (seat_ends session)
-  SeatStands sight shards rules may_answer sat source session slot_state.Over =
+  SeatStands place sight shards rules may_answer sat source session slot_state.Over =
       SeatServes shards rules may_answer sat (seat_at source (seat_ends session))
 
   -- A seat before its first step.
-  pub record HasSatDown {L : Type 0} (shards : ℕ) (rules : Rules) (source : SourceTold) (session : Session T C g)
+  pub record HasSatDown {L : Type 0} (shards : ℕ) (rules : Rules) (source : SourceTold) (session : Session T C w g)
       (now : SlotState L) : Type 0 where
     pub none : now ≡ slot_state.Free
     pub free : IsFree source
     pub width : length (seat_ends session).channels ≡ shards
     pub window : ℕ
     pub vacant : IsVacant rules window session
+    pub ruled : IsRuled rules session
 
-  -- Where a line is served, the session serves it.
-  abbrev pub CanStep : {L : Type 0} → SlotState L → Session T C g → Type 0
-  CanStep slot_state.Free session = Unit {0}
-  CanStep (slot_state.Out line false) session = Unit {0}
-  CanStep (slot_state.Out line true) session = MayStep session
-  CanStep (slot_state.Closing count) session = Unit {0}
-  CanStep slot_state.Over session = Unit {0}
+  -- A line that is out has not begun, or the session serves it.
+  abbrev pub CanStep : {L : Type 0} → (L → Place) → (L → Sight) → (ℕ → Type 0) → SlotState L → Session T C w g → Type 0
+  CanStep place sight may_answer slot_state.Free session = Unit {0}
+  CanStep place sight may_answer (slot_state.Out line false) session = place line ≡ no_place
+  CanStep place sight may_answer (slot_state.Out line true) session =
+      MayStep may_answer (place line) (sight line) session
+  CanStep place sight may_answer (slot_state.Closing count) session = Unit {0}
+  CanStep place sight may_answer slot_state.Over session = Unit {0}
 
 -- One channel more was closed, or none; or all of them were closed before.
 abbrev pub ClosesOn : {L : Type 0} → Ends Near → SlotState L → Ends Near → Type 0

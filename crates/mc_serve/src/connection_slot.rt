@@ -5,7 +5,7 @@ ghost use Rattle.std.specs.Prelude.{◌≡◌, ◌<◌, ℕ, IfOk, IsTrue, lengt
 ghost use Rattle.mc_ring.specs.Ends.{Ends};
 ghost use Rattle.mc_ring.specs.Channel.{Near};
 ghost use Rattle.mc_threads.specs.Ending.{EndsFirst};
-ghost use Rattle.mc_threads.specs.Session.{IsVacant, seat_ends};
+ghost use Rattle.mc_threads.specs.Session.{IsRuled, IsVacant, seat_ends};
 ghost use Rattle.mc_serve.specs.Recorded.{IsClerkOf};
 ghost use Rattle.mc_serve.specs.Seats.{CanStep, ClosesOn, SeatAt, SeatStands};
 ghost use Rattle.mc_serve.specs.declared.connection_slot.SlotState.TheVariants as slot_state;
@@ -38,6 +38,7 @@ pub enum Stepped {
 fn after_begin<D: ConnectionSource>(begun: bool, source: &mut D, line: &mut D::Transport) -> Stepped
     ensures told { D.told source.new ≡ D.told source.old }
     ensures line { D.Transport.sight line.new ≡ D.Transport.sight line.old }
+    ensures place { D.Transport.place line.new ≡ D.Transport.place line.old }
 {
     if begun {
         return Stepped::Did;
@@ -82,7 +83,10 @@ impl<D: ConnectionSource + Drop> Drop for ConnectionSlot<D> {
     }
 }
 
-impl<D: ConnectionSource + Drop> ConnectionSlot<D> {
+impl<D: ConnectionSource + Drop> ConnectionSlot<D>
+where
+    D::Transport: Transport<Warrant = Evidence>,
+{
     /// A seat that serves the lines of the source, with a clerk whose record is of these ends. The
     /// wakers are those of the shards.
     pub fn new(
@@ -95,9 +99,10 @@ impl<D: ConnectionSource + Drop> ConnectionSlot<D> {
     ) -> Result<ConnectionSlot<D>, AllocError>
         requires sizes { SuitLines sizes }
         requires width { length ends.channels ≡ sizes.shards }
-        requires clerk { IsClerkOf ends clerk }
+        requires clerk { IsClerkOf sizes ends clerk }
         ensures vacant { IfOk result
             (λ slot. IsVacant (rules_of sizes) sizes.window slot.session) }
+        ensures ruled { IfOk result (λ slot. IsRuled (rules_of sizes) slot.session) }
         ensures free { IfOk result (λ slot. slot.slot_state ≡ slot_state.Free) }
         ensures source { IfOk result (λ slot. slot.source ≡ source) }
         ensures ends { IfOk result (λ slot. seat_ends slot.session ≡ ends) }
@@ -119,11 +124,14 @@ impl<D: ConnectionSource + Drop> ConnectionSlot<D> {
         clock: &K,
         pool: &mut BufferPool,
     ) -> Stepped
-        requires { CanStep self.old.slot_state self.old.session }
+        requires { CanStep (λ line. D.Transport.place line) (λ line. D.Transport.sight line)
+            (K.may_answer clock.now) self.old.slot_state self.old.session }
         ensures { (shards : ℕ) (rules : Rules) (sat : SeatAt) →
-            SeatStands (λ line. D.Transport.sight line) shards rules (K.may_answer clock.now) sat
+            SeatStands (λ line. D.Transport.place line) (λ line. D.Transport.sight line) shards
+            rules (K.may_answer clock.now) sat
             (D.told self.old.source) self.old.session self.old.slot_state →
-            SeatStands (λ line. D.Transport.sight line) shards rules (K.may_answer clock.now) sat
+            SeatStands (λ line. D.Transport.place line) (λ line. D.Transport.sight line) shards
+            rules (K.may_answer clock.now) sat
             (D.told self.new.source) self.new.session self.new.slot_state }
     {
         match &mut self.slot_state {
@@ -140,7 +148,7 @@ impl<D: ConnectionSource + Drop> ConnectionSlot<D> {
                     line.rouse(ready);
                 }
                 if !*begun {
-                    *begun = self.session.begin(clock).is_ok();
+                    *begun = self.session.begin(line, clock).is_ok();
                     return after_begin(*begun, &mut self.source, line);
                 }
                 match self.session.step(line, clock, pool) {

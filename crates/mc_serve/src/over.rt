@@ -1,6 +1,8 @@
 //! Serves lines over memory, each by a source of its own.
 ghost use Rattle.std.specs.Prelude.{◌≡◌, ◌≢◌, [], IfErr, IfOk, length, map};
+ghost use Rattle.std.specs.List.{AllByRecursion};
 ghost use Rattle.mc_sizes.specs.Sizes.{MayServe};
+ghost use Rattle.mc_seat.specs.Place.{no_place};
 ghost use Rattle.mc_wake.specs.Zips.{Zips};
 ghost use Rattle.mc_serve.specs.Over.{ServesAll, came_back};
 ghost use Rattle.mc_serve.specs.declared.error.ServeError.TheVariants.{Bind};
@@ -9,6 +11,7 @@ ghost use Rattle.mc_doors.specs.One.{IsBack, told_of, waits};
 use crate::error::ServeError;
 use crate::serving::serve;
 use mc_doors::{ServedLine, SingleSource};
+use mc_history::Evidence;
 use mc_seat::{Clock, Transport};
 use mc_sizes::Sizes;
 use mc_wake::{Poller, SpinPolicy};
@@ -30,7 +33,7 @@ pub struct Report<L> {
 /// before each piece. Where it refuses, nothing was read of any line nor written to it.
 pub fn serve_over<
     R: Threads + Wait + RandomSource + Copy + Send + Drop + 'static,
-    L: Transport + Send + Drop + 'static,
+    L: Transport<Warrant = Evidence> + Send + Drop + 'static,
     G: Gate + Send + Sync + Drop + 'static,
     K: Clock + Copy + Send + Drop + 'static,
 >(
@@ -41,7 +44,9 @@ pub fn serve_over<
     gate: G,
     clock: K,
 ) -> Result<Report<L>, ServeError>
-    requires { MayServe (record sizes { seats = length lines.items }) }
+    requires sizes { MayServe (record sizes { seats = length lines.items }) }
+    // None has begun.
+    requires new { AllByRecursion (λ line. L.place line ≡ no_place) lines.items }
     // One log explains what was read of all lines, what was written to them and what the shards
     // did.
     ensures explained { IfOk result (λ report.
@@ -80,10 +85,11 @@ pub(crate) fn pollers_for<R: Threads>(
 }
 
 /// A source for each line.
-fn sources_for<L: Transport + Drop>(
+fn sources_for<L: Transport<Warrant = Evidence> + Drop>(
     alloc: Global,
     lines: Vec<L>,
 ) -> Result<Vec<SingleSource<L>>, AllocError>
+    requires { AllByRecursion (λ line. L.place line ≡ no_place) lines.items }
     ensures { IfOk result (λ sources.
         map (λ source. told_of (λ line. L.sight line) source)
         sources.items ≡ map (λ line. waits (L.sight line)) lines.items) }

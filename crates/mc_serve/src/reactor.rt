@@ -14,7 +14,7 @@ use crate::slot_table::SlotTable;
 use mc_doors::ConnectionSource;
 use mc_history::Evidence;
 use mc_record::Recorder;
-use mc_seat::{BufferPool, Clock};
+use mc_seat::{BufferPool, Clock, Transport};
 use mc_sizes::Sizes;
 use mc_threads::Working;
 use mc_wake::{Poller, Task};
@@ -48,7 +48,10 @@ impl<D: ConnectionSource + Drop, G: Drop, K: Drop> Drop for Reactor<D, G, K> {
     }
 }
 
-impl<D: ConnectionSource + Drop, G: Gate + Drop, K: Clock + Drop> Reactor<D, G, K> {
+impl<D: ConnectionSource + Drop, G: Gate + Drop, K: Clock + Drop> Reactor<D, G, K>
+where
+    D::Transport: Transport<Warrant = Evidence>,
+{
     /// The part that serves these seats and these workers, which any seat of the server may call.
     /// The poller is its thread's.
     pub(crate) fn new(
@@ -199,7 +202,10 @@ fn have_ended<G: Gate + Drop>(workers: &Vec<Working<G, Evidence, Recorder>>) -> 
     true
 }
 
-impl<D: ConnectionSource + Drop, G: Gate + Drop, K: Clock + Drop> Task for Reactor<D, G, K> {
+impl<D: ConnectionSource + Drop, G: Gate + Drop, K: Clock + Drop> Task for Reactor<D, G, K>
+where
+    D::Transport: Transport<Warrant = Evidence>,
+{
     ghost is_ready = { λ part.
         AllByRecursion (λ one.
         HasSatDown part.sizes.shards (rules_of part.sizes) (D.told one.source) one.session

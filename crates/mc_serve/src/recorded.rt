@@ -26,7 +26,7 @@ impl RecordedChannels {
         ensures channels { IfOk result (λ made.
             AreChannels sizes.seats sizes.shards sizes.ring made.near.items made.far.items) }
         ensures clerks { IfOk result
-            (λ made. Zips IsClerkOf made.near.items made.clerks.items) }
+            (λ made. Zips (IsClerkOf sizes) made.near.items made.clerks.items) }
         ensures recorders { IfOk result
             (λ made. Zips (IsRecorderOf sizes) made.far.items made.recorders.items) }
     {

@@ -24,7 +24,7 @@ use mc_doors::ConnectionSource;
 use mc_history::Evidence;
 use mc_record::{Recorder, SeatClerk};
 use mc_ring::SeatEnds;
-use mc_seat::Clock;
+use mc_seat::{Clock, Transport};
 use mc_sizes::Sizes;
 use mc_threads::{Working, make_recorded_workers};
 use mc_wake::{Poller, ThreadGroup, ThreadGroupError, Wakers};
@@ -55,7 +55,7 @@ pub fn serve<
     clock: K,
 ) -> Result<Vec<D>, ServeError>
 where
-    D::Transport: Send + 'static,
+    D::Transport: Transport<Warrant = Evidence> + Send + 'static,
     requires sizes { MayServe (record sizes { seats = length sources.items }) }
     requires free { AllByRecursion (λ source. IsFree (D.told source)) sources.items }
     // One log explains what was read of all lines, what was written to them and what the shards
@@ -89,7 +89,7 @@ fn serve_all<
     clock: K,
 ) -> Result<Vec<D>, ThreadGroupError>
 where
-    D::Transport: Send + 'static,
+    D::Transport: Transport<Warrant = Evidence> + Send + 'static,
     requires sizes { MayServe sizes }
     requires seats { length sources.items ≡ sizes.seats }
     requires free { AllByRecursion (λ source. IsFree (D.told source)) sources.items }
@@ -133,7 +133,10 @@ struct ReturnRoom<D: ConnectionSource, G> {
     ghost no_sources: { sources.items ≡ [] },
 }
 
-impl<D: ConnectionSource + Drop, G: Gate + Drop> ReturnRoom<D, G> {
+impl<D: ConnectionSource + Drop, G: Gate + Drop> ReturnRoom<D, G>
+where
+    D::Transport: Transport<Warrant = Evidence>,
+{
     /// The room for as many seats and workers.
     fn new(alloc: Global, seats: usize, workers: usize) -> Result<ReturnRoom<D, G>, AllocError> {
         Ok(ReturnRoom {
@@ -190,7 +193,7 @@ fn start<
     clock: K,
 ) -> Result<(), ThreadGroupError>
 where
-    D::Transport: Send + 'static,
+    D::Transport: Transport<Warrant = Evidence> + Send + 'static,
     requires sizes { MayServe sizes }
     requires seats { length sources.items ≡ sizes.seats }
     requires free { AllByRecursion (λ source. IsFree (D.told source)) sources.items }
@@ -230,10 +233,12 @@ fn sit_down<D: ConnectionSource + Drop>(
     shards: &Wakers,
     sizes: Sizes,
 ) -> Result<Vec<ConnectionSlot<D>>, AllocError>
+where
+    D::Transport: Transport<Warrant = Evidence>,
     requires sizes { SuitLines sizes }
     requires width { AllByRecursion (λ seat. length seat.channels ≡ sizes.shards) ends.items }
     requires as_many { length sources.items ≡ length ends.items }
-    requires clerks { Zips IsClerkOf ends.items clerks.items }
+    requires clerks { Zips (IsClerkOf sizes) ends.items clerks.items }
     requires free { AllByRecursion (λ source. IsFree (D.told source)) sources.items }
     ensures ends { IfOk result
         (λ seats. map (λ one. seat_ends one.session) seats.items ≡ ends.items) }
@@ -286,7 +291,10 @@ struct Unassigned<D: ConnectionSource, G> {
     workers: IntoIter<Working<G, Evidence, Recorder>>,
 }
 
-impl<D: ConnectionSource + Drop, G: Gate + Drop> Unassigned<D, G> {
+impl<D: ConnectionSource + Drop, G: Gate + Drop> Unassigned<D, G>
+where
+    D::Transport: Transport<Warrant = Evidence>,
+{
     /// A seat for each source and a worker for each shard, over new channels. The pollers are those
     /// of their threads.
     fn new<R: RandomSource>(
@@ -393,6 +401,8 @@ fn take_apart<D: ConnectionSource + Drop, G: Gate + Drop, K: Clock + Drop>(
     seats: &mut Vec<ConnectionSlot<D>>,
     workers: &mut Vec<Working<G, Evidence, Recorder>>,
 ) -> Result<(), AllocError>
+where
+    D::Transport: Transport<Warrant = Evidence>,
     requires no_seats { seats.old.items ≡ [] }
     requires no_workers { workers.old.items ≡ [] }
     ensures seats { OnOk result

@@ -9,6 +9,7 @@ use mc_doors::ConnectionSource;
 use mc_history::Evidence;
 use mc_record::Recorder;
 use mc_ring::SeatEnds;
+use mc_seat::Transport;
 use mc_threads::Working;
 use mc_wake::ThreadGroupError;
 use mc_worker::Gate;
@@ -20,6 +21,8 @@ pub(crate) fn settle<D: ConnectionSource + Drop, G: Gate + Drop>(
     workers: &mut Vec<Working<G, Evidence, Recorder>>,
     room: Vec<D>,
 ) -> Result<Vec<D>, ThreadGroupError>
+where
+    D::Transport: Transport<Warrant = Evidence>,
     requires none { room.items ≡ [] }
     requires channels { AllByRecursion (λ slot.
         HasChannels (seat_ends slot.session) (map (λ one. one.worker) workers.old.items))

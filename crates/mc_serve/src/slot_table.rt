@@ -8,7 +8,8 @@ ghost use Rattle.mc_serve.specs.declared.connection_slot.SlotState.TheVariants a
 
 use crate::connection_slot::{ConnectionSlot, Stepped};
 use mc_doors::ConnectionSource;
-use mc_seat::{BufferPool, Clock, Ready};
+use mc_history::Evidence;
+use mc_seat::{BufferPool, Clock, Ready, Transport};
 use mc_wake::{Poller, Readiness, SetBits};
 
 /// Seats a word, each with a bit.
@@ -23,7 +24,10 @@ pub struct SlotTable<D: ConnectionSource> {
     left: usize,
 }
 
-impl<D: ConnectionSource + Drop> SlotTable<D> {
+impl<D: ConnectionSource + Drop> SlotTable<D>
+where
+    D::Transport: Transport<Warrant = Evidence>,
+{
     /// These seats. Their poller has each of them roused at first.
     pub(crate) fn new(all: Vec<ConnectionSlot<D>>) -> SlotTable<D>
         ensures { result.all ≡ all }
@@ -42,14 +46,17 @@ impl<D: ConnectionSource + Drop> SlotTable<D> {
     ) -> bool
         requires { (shards : ℕ) × (rules : Rules) × (sats : List SeatAt) ×
             Zips (λ sat one.
-            SeatStands (λ line. D.Transport.sight line) shards rules (K.may_answer clock.now) sat
+            SeatStands (λ line. D.Transport.place line) (λ line. D.Transport.sight line) shards
+            rules (K.may_answer clock.now) sat
             (D.told one.source) one.session one.slot_state) sats self.old.all.items }
         ensures { (shards : ℕ) (rules : Rules) (sats : List SeatAt) →
             Zips (λ sat one.
-            SeatStands (λ line. D.Transport.sight line) shards rules (K.may_answer clock.now) sat
+            SeatStands (λ line. D.Transport.place line) (λ line. D.Transport.sight line) shards
+            rules (K.may_answer clock.now) sat
             (D.told one.source) one.session one.slot_state) sats self.old.all.items →
             Zips (λ sat one.
-            SeatStands (λ line. D.Transport.sight line) shards rules (K.may_answer clock.now) sat
+            SeatStands (λ line. D.Transport.place line) (λ line. D.Transport.sight line) shards
+            rules (K.may_answer clock.now) sat
             (D.told one.source) one.session one.slot_state) sats self.new.all.items }
     {
         let (first, end) = poller.roused_words();
@@ -69,14 +76,17 @@ impl<D: ConnectionSource + Drop> SlotTable<D> {
     )
         requires { (shards : ℕ) × (rules : Rules) × (sats : List SeatAt) ×
             Zips (λ sat one.
-            SeatStands (λ line. D.Transport.sight line) shards rules (K.may_answer clock.now) sat
+            SeatStands (λ line. D.Transport.place line) (λ line. D.Transport.sight line) shards
+            rules (K.may_answer clock.now) sat
             (D.told one.source) one.session one.slot_state) sats self.old.all.items }
         ensures { (shards : ℕ) (rules : Rules) (sats : List SeatAt) →
             Zips (λ sat one.
-            SeatStands (λ line. D.Transport.sight line) shards rules (K.may_answer clock.now) sat
+            SeatStands (λ line. D.Transport.place line) (λ line. D.Transport.sight line) shards
+            rules (K.may_answer clock.now) sat
             (D.told one.source) one.session one.slot_state) sats self.old.all.items →
             Zips (λ sat one.
-            SeatStands (λ line. D.Transport.sight line) shards rules (K.may_answer clock.now) sat
+            SeatStands (λ line. D.Transport.place line) (λ line. D.Transport.sight line) shards
+            rules (K.may_answer clock.now) sat
             (D.told one.source) one.session one.slot_state) sats self.new.all.items }
     {
         let mut again = 0u64;
@@ -101,14 +111,17 @@ impl<D: ConnectionSource + Drop> SlotTable<D> {
     ) -> Stepped
         requires { (shards : ℕ) × (rules : Rules) × (sats : List SeatAt) ×
             Zips (λ sat one.
-            SeatStands (λ line. D.Transport.sight line) shards rules (K.may_answer clock.now) sat
+            SeatStands (λ line. D.Transport.place line) (λ line. D.Transport.sight line) shards
+            rules (K.may_answer clock.now) sat
             (D.told one.source) one.session one.slot_state) sats self.old.all.items }
         ensures { (shards : ℕ) (rules : Rules) (sats : List SeatAt) →
             Zips (λ sat one.
-            SeatStands (λ line. D.Transport.sight line) shards rules (K.may_answer clock.now) sat
+            SeatStands (λ line. D.Transport.place line) (λ line. D.Transport.sight line) shards
+            rules (K.may_answer clock.now) sat
             (D.told one.source) one.session one.slot_state) sats self.old.all.items →
             Zips (λ sat one.
-            SeatStands (λ line. D.Transport.sight line) shards rules (K.may_answer clock.now) sat
+            SeatStands (λ line. D.Transport.place line) (λ line. D.Transport.sight line) shards
+            rules (K.may_answer clock.now) sat
             (D.told one.source) one.session one.slot_state) sats self.new.all.items }
     {
         if place >= self.all.len() {

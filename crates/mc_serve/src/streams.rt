@@ -12,6 +12,7 @@ use crate::outcome::Outcome;
 use crate::serving::serve;
 use http_server::Log;
 use mc_doors::{Arrivals, StreamSource};
+use mc_history::Evidence;
 use mc_seat::Clock;
 use mc_sizes::Sizes;
 use mc_wake::Poller;
@@ -62,7 +63,7 @@ fn sources_for<R: time::Clock + Copy + Drop, A: Arrivals + Drop>(
     alloc: Global,
     arrivals: Vec<A>,
     sizes: Sizes,
-) -> Result<Vec<StreamSource<R, A>>, AllocError>
+) -> Result<Vec<StreamSource<R, A, Evidence>>, AllocError>
     ensures told { IfOk result (λ sources.
         map (λ source. told_source (A.coming source.arrivals) source.out source.gone.items
         source.is_over)
@@ -83,7 +84,7 @@ fn sources_for<R: time::Clock + Copy + Drop, A: Arrivals + Drop>(
 
 /// How many connections came in by the sources, all of which have ended, and what they were.
 fn gather<R: time::Clock + Drop, A: Arrivals + Drop>(
-    sources: Vec<StreamSource<R, A>>,
+    sources: Vec<StreamSource<R, A, Evidence>>,
 ) -> Result<Outcome<A::Stream>, ServeError>
     ensures { IfOk result (λ served. (served.ended ≡
         min

@@ -5,6 +5,7 @@ use Rattle.std.specs.List.{slice_get}
 use Rattle.std.proofs.lemmas.Bool.{cases_Bool, cases_lt}
 use Rattle.std.proofs.lemmas.List.{length-map, length-set, map-append}
 use Rattle.std.proofs.lemmas.Option.{slice_get_within}
+use Rattle.mc_wire.specs.Sink.{Sight}
 use Rattle.mc_sizes.specs.declared.sizes.Sizes.{Sizes}
 use Rattle.mc_item.specs.declared.answer.Answer.{Answer}
 use Rattle.mc_item.specs.declared.answer.Kind.{Kind}
@@ -27,16 +28,15 @@ use Rattle.mc_conn.proofs.Staying.{is_sound, keeps_accept}
 use Rattle.mc_model.specs.Log.{Entry, on_shard, pieces_in, replies_in, reply_to}
 use Rattle.mc_model.proofs.Lists.{take_next}
 use Rattle.mc_model.proofs.Logs.{on_shard-no, on_shard-yes}
-use Rattle.mc_server.specs.internal.Answering.{ShardsAnswered, AnswersMore, piece_in, replies_on}
+use Rattle.mc_server.specs.internal.Answering.{ShardsAnswered, AnswersMore, RecordsMore, piece_in}
+use Rattle.mc_server.specs.internal.Recording.{CanNoteRun, IsWhole, entry_for, replies_on}
 use Rattle.mc_server.proofs.Backing.{Backs-push}
+use Rattle.mc_history.specs.Tokens.{Acting}
+use Rattle.mc_seat.specs.Place.{Place}
 use Rattle.mc_seat.proofs.Along.{keeps_trans}
 use Rattle.mc_ring.proofs.Lists.{all_push}
 
--- the entry of a piece that was run, and the reply to it
-abbrev pub entry_for : ℕ → Piece → Answer → Entry
-entry_for place piece answer = record { shard = place; asker = 0; piece = piece; answer = answer }
-
--- the reply to it, as it is made
+-- the reply to an entry, as it is made
 pub reply_is : (place : ℕ) (piece : Piece) (answer : Answer) (kind : Kind) (reply : Shown) → reply
     ≡ record { ticket = piece.ticket; part = piece.part; kind = kind; answer = answer } → kind ≡ kind_of piece.op
     → reply ≡ reply_to (entry_for place piece answer)
@@ -132,7 +132,7 @@ pub record IsNext (sizes : Sizes) (told : Told) (conn : Conn) (shards : List Sha
   pub sent_is : IsConn sent (told_next told more)
 
 -- by the contract of the call that took it out
-pub is_next : (sizes : Sizes) (told : Told) (conn sent : Conn) (shards : List Shard) (place : ℕ) (piece : Piece)
+abbrev pub is_next : (sizes : Sizes) (told : Told) (conn sent : Conn) (shards : List Shard) (place : ℕ) (piece : Piece)
     → AnswersMore sizes told conn shards →
     ((now : Told) → IsConn conn now → (slice_get (all_pieces now) now.out ≡ Some (place, piece))
     × IsConn sent (record now { out = now.out + 1; lent = true })) → IsNext sizes told conn shards place piece sent
@@ -219,3 +219,80 @@ one_less sizes told conn sent new shards place piece accepted next now =
     unsent_is new (record (told_next told next.more) { accepted = accepted }) now in
     let below = slice_get_within (all_pieces told) next.more.out (place, piece) next.here in
     omega (arith, before, after, below)
+
+-- before any of them is run, with all that was taken recorded
+pub records_none : (sizes : Sizes) (place : Place) (begin : Sight) (told : Told) (conn : Conn) (shards : List Shard)
+    (log : List Entry) (clerk : Acting) (recorders : List Acting) → IsConn conn told
+    → ShardsAnswered sizes told shards log → IsWhole sizes place begin told.taken log clerk recorders
+    → RecordsMore sizes place begin told conn shards clerk recorders
+unfolding more_none
+records_none sizes place begin told conn shards log clerk recorders is answers whole =
+    record { more = more_none sizes told conn shards log is answers; recorded = whole }
+
+-- what the call that took the next piece out says
+abbrev pub Gives : Conn → Conn → ℕ → Piece → Type 0
+Gives conn sent one piece =
+    (now : Told) → IsConn conn now → (slice_get (all_pieces now) now.out ≡ Some (one, piece))
+    × IsConn sent (record now { out = now.out + 1; lent = true })
+
+-- The reply shows the entry that it answers.
+pub entry_is : (one : ℕ) (piece sent : Piece) (answer : Answer) (reply : Shown) → sent ≡ piece → reply
+    ≡ reply_to (entry_for one piece answer) → entry_for one sent reply.answer ≡ entry_for one piece answer
+entry_is one piece sent answer reply same is =
+    ap (λ p. entry_for one p reply.answer) same ∙ ap (λ (r : Shown). entry_for one piece r.answer) is
+
+-- the next piece was run and recorded, and its answer accepted
+pub records_step : (sizes : Sizes) (place : Place) (begin : Sight) (told : Told) (conn sent new : Conn)
+    (shards : List Shard) (one : ℕ) (piece : Piece) (answer : Answer) (was shard : Shard) (reply : Shown)
+    (clerk clerk' : Acting) (recorders recorders' : List Acting) (entry : Entry)
+    → (records : RecordsMore sizes place begin told conn shards clerk recorders)
+    → Gives conn sent one piece → slice_get shards one ≡ Some was
+    → Steps was piece.op piece.moment answer shard → reply ≡ reply_to (entry_for one piece answer) →
+    (IsConn sent (told_next told records.more) → Expects (all_pending_replies told) records.more.accepted reply
+    × IsConn new (record (told_next told records.more) { accepted = records.more.accepted ++ reply ∷ [] })) →
+    entry ≡ entry_for one piece answer
+    → IsWhole sizes place begin told.taken (records.more.log ++ entry ∷ []) clerk' recorders'
+    → RecordsMore sizes place begin told new (set shards one shard) clerk' recorders'
+unfolding more_step
+records_step sizes place begin told conn sent new shards one piece answer was shard reply clerk clerk' recorders
+    recorders' entry records gives got steps is accepts entry_is whole =
+    let next = is_next sizes told conn sent shards one piece records.more gives in
+    record {
+      more = more_step sizes told conn sent new shards one piece answer was shard reply next got steps is accepts;
+      recorded =
+          subst (λ (e : Entry). IsWhole sizes place begin told.taken (records.more.log ++ e ∷ []) clerk' recorders')
+          entry_is whole;
+    }
+
+-- what is known before the next piece is recorded
+pub can_note : (sizes : Sizes) (place : Place) (begin : Sight) (told : Told) (conn sent : Conn) (shards : List Shard)
+    (one : ℕ) (piece : Piece) (answer : Answer) (was shard : Shard) (clerk : Acting) (recorders : List Acting)
+    → (records : RecordsMore sizes place begin told conn shards clerk recorders) → Gives conn sent one piece
+    → slice_get shards one ≡ Some was → Steps was piece.op piece.moment answer shard
+    → (piece' : Piece) (answer' : Answer) → entry_for one piece' answer' ≡ entry_for one piece answer
+    → CanNoteRun clerk recorders one piece' answer'
+can_note sizes place begin told conn sent shards one piece answer was shard clerk recorders records gives got steps
+    piece' answer' same =
+    let more = records.more in
+    let answers = more.answers in
+    let next = is_next sizes told conn sent shards one piece more gives in
+    let below = place_there sizes told conn sent shards one piece next in
+    let count = answers.count in
+    let due_is = next_due sizes (told_more told more) shards more.log one piece answers next.here in
+    let state = answers.backs one was got in
+    let after = steps state.0 state.2 in
+    subst (λ (e : Entry). CanNoteRun clerk recorders one e.piece e.answer) (sym same) (record {
+      sizes = sizes;
+      place = place;
+      begin = begin;
+      taken = told.taken;
+      log = more.log;
+      recorded = records.recorded;
+      mine = answers.mine;
+      there = omega (arith, below, count);
+      next =
+          ap (λ n. slice_get (due n one told.taken) (length (on_shard one more.log))) (sym answers.same)
+          ∙ (ap (λ n. slice_get (due told.shards one told.taken) n)
+          (sym (length-map (on_shard one more.log) reply_to)) ∙ due_is);
+      runs = record { before = state.0; after = after.0; ran = state.1; step = after.1 };
+    })

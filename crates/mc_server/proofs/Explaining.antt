@@ -36,7 +36,8 @@ use Rattle.mc_model.proofs.Alone.{run_of}
 use Rattle.mc_seat.specs.Story.{Story}
 use Rattle.mc_seat.specs.internal.Steps.{IsServed}
 use Rattle.mc_seat.specs.Explains.{IsExplained, entry_of}
-use Rattle.mc_server.specs.internal.Answering.{ShardsAnswered, piece_in, replies_on}
+use Rattle.mc_server.specs.internal.Answering.{ShardsAnswered, piece_in}
+use Rattle.mc_server.specs.internal.Recording.{replies_on}
 use Rattle.mc_server.proofs.Answering.{channel_ran}
 use Rattle.mc_server.proofs.Backing.{lawful}
 use Rattle.mc_ring.proofs.Lists.{all_append}
@@ -143,7 +144,8 @@ shard_of_entries s (one ∷ ran) = elim (eqb_tells one.shard s) [
   | inr there ↦ rw there.0 (shard_of_entries s ran)
 ]
 
-mine_on : (s : ℕ) (log : List Entry) → AllByRecursion (λ (entry : Entry). entry.asker ≡ 0) log
+-- The entries of a line are its own on each shard too.
+pub mine_on : (s : ℕ) (log : List Entry) → AllByRecursion (λ (entry : Entry). entry.asker ≡ 0) log
     → AllByRecursion (λ (entry : Entry). entry.asker ≡ 0) (on_shard s log)
 mine_on s [] mine = tt
 mine_on s (entry ∷ log) mine = elim (eqb_tells entry.shard s) [

@@ -14,13 +14,18 @@ use Rattle.mc_model.specs.Log.{Entry}
 use Rattle.mc_seat.specs.declared.buffered_conn.BufferedConn.{BufferedConn}
 use Rattle.mc_seat.specs.declared.buffered_conn.LineStep.{LineStep}
 use Rattle.mc_seat.specs.Explains.{IsExplained}
-use Rattle.mc_seat.specs.BufferedConn.{GoOnSays, IsNew, ServesOn, ServiceSays, TakesFor, WasServed, told_on}
+use Rattle.mc_seat.specs.BufferedConn.{GoOnSays, HasStopped, IsNew, ServesOn, ServiceSays, TakesFor, WasServed, told_on}
 use Rattle.mc_seat.proofs.More.{out_more, with_more}
 use Rattle.mc_seat.proofs.Serving.{serving_first, stops_carried}
-use Rattle.mc_server.specs.internal.Answering.{ShardsAnswered, AnswersAll, Backs, replies_on}
+use Rattle.mc_seat.specs.Place.{Place}
+use Rattle.mc_history.specs.Tokens.{Acting}
+use Rattle.mc_server.specs.declared.line_history.LineHistory.{LineHistory}
+use Rattle.mc_server.specs.internal.Answering.{ShardsAnswered, AnswersAll, Backs}
+use Rattle.mc_server.specs.internal.Recording.{IsHistoryOf, IsWhole, replies_on}
 use Rattle.mc_server.specs.internal.Turns.{Turns}
 use Rattle.mc_server.proofs.Answering.{told_more}
 use Rattle.mc_server.proofs.Explaining.{RanAll, all_complete, explains, keys_fit}
+use Rattle.mc_server.proofs.Recording.{history_more, history_placed}
 
 -- commands were taken: the answers so far stay in their places
 answers_on : (sizes : Sizes) (told : Told) (shards : List Shard) (log : List Entry) (fed : List ℕ) (ended : Bool)
@@ -40,29 +45,37 @@ answers_on sizes told shards log fed ended handed more within answers = record {
 }
 
 -- bytes were fed, replies handed out and commands taken
-turns_on : (sizes : Sizes) (may_answer : ℕ → Type 0) (begin now : Sight) (told : Told) (buffered_conn : BufferedConn)
-    (shards : List Shard) (log : List Entry) → told.out ≤ length (all_pieces told)
-    → ShardsAnswered sizes told shards log → ServesOn (replies_on log) may_answer begin now told buffered_conn
-    → Turns sizes may_answer begin now buffered_conn shards
-turns_on sizes may_answer begin now told buffered_conn shards log within answers on =
+turns_on : (sizes : Sizes) (may_answer : ℕ → Type 0) (place : Place) (begin now : Sight) (told : Told)
+    (buffered_conn : BufferedConn) (shards : List Shard) (log : List Entry) (clerk : Acting) (recorders : List Acting)
+    → told.out ≤ length (all_pieces told) → ShardsAnswered sizes told shards log
+    → IsHistoryOf sizes place begin told.taken log clerk recorders
+    → ServesOn (replies_on log) may_answer begin now told buffered_conn
+    → Turns sizes may_answer place begin now buffered_conn shards clerk recorders
+turns_on sizes may_answer place begin now told buffered_conn shards log clerk recorders within answers recorded on =
     let P : List Taken → Type 0 =
     λ taken. ShardsAnswered sizes (told_on told on.fed on.ended on.handed taken) shards log in
+    let R : List Taken → Type 0 = λ taken. IsHistoryOf sizes place begin taken log clerk recorders in
     record {
       told = told_on told on.fed on.ended on.handed on.taken;
       log = log;
       answers =
           subst P (sym on.taken_is) (answers_on sizes told shards log on.fed on.ended on.handed on.more within answers);
+      recorded =
+          subst R (sym on.taken_is)
+          (history_more sizes place begin told.taken on.more log clerk recorders recorded);
       stopped = on.stopped;
     }
 
--- Nothing has happened yet, except that commands were taken.
-pub turns_first : (sizes : Sizes) (may_answer : ℕ → Type 0) (line : Sight) (window : ℕ)
-    (buffered_conn after : BufferedConn) (shards : List Shard) → 0 < sizes.shards → length shards ≡ sizes.shards
-    → Backs sizes shards [] → IsNew sizes.shards (rules_of sizes) window buffered_conn
-    → TakesFor may_answer buffered_conn after → Turns sizes may_answer line line after shards
-turns_first sizes may_answer line window buffered_conn after shards some count backs new takes =
+-- Nothing has happened yet, except that the connection was opened and commands were taken.
+pub turns_first : (sizes : Sizes) (may_answer : ℕ → Type 0) (place : Place) (line : Sight) (window : ℕ)
+    (buffered_conn after : BufferedConn) (shards : List Shard) (clerk : Acting) (recorders : List Acting)
+    → 0 < sizes.shards → length shards ≡ sizes.shards → Backs sizes shards []
+    → IsHistoryOf sizes place line [] [] clerk recorders → IsNew sizes.shards (rules_of sizes) window buffered_conn
+    → TakesFor may_answer buffered_conn after → Turns sizes may_answer place line line after shards clerk recorders
+turns_first sizes may_answer place line window buffered_conn after shards clerk recorders some count backs recorded new
+    takes =
     let told : Told = told_nothing sizes.shards (rules_of sizes) window in
-    turns_on sizes may_answer line line told after shards [] (omega arith)
+    turns_on sizes may_answer place line line told after shards [] clerk recorders (omega arith)
     (record {
       some = some;
       same = refl;
@@ -73,64 +86,79 @@ turns_first sizes may_answer line window buffered_conn after shards some count b
       ran = refl;
       fits = fits_none sizes.shards;
     })
+    recorded
     (takes (replies_on []) line line told
     (serving_first may_answer line sizes.shards (rules_of sizes) window buffered_conn new)).on
 
--- all commands taken were answered
-pub record Answered (sizes : Sizes) (may_answer : ℕ → Type 0) (begin now : Sight) (buffered_conn : BufferedConn)
-    (shards : List Shard) : Type 0 where
-  pub turns : Turns sizes may_answer begin now buffered_conn shards
-  pub ran : RanAll sizes turns.told shards turns.log
+-- all commands taken were answered, and what was run is recorded
+pub record Answered (sizes : Sizes) (may_answer : ℕ → Type 0) (place : Place) (begin now : Sight)
+    (buffered_conn : BufferedConn) (shards : List Shard) (clerk : Acting) (recorders : List Acting) : Type 0 where
+  pub told : Told
+  pub log : List Entry
+  pub stopped : HasStopped (replies_on log) may_answer begin now told buffered_conn
+  pub ran : RanAll sizes told shards log
+  pub recorded : IsWhole sizes place begin told.taken log clerk recorders
 
 -- Once the shards answer all that is due, every command taken is answered.
-pub answers_stop : (sizes : Sizes) (may_answer : ℕ → Type 0) (begin now : Sight) (buffered_conn : BufferedConn)
-    (conn : Conn) (shards after : List Shard) → AnswersAll buffered_conn.conn shards conn after
-    → Turns sizes may_answer begin now buffered_conn shards
-    → Answered sizes may_answer begin now (record buffered_conn { conn = conn }) after
-answers_stop sizes may_answer begin now buffered_conn conn shards after all turns =
+pub answers_stop : (sizes : Sizes) (may_answer : ℕ → Type 0) (place : Place) (begin now : Sight)
+    (buffered_conn : BufferedConn) (conn : Conn) (shards after : List Shard) (history history' : LineHistory)
+    (clerk : Acting) (recorders : List Acting) → AnswersAll buffered_conn.conn shards history conn after history'
+    → (turns : Turns sizes may_answer place begin now buffered_conn shards clerk recorders)
+    → IsWhole sizes place begin turns.told.taken turns.log history.clerk history.recorders.items
+    → Answered sizes may_answer place begin now (record buffered_conn { conn = conn }) after history'.clerk
+    history'.recorders.items
+answers_stop sizes may_answer place begin now buffered_conn conn shards after history history' clerk recorders answers
+    turns whole =
     let told = turns.told in
-    let rest = all sizes told turns.log turns.stopped.serves.conn_is turns.answers in
-    let more = rest.0 in
+    let rest = answers sizes place begin told turns.log turns.stopped.serves.conn_is turns.answers whole in
+    let more = rest.0.more in
     let fits = keys_fit sizes told shards turns.log turns.answers in
     record {
-      turns = record {
-        told = told_more told more;
-        log = more.log;
-        answers = more.answers;
-        stopped =
-            stops_carried (replies_on turns.log) (replies_on more.log) may_answer begin now told buffered_conn conn
-            more.out more.lent more.accepted (λ _. fits) more.conn_is more.handed turns.stopped;
-      };
+      told = told_more told more;
+      log = more.log;
+      stopped =
+          stops_carried (replies_on turns.log) (replies_on more.log) may_answer begin now told buffered_conn conn
+          more.out more.lent more.accepted (λ _. fits) more.conn_is more.handed turns.stopped;
       ran = record { answers = more.answers; all = rest.1 };
+      recorded = rest.0.recorded;
     }
 
 -- What the next step says of a turn whose commands were all answered.
-pub turn_said : (sizes : Sizes) (may_answer : ℕ → Type 0) (begin before now : Sight) (buffered_conn new : BufferedConn)
-    (shards : List Shard) (did : LineStep) → (answered : Answered sizes may_answer begin before buffered_conn shards)
+pub turn_said : (sizes : Sizes) (may_answer : ℕ → Type 0) (place : Place) (begin before now : Sight)
+    (buffered_conn new : BufferedConn) (shards : List Shard) (clerk : Acting) (recorders : List Acting)
+    (did : LineStep)
+    → (answered : Answered sizes may_answer place begin before buffered_conn shards clerk recorders)
     → GoOnSays did may_answer buffered_conn before new now
-    → ServiceSays did (replies_on answered.turns.log) may_answer begin now answered.turns.told new
-turn_said sizes may_answer begin before now buffered_conn new shards did answered says =
-    let turns = answered.turns in
-    says (replies_on turns.log) begin turns.told turns.stopped
-    (λ _. all_complete sizes turns.told shards turns.log buffered_conn.conn turns.stopped.serves.conn_is answered.ran)
+    → ServiceSays did (replies_on answered.log) may_answer begin now answered.told new
+turn_said sizes may_answer place begin before now buffered_conn new shards clerk recorders did answered says =
+    says (replies_on answered.log) begin answered.told answered.stopped
+    (λ _. all_complete sizes answered.told shards answered.log buffered_conn.conn answered.stopped.serves.conn_is
+    answered.ran)
 
--- The line is still served.
-pub turns_go : (sizes : Sizes) (may_answer : ℕ → Type 0) (begin before now : Sight) (buffered_conn new : BufferedConn)
-    (shards : List Shard) → (answered : Answered sizes may_answer begin before buffered_conn shards)
-    → ServesOn (replies_on answered.turns.log) may_answer begin now answered.turns.told new
-    → Turns sizes may_answer begin now new shards
-turns_go sizes may_answer begin before now buffered_conn new shards answered on =
-    let turns = answered.turns in
-    turns_on sizes may_answer begin now turns.told new shards turns.log
-    (is_sound buffered_conn.conn turns.told turns.stopped.serves.conn_is).out turns.answers on
+-- The line is still served, in its place.
+pub turns_go : (sizes : Sizes) (may_answer : ℕ → Type 0) (place place' : Place) (begin before now : Sight)
+    (buffered_conn new : BufferedConn) (shards : List Shard) (clerk clerk' : Acting) (recorders : List Acting)
+    → (answered : Answered sizes may_answer place begin before buffered_conn shards clerk recorders)
+    → place' ≡ place → clerk' ≡ clerk
+    → ServesOn (replies_on answered.log) may_answer begin now answered.told new
+    → Turns sizes may_answer place' begin now new shards clerk' recorders
+turns_go sizes may_answer place place' begin before now buffered_conn new shards clerk clerk' recorders answered same
+    idle on =
+    let told = answered.told in
+    let placed = history_placed sizes place place' begin told.taken answered.log clerk recorders same
+    answered.recorded.is in
+    turns_on sizes may_answer place' begin now told new shards answered.log clerk' recorders
+    (is_sound buffered_conn.conn told answered.stopped.serves.conn_is).out answered.ran.answers
+    (subst (λ (k : Acting). IsHistoryOf sizes place' begin told.taken answered.log k recorders) (sym idle) placed) on
 
 -- The line was served.
-pub turn_ends : (sizes : Sizes) (may_answer : ℕ → Type 0) (begin before now : Sight) (buffered_conn last : BufferedConn)
-    (shards : List Shard) (commands : ℕ) (broke : Bool)
-    → (answered : Answered sizes may_answer begin before buffered_conn shards)
-    → WasServed (replies_on answered.turns.log) begin now answered.turns.told broke commands last →
+pub turn_ends : (sizes : Sizes) (may_answer : ℕ → Type 0) (place : Place) (begin before now : Sight)
+    (buffered_conn last : BufferedConn) (shards : List Shard) (clerk : Acting) (recorders : List Acting)
+    (commands : ℕ) (broke : Bool)
+    → (answered : Answered sizes may_answer place begin before buffered_conn shards clerk recorders)
+    → WasServed (replies_on answered.log) begin now answered.told broke commands last →
     IsExplained sizes may_answer (record { begin = begin; now = now; commands = commands; broke = broke })
-turn_ends sizes may_answer begin before now buffered_conn last shards commands broke answered was =
-    let turns = answered.turns in
-    explains sizes may_answer begin now turns.told broke commands buffered_conn.conn last.conn shards turns.log
-    turns.stopped.serves.conn_is answered.ran turns.stopped.serves.moments was.counted was.served
+turn_ends sizes may_answer place begin before now buffered_conn last shards clerk recorders commands broke answered
+    was =
+    explains sizes may_answer begin now answered.told broke commands buffered_conn.conn last.conn shards answered.log
+    answered.stopped.serves.conn_is answered.ran answered.stopped.serves.moments was.counted was.served

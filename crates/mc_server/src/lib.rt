@@ -2,6 +2,7 @@
 #![tactic(auto)]
 
 mod clocks;
+mod line_history;
 mod serve;
 
 pub use clocks::{FixedClock, MachineClock};

@@ -3,15 +3,19 @@
 ghost use Rattle.std.specs.Prelude.{◌≡◌, ◌+◌, [], IfOk, OnErr, length};
 ghost use Rattle.mc_sizes.specs.Sizes.{SuitLines, SuitShards};
 ghost use Rattle.mc_seat.specs.Explains.{IsExplained};
+ghost use Rattle.mc_seat.specs.Place.{no_place};
 ghost use Rattle.mc_server.specs.internal.Answering.{AnswersAll, Backs, CanAnswer};
 
+use crate::line_history::LineHistory;
 use mc_conn::Conn;
+use mc_history::Evidence;
 use mc_ring::Reply;
-use mc_seat::{BufferPool, BufferedConn, Clock, LineStep, Served, Transport};
+use mc_seat::{BufferPool, BufferedConn, Clerk, Clock, LineStep, Served, Transport};
 use mc_sizes::Sizes;
 use mc_store::Shard;
 use std::alloc::{AllocError, Global};
 use std::random::RandomSource;
+use std::snapshot::Snapshot;
 use std::sync::Wait;
 use std::thread;
 use thiserror::Error;
@@ -45,18 +49,22 @@ fn make_shards<R: RandomSource>(
     Ok(shards)
 }
 
-/// Runs the pending pieces in order, each on its shard, and accepts their answers.
-fn answer(alloc: Global, conn: &mut Conn, shards: &mut Vec<Shard>)
-    requires { CanAnswer conn.old shards.old.items }
-    ensures { AnswersAll conn.old shards.old.items conn.new shards.new.items }
+/// Runs the pending pieces in order, each on its shard, and accepts their answers. What is run is
+/// recorded.
+fn answer(alloc: Global, conn: &mut Conn, shards: &mut Vec<Shard>, history: &mut LineHistory)
+    requires { CanAnswer conn.old shards.old.items history.old }
+    ensures { AnswersAll conn.old shards.old.items history.old conn.new shards.new.items
+        history.new }
 {
     while let Some((place, piece)) = conn.next_piece() {
+        let sent = Snapshot::of(&piece);
         let (ticket, part, moment) = (piece.ticket, piece.part, piece.moment);
         let op = piece.into_op();
         let kind = op.kind();
         let shard = &mut shards[place];
         let answer = shard.run(alloc, op, moment);
         let reply = Reply::new(ticket, part, kind, answer);
+        history.note_run(place, sent, &reply);
         let Ok(()) = conn.accept(reply) else {
             unreachable!()
         };
@@ -64,8 +72,8 @@ fn answer(alloc: Global, conn: &mut Conn, shards: &mut Vec<Shard>)
 }
 
 /// Serves one line until its input ends, it quits or it fails. It uses one slot, whatever
-/// `sizes.seats` is.
-pub fn serve_one<R: Wait + RandomSource, L: Transport, K: Clock>(
+/// `sizes.seats` is. It opens a history of its own, and writes by the evidence of its one clerk.
+pub fn serve_one<R: Wait + RandomSource, L: Transport<Warrant = Evidence>, K: Clock>(
     rt: &R,
     alloc: Global,
     line: &mut L,
@@ -74,6 +82,7 @@ pub fn serve_one<R: Wait + RandomSource, L: Transport, K: Clock>(
 ) -> Result<Served, LineError>
     requires shards { SuitShards sizes }
     requires lines { SuitLines sizes }
+    requires new { L.place line.old ≡ no_place }
     // One log explains what was read, what was written and what the shards did.
     ensures explained { IfOk result (λ served.
         IsExplained (record sizes { seats = 1 }) (K.may_answer clock.now)
@@ -84,18 +93,23 @@ pub fn serve_one<R: Wait + RandomSource, L: Transport, K: Clock>(
           broke = served.broke;
         })) }
     ensures refused { OnErr result (L.sight line.new ≡ L.sight line.old) }
+    ensures unplaced { OnErr result (L.place line.new ≡ no_place) }
 {
-    let (Ok(mut shards), Ok(mut buffered_conn), Ok(mut pool)) = (
+    let (Ok(mut shards), Ok(mut buffered_conn), Ok(mut pool), Ok(mut history)) = (
         make_shards(rt, alloc, sizes),
         BufferedConn::new(alloc, sizes),
         BufferPool::new(alloc),
+        LineHistory::open(alloc, sizes),
     ) else {
         return Err(LineError::Memory);
     };
+    history.begin(line);
     buffered_conn.take_all(clock);
     for _ in rt.forever() {
-        answer(alloc, &mut buffered_conn.conn, &mut shards);
-        match buffered_conn.go_on(line, clock, &mut pool) {
+        history.note_taken(&buffered_conn.conn);
+        answer(alloc, &mut buffered_conn.conn, &mut shards, &mut history);
+        let seen = history.clerk.evidence();
+        match buffered_conn.go_on(line, clock, &mut pool, &seen) {
             LineStep::Did => {}
             LineStep::Waits => thread::yield_now(),
             LineStep::Ended(served) => return Ok(served),

@@ -1,11 +1,15 @@
 //! One line is served: how often it is read and written, when the clock is read, and what a refused
 //! allocation changes. The worked rows are in the crate mc_rows.
+ghost use Rattle.std.specs.Prelude.{◌≡◌};
+ghost use Rattle.mc_seat.specs.Place.{no_place};
+
 use crate::asserting::{equal, holds};
 use crate::memory_line::MemoryLine;
 use crate::sizes::SMALL;
 use mc_conn::StatsSource;
 use mc_reply::ServerStats;
-use mc_seat::Clock;
+use mc_seat::{Clock, Transport};
+use mc_serve::PlacedLine;
 use mc_server::{FixedClock, LineError, serve_one};
 use mc_sizes::Sizes;
 use std::alloc::Global;
@@ -23,9 +27,11 @@ const SIZES: Sizes = Sizes {
 fn serve<R: RandomSource + Wait, C: Clock>(
     rt: &R,
     alloc: Global,
-    line: &mut MemoryLine,
+    line: &mut PlacedLine<MemoryLine>,
     clock: &C,
-) -> Result<(u64, bool), LineError> {
+) -> Result<(u64, bool), LineError>
+    requires { ⟦<PlacedLine<MemoryLine> as Transport>⟧.place line.old ≡ no_place }
+{
     let served = serve_one(rt, alloc, line, SIZES, clock)?;
     Ok((served.commands, served.broke))
 }
@@ -34,13 +40,13 @@ fn serve<R: RandomSource + Wait, C: Clock>(
 fn replies_in_one_write(rt: HostRuntime) -> Result<(), Fail> {
     let input =
         b"set a 7 0 2\r\nhi\r\nget a\r\nstats\r\nset b 0 0 1 noreply\r\nx\r\nmn\r\nquit\r\nmn\r\n";
-    let mut line = MemoryLine::new(rt.alloc(), input.as_slice())?;
+    let mut line = PlacedLine::new(MemoryLine::new(rt.alloc(), input.as_slice())?);
     let served = serve(&rt, rt.alloc(), &mut line, &FixedClock(1000))?;
     equal(&rt, served, (6, false));
     let output = b"STORED\r\nVALUE a 7 2\r\nhi\r\nEND\r\nERROR\r\nMN\r\n";
-    equal(&rt, line.output.as_slice(), output.as_slice());
+    equal(&rt, line.line.output.as_slice(), output.as_slice());
     // One read and one write: nothing is read after `quit`.
-    equal(&rt, line.calls, 2);
+    equal(&rt, line.line.calls, 2);
     Ok(())
 }
 
@@ -71,11 +77,11 @@ impl Clock for RisingClock {
 #[test]
 fn a_moment_for_each_command(rt: HostRuntime) -> Result<(), Fail> {
     let input = b"set a 0 3 1\r\nx\r\nget a\r\nget a\r\nget a\r\nquit\r\n";
-    let mut line = MemoryLine::new(rt.alloc(), input.as_slice())?;
+    let mut line = PlacedLine::new(MemoryLine::new(rt.alloc(), input.as_slice())?);
     let clock = RisingClock(Cell::new(1000));
     serve(&rt, rt.alloc(), &mut line, &clock)?;
     let output = b"STORED\r\nVALUE a 0 1\r\nx\r\nEND\r\nVALUE a 0 1\r\nx\r\nEND\r\nEND\r\n";
-    equal(&rt, line.output.as_slice(), output.as_slice());
+    equal(&rt, line.line.output.as_slice(), output.as_slice());
     Ok(())
 }
 
@@ -100,10 +106,10 @@ const OUTPUTS: [&[u8]; 9] = [
 
 #[test]
 fn all_is_done_where_memory_is_ample(rt: HostRuntime) -> Result<(), Fail> {
-    let mut line = MemoryLine::new(rt.alloc(), SCRIPT)?;
+    let mut line = PlacedLine::new(MemoryLine::new(rt.alloc(), SCRIPT)?);
     let served = serve(&rt, rt.alloc(), &mut line, &FixedClock(1000))?;
     equal(&rt, served, (10, false));
-    equal(&rt, line.output.as_slice(), OUTPUTS[0]);
+    equal(&rt, line.line.output.as_slice(), OUTPUTS[0]);
     Ok(())
 }
 
@@ -113,18 +119,19 @@ fn all_is_done_where_memory_is_ample(rt: HostRuntime) -> Result<(), Fail> {
 /// `tools/checks/test_refused_allocations.py` shows it, with a window of one.
 #[test]
 fn a_refused_allocation(rt: HostRuntime) -> Result<(), Fail> {
-    let Ok(mut line) = MemoryLine::new(rt.alloc(), SCRIPT) else {
+    let Ok(line) = MemoryLine::new(rt.alloc(), SCRIPT) else {
         return Ok(());
     };
+    let mut line = PlacedLine::new(line);
     match serve(&rt, rt.alloc(), &mut line, &FixedClock(1000)) {
-        Err(LineError::Memory) => equal(&rt, line.calls, 0),
+        Err(LineError::Memory) => equal(&rt, line.line.calls, 0),
         Ok(served) => {
             equal(&rt, served, (10, false));
             holds(
                 &rt,
                 OUTPUTS
                     .iter()
-                    .any(|output| line.output.as_slice() == *output),
+                    .any(|output| line.line.output.as_slice() == *output),
             );
         }
     }

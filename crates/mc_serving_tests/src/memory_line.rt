@@ -33,6 +33,47 @@ impl MemoryLine {
     }
 }
 
+impl Transport for MemoryLine {
+    ghost use Rattle.std.specs.Prelude.{take};
+    ghost use Rattle.mc_wire.specs.Sink.{Listed};
+    ghost use Rattle.mc_seat.specs.Place.{no_place};
+
+    type Warrant = ();
+
+    ghost sight = { λ line.
+        record {
+          given = Listed (take line.at line.input.now);
+          ended = line.ended;
+          reads = None;
+          taken = Listed line.output.items;
+          failed = line.failed;
+        } };
+
+    ghost place = { λ line. no_place };
+
+    fn begin(&mut self, _seen: ()) {}
+
+    fn read(&mut self, room: &mut [u8]) -> Result<usize, TransportError> {
+        self.calls = self.calls.wrapping_add(1);
+        if self.failed {
+            return Err(TransportError);
+        }
+        let (_, rest) = self.input.split_at(self.at);
+        let count = room.len().min(rest.len());
+        let (front, _) = rest.split_at(count);
+        let (place, _) = room.split_at_mut(count);
+        place.copy_from_slice(front);
+        self.at += count;
+        self.ended = count == 0;
+        Ok(count)
+    }
+
+    fn write_if_ready(&mut self, bytes: &[u8], _seen: &()) -> Result<usize, SinkError> {
+        Sink::write(self, bytes)
+    }
+}
+
+/// It is a sink too, for reports and for replies that are handed out at once.
 impl Sink for MemoryLine {
     ghost use Rattle.std.specs.Prelude.{take};
     ghost use Rattle.mc_wire.specs.Sink.{Listed};
@@ -55,22 +96,5 @@ impl Sink for MemoryLine {
                 Err(SinkError)
             }
         }
-    }
-}
-
-impl Transport for MemoryLine {
-    fn read(&mut self, room: &mut [u8]) -> Result<usize, TransportError> {
-        self.calls = self.calls.wrapping_add(1);
-        if self.failed {
-            return Err(TransportError);
-        }
-        let (_, rest) = self.input.split_at(self.at);
-        let count = room.len().min(rest.len());
-        let (front, _) = rest.split_at(count);
-        let (place, _) = room.split_at_mut(count);
-        place.copy_from_slice(front);
-        self.at += count;
-        self.ended = count == 0;
-        Ok(count)
     }
 }

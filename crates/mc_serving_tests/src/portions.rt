@@ -15,31 +15,33 @@ struct Portions<L> {
     takes: bool,
 }
 
-impl<L: Sink> Sink for Portions<L> {
+impl<L: Transport> Transport for Portions<L> {
+    type Warrant = L::Warrant;
+
     ghost sight = { λ portions. L.sight portions.line };
 
-    fn write(&mut self, bytes: &[u8]) -> Result<usize, SinkError> {
-        self.line.write(bytes)
-    }
-}
+    ghost place = { λ portions. L.place portions.line };
 
-impl<L: Transport> Transport for Portions<L> {
+    fn begin(&mut self, seen: L::Warrant) {
+        self.line.begin(seen);
+    }
+
     fn read(&mut self, room: &mut [u8]) -> Result<usize, TransportError> {
         self.line.read(room)
     }
 
-    fn write_if_ready(&mut self, bytes: &[u8]) -> Result<usize, SinkError> {
+    fn write_if_ready(&mut self, bytes: &[u8], seen: &L::Warrant) -> Result<usize, SinkError> {
         self.takes = !self.takes;
         let most = if self.takes { self.portion } else { 0 };
         let (front, _) = bytes.split_at(bytes.len().min(most));
-        self.line.write(front)
+        self.line.write_if_ready(front, seen)
     }
 }
 
 /// Flushes the replies until none are left. Returns whether a thousand flushes sufficed.
-fn flush_all<L: Transport>(unwritten: &mut WriteBuffer, line: &mut L) -> bool {
+fn flush_all<L: Transport<Warrant = ()>>(unwritten: &mut WriteBuffer, line: &mut L) -> bool {
     for _ in 0..1_000 {
-        match unwritten.flush(line) {
+        match unwritten.flush(line, &()) {
             Ok(true) => return true,
             Ok(false) => {}
             Err(SinkError) => return false,

@@ -1,11 +1,16 @@
 //! Nothing is read of lines whose threads can't all be started.
+ghost use Rattle.std.specs.Prelude.{◌≡◌, IfOk, length};
+ghost use Rattle.std.specs.List.{AllByRecursion};
+ghost use Rattle.mc_seat.specs.Place.{no_place};
+ghost use Rattle.mc_serve.specs.Placed.{place_by};
+
 use crate::asserting::{equal, holds};
 use crate::memory_line::MemoryLine;
 use crate::sizes::SMALL;
 use mc_seat::{Transport, TransportError};
-use mc_serve::{ServeError, serve_over};
+use mc_serve::{PlacedLine, ServeError, serve_over};
 use mc_server::FixedClock;
-use mc_wire::{Sink, SinkError};
+use mc_wire::SinkError;
 use mc_worker::OpenGate;
 use std::alloc::{AllocError, Global};
 use std::sync::Arc;
@@ -19,35 +24,62 @@ struct Counted<L> {
     calls: Arc<AtomicU64, Global>,
 }
 
-impl<L: Sink> Sink for Counted<L> {
+impl<L: Transport> Transport for Counted<L> {
+    type Warrant = L::Warrant;
+
     ghost sight = { λ counted. L.sight counted.line };
 
-    fn write(&mut self, bytes: &[u8]) -> Result<usize, SinkError> {
-        self.calls.fetch_add(1, Ordering::SeqCst);
-        self.line.write(bytes)
-    }
-}
+    ghost place = { λ counted. L.place counted.line };
 
-impl<L: Transport> Transport for Counted<L> {
+    fn begin(&mut self, seen: L::Warrant) {
+        self.line.begin(seen);
+    }
+
     fn read(&mut self, room: &mut [u8]) -> Result<usize, TransportError> {
         self.calls.fetch_add(1, Ordering::SeqCst);
         self.line.read(room)
     }
+
+    fn write_if_ready(&mut self, bytes: &[u8], seen: &L::Warrant) -> Result<usize, SinkError> {
+        self.calls.fetch_add(1, Ordering::SeqCst);
+        self.line.write_if_ready(bytes, seen)
+    }
 }
 
-/// Two lines whose commands take no memory once they are served.
+/// A line whose commands take no memory once it is served.
+fn counted_line(
+    alloc: Global,
+    calls: &Arc<AtomicU64, Global>,
+) -> Result<Counted<MemoryLine>, AllocError> {
+    Ok(Counted {
+        line: MemoryLine::new(alloc, b"mn\r\nquit\r\n")?,
+        calls: Arc::try_clone(calls)?,
+    })
+}
+
+/// Two lines, neither of which has begun.
+fn pair_of<L: Transport<Warrant = ()> + Drop>(
+    alloc: Global,
+    first: L,
+    second: L,
+) -> Result<Vec<PlacedLine<L>>, AllocError>
+    ensures as_many { IfOk result (λ lines. length lines.items ≡ 2) }
+    ensures new { IfOk result (λ lines.
+        AllByRecursion (λ one. place_by one.seen.value (L.sight one.begin.value) ≡ no_place)
+        lines.items) }
+{
+    let mut lines = Vec::with_capacity(alloc, 2)?;
+    lines.push(PlacedLine::new(first))?;
+    lines.push(PlacedLine::new(second))?;
+    Ok(lines)
+}
+
+/// Two lines whose calls are counted together.
 fn two_lines(
     alloc: Global,
     calls: &Arc<AtomicU64, Global>,
-) -> Result<Vec<Counted<MemoryLine>>, AllocError> {
-    let mut lines = Vec::with_capacity(alloc, 2)?;
-    for _ in 0..2u8 {
-        lines.push(Counted {
-            line: MemoryLine::new(alloc, b"mn\r\nquit\r\n")?,
-            calls: Arc::try_clone(calls)?,
-        })?;
-    }
-    Ok(lines)
+) -> Result<(Counted<MemoryLine>, Counted<MemoryLine>), AllocError> {
+    Ok((counted_line(alloc, calls)?, counted_line(alloc, calls)?))
 }
 
 /// Holds whichever allocation is refused. Either nothing was read or written and all threads have
@@ -58,10 +90,12 @@ fn a_refused_start(rt: HostRuntime) -> Result<(), Fail> {
     let Ok(calls) = Arc::new(rt.alloc(), AtomicU64::new(0)) else {
         return Ok(());
     };
-    let Ok(lines) = two_lines(rt.alloc(), &calls) else {
+    let Ok((first, second)) = two_lines(rt.alloc(), &calls) else {
         return Ok(());
     };
-    assert_eq!(rt; lines.len(), 2);
+    let Ok(lines) = pair_of(rt.alloc(), first, second) else {
+        return Ok(());
+    };
     match serve_over(&rt, rt.alloc(), lines, SMALL, OpenGate, FixedClock(1000)) {
         Ok(report) => {
             for one in report.lines {
@@ -70,7 +104,7 @@ fn a_refused_start(rt: HostRuntime) -> Result<(), Fail> {
                 } else {
                     b"MN\r\n".as_slice()
                 };
-                equal(&rt, one.line.line.output.as_slice(), output);
+                equal(&rt, one.line.line.line.output.as_slice(), output);
                 equal(&rt, one.commands, 2);
             }
         }

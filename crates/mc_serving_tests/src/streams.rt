@@ -96,7 +96,9 @@ fn what_is_written_goes_out_whole_and_once(rt: HostRuntime) -> Result<(), Fail> 
     let mut stream = Slow::new(rt.alloc(), b"");
     let mut line = TcpConnection::new(&mut stream);
     let text = b"VALUE a 0 10\r\n0123456789\r\nEND\r\n";
-    holds(&rt, write_all(&mut line, text).is_ok());
+    let mut waiting = WriteBuffer::new(rt.alloc());
+    holds(&rt, write_all(&mut waiting, text).is_ok());
+    holds(&rt, matches!(waiting.flush(&mut line, &()), Ok(true)));
     drop(line);
     equal(&rt, stream.output.as_slice(), text.as_slice());
     Ok(())
@@ -113,7 +115,7 @@ fn pieces_that_wait_go_out_whole_and_once(rt: HostRuntime) -> Result<(), Fail> {
         holds(&rt, waiting.put_shared(&value).is_ok());
         holds(&rt, write_all(&mut waiting, b"\r\nEND\r\n").is_ok());
     }
-    holds(&rt, matches!(waiting.flush(&mut line), Ok(true)));
+    holds(&rt, matches!(waiting.flush(&mut line, &()), Ok(true)));
     drop(line);
     let wanted =
         b"VALUE a 0 10\r\n0123456789\r\nEND\r\nVALUE a 0 10\r\n0123456789\r\nEND\r\nVALUE a 0 10\r\n0123456789\r\nEND\r\n";
@@ -155,7 +157,12 @@ const LINES: [&[u8]; 3] = [b"get /key\r\n", b"GET a\r\n", b"\x16\x02\r\n"];
 /// without, and the number left.
 fn read_first(alloc: Global, input: &'static [u8], sniff_protocol: bool) -> (Option<usize>, usize) {
     let mut stream = Slow::new(alloc, input);
-    let mut line = TcpConnection::begin(&mut stream, Meter::unwatched(), true, sniff_protocol);
+    let mut line: TcpConnection<_, ()> = TcpConnection::begin(
+        &mut stream,
+        Meter::unwatched(),
+        true,
+        sniff_protocol,
+    );
     line.rouse(Ready::Open);
     let mut room = [0; 16];
     let given = line.read_if_ready(&mut room).unwrap_or(None);

@@ -12,12 +12,13 @@ use mc_item::{Answer, Expiry, Item, Kind, Op, PackedExpiry, Value, expiry};
 use mc_reader::{Next, Reader};
 use mc_reply::{ServerStats, Ticket};
 use mc_ring::{Reply, Request, SeatEnds, ShardEnds, channels};
+use mc_seat::Transport;
 use mc_sizes::Sizes;
 use mc_split::Piece;
 use mc_store::Shard;
 use mc_wire::{
     DEFAULT_LINE_LIMIT, DEFAULT_VALUE_LIMIT, Key, WireError, key_fault, number_i64, number_u64,
-    words, write_all,
+    words,
 };
 use std::alloc::{AllocError, Global};
 use std::hash::RandomState;
@@ -97,7 +98,7 @@ fn words_numbers_and_items(rt: HostRuntime) {
     holds(&rt, item.is_dead(1_010));
     equal(&rt, item.number(), Some(17));
     holds(&rt, Answer::Stored.is_lawful(Kind::Store));
-    holds(&rt, write_all(&mut line, b"abc").is_ok());
+    holds(&rt, line.write_if_ready(b"abc", &()).is_ok());
     equal(&rt, line.output.as_slice(), b"abc".as_slice());
 }
 

@@ -5,6 +5,7 @@ pub mod Credit
 pub mod Carrying
 pub mod Recording
 pub mod Ending
+pub mod Placing
 pub mod Serving
 pub mod Sessions
 mod RowsCredit

@@ -1,7 +1,7 @@
 -- A line that is served over channels, turn by turn.
 use Rattle.std.proofs.Common.{◌≡◌, ℕ, ◌≤◌, ◌==◌, ◌&&◌, inl, inr, Bool, true, false, List, [], ◌∷◌, ◌++◌, length, map}
-use Rattle.std.proofs.Common.{refl, sym, ap, subst, ◌∙◌, arith, append-nil}
-use Rattle.std.specs.List.{list_all}
+use Rattle.std.proofs.Common.{refl, sym, ap, subst, ◌∙◌, arith, append-nil, append_assoc}
+use Rattle.std.specs.List.{concat, list_all}
 use Rattle.std.proofs.lemmas.Bool.{cases_lt, eqb-true}
 use Rattle.std.proofs.lemmas.List.{take_all}
 use Rattle.mc_wire.specs.Sink.{Sight}
@@ -15,21 +15,25 @@ use Rattle.mc_conn.specs.Conn.{IsConn}
 use Rattle.mc_conn.specs.Due.{due, channel}
 use Rattle.mc_conn.specs.Fits.{KeysFit, Serves}
 use Rattle.mc_conn.specs.History.{Taken}
-use Rattle.mc_conn.specs.Told.{IsAllTaken, IsAtRest, Told, all_pieces, all_texts, told_nothing}
+use Rattle.mc_conn.specs.Told.{IsAllTaken, IsAtRest, Told, all_pieces, all_texts, told_nothing, waiting_text}
 use Rattle.mc_conn.proofs.Counting.{count_from_come, due_beyond}
 use Rattle.mc_conn.proofs.Serving.{serves_none, serves_take}
 use Rattle.mc_conn.proofs.Staying.{is_sound}
 use Rattle.mc_seat.specs.declared.clerk.Clerk.{Ghosts}
+use Rattle.mc_seat.specs.declared.warrant.Warrant.{Ghosts as Warrants}
 use Rattle.mc_seat.specs.declared.buffered_conn.BufferedConn.{BufferedConn}
 use Rattle.mc_seat.specs.declared.buffered_conn.LineStep.{LineStep}
 use Rattle.mc_seat.specs.declared.buffered_conn.LineStep.TheVariants as stepped
 use Rattle.mc_seat.specs.LineServed.{LineServed}
 use Rattle.mc_seat.specs.BufferedConn.{IsNew, ServesOn, ServiceSays, TakesFor, WasServed, told_on}
-use Rattle.mc_seat.specs.internal.Stands.{IsComplete}
+use Rattle.mc_seat.specs.Clerk.{IsOwed}
+use Rattle.mc_seat.specs.Later.{text_in}
+use Rattle.mc_seat.specs.Place.{Place}
+use Rattle.mc_seat.specs.internal.Stands.{IsComplete, handed_texts}
 use Rattle.mc_seat.proofs.More.{out_more, with_more}
-use Rattle.mc_seat.proofs.Serving.{serving_first, stops_carried}
+use Rattle.mc_seat.proofs.Serving.{handed_and_waiting, serving_first, stops_carried}
 use Rattle.mc_threads.specs.declared.shard_link.ShardLink.{ShardLink}
-use Rattle.mc_threads.specs.Records.{RecordsAllOf, RecordsLineOf, RecordsPastOf}
+use Rattle.mc_threads.specs.Records.{IsLineOf, RecordsAll, RecordsAllOf, RecordsLineOf, RecordsPastOf}
 use Rattle.mc_threads.specs.Service.{IsServedBy, LineSays}
 use Rattle.mc_threads.specs.Serving.{IsIdle}
 use Rattle.mc_threads.specs.internal.Carrying.{AllOutWhere, CanCarry, CanRecord, Carries, ShardLinkGoesOn}
@@ -138,11 +142,18 @@ same_carries : (before ends ends' : Ends Near) (ways ways' : List ℕ) (told : T
     ≡ ends → ways' ≡ ways → Carries before ends ways told received → Carries before ends' ways' told received
 same_carries before ends ends' ways ways' told received same counts carries = rw (same, counts) carries
 
-module _ {T C : Type 0} {g : Ghosts C T} where
+-- what waits and what is handed out next are all that is left
+owed_next : (written waits out next all : List ℕ) → written ++ waits ≡ out → out ++ next ≡ all
+    → written ++ ((waits ++ next) ++ []) ≡ all
+owed_next written waits out next all in_order then_all =
+    ap (λ l. written ++ l) (append-nil (waits ++ next))
+    ∙ (sym (append_assoc written waits next) ∙ (ap (λ l. l ++ next) in_order ∙ then_all))
+
+module _ {T C : Type 0} {w : Warrants T} {g : Ghosts C T} where
   -- bytes were fed, replies handed out and commands taken: what was carried is the same, and the line is served on over
   -- the channels
   serves_on : (shards : ℕ) (rules : Rules) (may_answer : ℕ → Type 0) (begin now : Sight) (before : Ends Near)
-      (shard_link : ShardLink T C g) (told : Told) (received : ℕ → List Shown) (buffered_conn : BufferedConn)
+      (shard_link : ShardLink T C w g) (told : Told) (received : ℕ → List Shown) (buffered_conn : BufferedConn)
       → told.shards ≡ shards → told.rules ≡ rules → told.out ≤ length (all_pieces told) →
       Carries before shard_link.ends shard_link.under_way.items told received
       → RecordsLineOf shard_link before told received → ServesOn received may_answer begin now told buffered_conn
@@ -173,7 +184,7 @@ module _ {T C : Type 0} {g : Ghosts C T} where
       }
 
   -- what the clerk says where it has opened the line's connection
-  abbrev pub BeginsLine : ShardLink T C g → ShardLink T C g → Type 0
+  abbrev pub BeginsLine : ShardLink T C w g → ShardLink T C w g → Type 0
   BeginsLine shard_link shard_link' =
       (before : Ends Near) (told : Told) → told.taken ≡ [] → told.accepted ≡ [] → told.shards ≡ length before.channels
       → RecordsPastOf shard_link before → RecordsLineOf shard_link' before told (λ shard. [])
@@ -181,7 +192,7 @@ module _ {T C : Type 0} {g : Ghosts C T} where
   -- What is new, at channels where nothing is under way, serves a line that begins, once its connection was opened and
   -- commands of it were taken.
   pub serves_first : (may_answer : ℕ → Type 0) (line : Sight) (rules : Rules) (window : ℕ)
-      (was mid shard_link : ShardLink T C g) (buffered_conn after : BufferedConn) → mid ≡ was → shard_link.ends
+      (was mid shard_link : ShardLink T C w g) (buffered_conn after : BufferedConn) → mid ≡ was → shard_link.ends
       ≡ mid.ends → shard_link.under_way ≡ mid.under_way → BeginsLine mid shard_link → RecordsPastOf was was.ends
       → IsIdle was.under_way.items → IsNew (length was.ends.channels) rules window buffered_conn
       → TakesFor may_answer buffered_conn after
@@ -190,10 +201,10 @@ module _ {T C : Type 0} {g : Ghosts C T} where
       takes =
       let shards = length was.ends.channels in
       let told : Told = told_nothing shards rules window in
-      let begun : BeginsLine was shard_link = subst (λ (k : ShardLink T C g). BeginsLine k shard_link) same begins in
-      let same_ends : shard_link.ends ≡ was.ends = ends ∙ ap (λ (k : ShardLink T C g). k.ends) same in
+      let begun : BeginsLine was shard_link = subst (λ (k : ShardLink T C w g). BeginsLine k shard_link) same begins in
+      let same_ends : shard_link.ends ≡ was.ends = ends ∙ ap (λ (k : ShardLink T C w g). k.ends) same in
       let same_ways : shard_link.under_way.items ≡ was.under_way.items = ap (λ counts. counts.items) ways
-      ∙ ap (λ (k : ShardLink T C g). k.under_way.items) same in
+      ∙ ap (λ (k : ShardLink T C w g). k.under_way.items) same in
       serves_on shards rules may_answer line line was.ends shard_link told (λ s. []) after refl refl (omega arith)
       (same_carries was.ends was.ends shard_link.ends was.under_way.items shard_link.under_way.items told (λ s. [])
       same_ends same_ways (carries_first was.ends was.under_way.items rules window was.each_shard idle)) (begun was.ends
@@ -202,23 +213,23 @@ module _ {T C : Type 0} {g : Ghosts C T} where
 
   -- The line is served, and all that its connection took is recorded.
   pub record IsRecordedBy (shards : ℕ) (rules : Rules) (may_answer : ℕ → Type 0) (begin now : Sight)
-      (before : Ends Near) (shard_link : ShardLink T C g) (buffered_conn : BufferedConn) : Type 0 where
+      (before : Ends Near) (shard_link : ShardLink T C w g) (buffered_conn : BufferedConn) : Type 0 where
     pub serves : IsServedBy shards rules may_answer begin now before shard_link buffered_conn
     pub recorded : RecordsAllOf shard_link before serves.told serves.received
 
-  recorded_line : (shard_link : ShardLink T C g) (before : Ends Near) (told : Told) (received : ℕ → List Shown)
+  recorded_line : (shard_link : ShardLink T C w g) (before : Ends Near) (told : Told) (received : ℕ → List Shown)
       → RecordsAllOf shard_link before told received → RecordsLineOf shard_link before told received
   recorded_line shard_link before told received all keeps = (all keeps).0
 
   -- what the clerk says where it has recorded what the connection took
-  abbrev pub RecordsMore : ShardLink T C g → ShardLink T C g → Conn → Type 0
+  abbrev pub RecordsMore : ShardLink T C w g → ShardLink T C w g → Conn → Type 0
   RecordsMore shard_link shard_link' conn =
       (before : Ends Near) (told : Told) (received : ℕ → List Shown) → IsConn conn told → told.shards
       ≡ length shard_link.ends.channels → RecordsLineOf shard_link before told received
       → RecordsAllOf shard_link' before told received
 
   -- Then pieces and replies may be carried.
-  pub may_carry : (shard_link shard_link' : ShardLink T C g) (conn : Conn) → shard_link'.ends ≡ shard_link.ends
+  pub may_carry : (shard_link shard_link' : ShardLink T C w g) (conn : Conn) → shard_link'.ends ≡ shard_link.ends
       → shard_link'.under_way ≡ shard_link.under_way → RecordsMore shard_link shard_link' conn
       → CanRecord shard_link conn → CanCarry shard_link' conn
   may_carry shard_link shard_link' conn ends ways records may = record {
@@ -234,7 +245,7 @@ module _ {T C : Type 0} {g : Ghosts C T} where
 
   -- And the line is served with all recorded.
   pub records_line : (shards : ℕ) (rules : Rules) (may_answer : ℕ → Type 0) (begin now : Sight) (before : Ends Near)
-      (shard_link shard_link' : ShardLink T C g) (buffered_conn : BufferedConn) → shard_link'.ends ≡ shard_link.ends
+      (shard_link shard_link' : ShardLink T C w g) (buffered_conn : BufferedConn) → shard_link'.ends ≡ shard_link.ends
       → shard_link'.under_way ≡ shard_link.under_way → RecordsMore shard_link shard_link' buffered_conn.conn →
       IsServedBy shards rules may_answer begin now before shard_link buffered_conn
       → IsRecordedBy shards rules may_answer begin now before shard_link' buffered_conn
@@ -262,8 +273,8 @@ module _ {T C : Type 0} {g : Ghosts C T} where
 
   -- Pieces and replies were carried: the line is served as before.
   pub serves_carried : (says : Told → ℕ → Type 0) (shards : ℕ) (rules : Rules) (may_answer : ℕ → Type 0)
-      (begin now : Sight) (before : Ends Near) (shard_link shard_link' : ShardLink T C g) (buffered_conn : BufferedConn)
-      (conn : Conn) → ShardLinkGoesOn says shard_link buffered_conn.conn shard_link' conn
+      (begin now : Sight) (before : Ends Near) (shard_link shard_link' : ShardLink T C w g)
+      (buffered_conn : BufferedConn) (conn : Conn) → ShardLinkGoesOn says shard_link buffered_conn.conn shard_link' conn
       → IsRecordedBy shards rules may_answer begin now before shard_link buffered_conn
       → IsRecordedBy shards rules may_answer begin now before shard_link' (record buffered_conn { conn = conn })
   serves_carried says shards rules may_answer begin now before shard_link shard_link' buffered_conn conn goes all =
@@ -291,7 +302,7 @@ module _ {T C : Type 0} {g : Ghosts C T} where
 
   -- all pieces of the commands taken were sent, and as many replies received
   pub record Settled (shards : ℕ) (rules : Rules) (may_answer : ℕ → Type 0) (begin now : Sight) (before : Ends Near)
-      (shard_link : ShardLink T C g) (buffered_conn : BufferedConn) : Type 0 where
+      (shard_link : ShardLink T C w g) (buffered_conn : BufferedConn) : Type 0 where
     pub serves : IsServedBy shards rules may_answer begin now before shard_link buffered_conn
     pub recorded : RecordsAllOf shard_link before serves.told serves.received
     pub all : serves.told.out ≡ length (all_pieces serves.told)
@@ -299,7 +310,7 @@ module _ {T C : Type 0} {g : Ghosts C T} where
 
   -- Once every piece has left and no reply is awaited, the commands that were taken are settled.
   pub settles : (so : Type 0) (shards : ℕ) (rules : Rules) (may_answer : ℕ → Type 0) (begin now : Sight)
-      (before : Ends Near) (shard_link shard_link' : ShardLink T C g) (buffered_conn : BufferedConn) (conn : Conn)
+      (before : Ends Near) (shard_link shard_link' : ShardLink T C w g) (buffered_conn : BufferedConn) (conn : Conn)
       → ShardLinkGoesOn (AllOutWhere so) shard_link buffered_conn.conn shard_link' conn → so
       → IsIdle shard_link'.under_way.items →
       IsRecordedBy shards rules may_answer begin now before shard_link buffered_conn
@@ -319,7 +330,7 @@ module _ {T C : Type 0} {g : Ghosts C T} where
 
   -- as many replies were received as pieces were due
   settled_all : (shards : ℕ) (rules : Rules) (may_answer : ℕ → Type 0) (begin now : Sight) (before : Ends Near)
-      (shard_link : ShardLink T C g) (buffered_conn : BufferedConn)
+      (shard_link : ShardLink T C w g) (buffered_conn : BufferedConn)
       → (settled : Settled shards rules may_answer begin now before shard_link buffered_conn) → (shard : ℕ)
       → length (settled.serves.received shard) ≡ length (due settled.serves.told.shards shard settled.serves.told.taken)
   settled_all shards rules may_answer begin now before shard_link buffered_conn settled =
@@ -328,7 +339,7 @@ module _ {T C : Type 0} {g : Ghosts C T} where
 
   -- The record is of what has passed.
   settled_past : (shards : ℕ) (rules : Rules) (may_answer : ℕ → Type 0) (begin now : Sight) (before : Ends Near)
-      (shard_link : ShardLink T C g) (buffered_conn : BufferedConn)
+      (shard_link : ShardLink T C w g) (buffered_conn : BufferedConn)
       → (settled : Settled shards rules may_answer begin now before shard_link buffered_conn)
       → RecordsPastOf shard_link shard_link.ends
   settled_past shards rules may_answer begin now before shard_link buffered_conn settled =
@@ -339,7 +350,7 @@ module _ {T C : Type 0} {g : Ghosts C T} where
 
   -- So where their keys fit, every command has its reply.
   pub settled_complete : (shards : ℕ) (rules : Rules) (may_answer : ℕ → Type 0) (begin now : Sight) (before : Ends Near)
-      (shard_link : ShardLink T C g) (buffered_conn : BufferedConn)
+      (shard_link : ShardLink T C w g) (buffered_conn : BufferedConn)
       → (settled : Settled shards rules may_answer begin now before shard_link buffered_conn)
       → IsComplete settled.serves.received settled.serves.told
   settled_complete shards rules may_answer begin now before shard_link buffered_conn settled =
@@ -347,9 +358,90 @@ module _ {T C : Type 0} {g : Ghosts C T} where
       complete_all serves.told serves.received buffered_conn.conn serves.stopped.serves.conn_is serves.carries.serves
       (settled_all shards rules may_answer begin now before shard_link buffered_conn settled)
 
+  -- Another shard link with the same ends and the same record is settled too.
+  pub settled_same : (shards : ℕ) (rules : Rules) (may_answer : ℕ → Type 0) (begin now : Sight) (before : Ends Near)
+      (shard_link shard_link' : ShardLink T C w g) (buffered_conn : BufferedConn) → shard_link'.ends ≡ shard_link.ends
+      → shard_link'.under_way ≡ shard_link.under_way → shard_link'.clerk ≡ shard_link.clerk
+      → Settled shards rules may_answer begin now before shard_link buffered_conn
+      → Settled shards rules may_answer begin now before shard_link' buffered_conn
+  settled_same shards rules may_answer begin now before shard_link shard_link' buffered_conn ends ways clerk settled =
+      let serves = settled.serves in
+      let counts : shard_link'.under_way.items ≡ shard_link.under_way.items = ap (λ counts. counts.items) ways in
+      let carries = same_carries before shard_link.ends shard_link'.ends shard_link.under_way.items
+      shard_link'.under_way.items serves.told serves.received ends counts serves.carries in
+      let all : RecordsAllOf shard_link' before serves.told serves.received =
+      subst (λ (k : C). RecordsAll g k before serves.told serves.received) (sym clerk) settled.recorded in
+      record {
+        serves = record {
+          told = serves.told;
+          received = serves.received;
+          shards_is = serves.shards_is;
+          rules_are = serves.rules_are;
+          carries = carries;
+          stopped = serves.stopped;
+          credit =
+              credit_by_counts shard_link'.places before shard_link'.ends shard_link'.under_way.items serves.told
+              serves.received shard_link'.in_credit carries;
+          recorded = recorded_line shard_link' before serves.told serves.received all;
+        };
+        recorded = all;
+        all = settled.all;
+        idle = subst IsIdle (sym counts) settled.idle;
+      }
+
+  -- The line is owed what waits, and then all replies whose turn has come.
+  pub owes_all : (shards : ℕ) (rules : Rules) (may_answer : ℕ → Type 0) (begin now : Sight) (before : Ends Near)
+      (shard_link : ShardLink T C w g) (buffered_conn : BufferedConn) (place : Place)
+      → (settled : Settled shards rules may_answer begin now before shard_link buffered_conn)
+      → IsLineOf shard_link rules place begin → g.keeps
+      → (place ≡ g.place shard_link.clerk begin) × g.opened shard_link.clerk
+      × IsOwed (g.route shard_link.clerk 0).name.sizes (g.work shard_link.clerk) (g.taken shard_link.clerk)
+      (g.answers shard_link.clerk) begin now (text_in buffered_conn.unwritten ++ waiting_text settled.serves.told)
+  owes_all shards rules may_answer begin now before shard_link buffered_conn place settled line keeps =
+      let has = settled.recorded keeps in
+      let serves = settled.serves in
+      let served = serves.stopped.serves in
+      let told = serves.told in (
+        line.placed keeps,
+        has.0.0,
+        record {
+          told = told;
+          before = before;
+          received = serves.received;
+          kept = has.0.1;
+          sound = is_sound buffered_conn.conn told served.conn_is;
+          some_shards = some_shards buffered_conn.conn told served.conn_is;
+          shards_are = sym serves.carries.width ∙ sym ((shard_link.routed keeps).shards 0);
+          rules_are = serves.rules_are ∙ line.ruled keeps;
+          recorded = has.1;
+          unread = buffered_conn.seat.unread;
+          read_is = served.serving.read_is;
+          written = served.written;
+          written_is = served.written_is;
+          rest = [];
+          next =
+              owed_next served.written (text_in buffered_conn.unwritten) (concat (handed_texts told))
+              (waiting_text told) (concat (all_texts told)) served.in_order (handed_and_waiting told);
+        },
+      )
+
+  -- What is served may be recorded.
+  pub can_record : (shards : ℕ) (rules : Rules) (may_answer : ℕ → Type 0) (begin now : Sight) (before : Ends Near)
+      (shard_link : ShardLink T C w g) (buffered_conn : BufferedConn)
+      → IsServedBy shards rules may_answer begin now before shard_link buffered_conn
+      → CanRecord shard_link buffered_conn.conn
+  can_record shards rules may_answer begin now before shard_link buffered_conn served = record {
+    before = before;
+    told = served.told;
+    received = served.received;
+    conn_is = served.stopped.serves.conn_is;
+    carries = served.carries;
+    as_recorded = served.recorded;
+  }
+
   -- the line is served on
   settled_on : (shards : ℕ) (rules : Rules) (may_answer : ℕ → Type 0) (begin now after : Sight) (before : Ends Near)
-      (shard_link : ShardLink T C g) (buffered_conn last : BufferedConn)
+      (shard_link : ShardLink T C w g) (buffered_conn last : BufferedConn)
       → (settled : Settled shards rules may_answer begin now before shard_link buffered_conn) →
       ServesOn settled.serves.received may_answer begin after settled.serves.told last
       → IsServedBy shards rules may_answer begin after before shard_link last
@@ -361,7 +453,7 @@ module _ {T C : Type 0} {g : Ghosts C T} where
 
   -- the line was served over the channels
   serves_ended : (shards : ℕ) (rules : Rules) (may_answer : ℕ → Type 0) (begin now after : Sight) (before : Ends Near)
-      (shard_link : ShardLink T C g) (buffered_conn last : BufferedConn) (commands : ℕ) (broke : Bool)
+      (shard_link : ShardLink T C w g) (buffered_conn last : BufferedConn) (commands : ℕ) (broke : Bool)
       → (settled : Settled shards rules may_answer begin now before shard_link buffered_conn) →
       WasServed settled.serves.received begin after settled.serves.told broke commands last
       → LineServed shards rules may_answer begin after before shard_link.ends last.conn commands broke
@@ -398,7 +490,7 @@ module _ {T C : Type 0} {g : Ghosts C T} where
 
   -- Where all commands taken are settled, what going on says of the line is so over the channels.
   pub settled_says : (did : LineStep) (shards : ℕ) (rules : Rules) (may_answer : ℕ → Type 0) (begin now after : Sight)
-      (before : Ends Near) (shard_link : ShardLink T C g) (buffered_conn last : BufferedConn)
+      (before : Ends Near) (shard_link : ShardLink T C w g) (buffered_conn last : BufferedConn)
       → (settled : Settled shards rules may_answer begin now before shard_link buffered_conn) →
       ServiceSays did settled.serves.received may_answer begin after settled.serves.told last
       → LineSays did shards rules may_answer begin after before shard_link last

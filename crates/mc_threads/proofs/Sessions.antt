@@ -7,9 +7,12 @@ use Rattle.mc_ring.specs.Ends.{Ends}
 use Rattle.mc_threads.specs.declared.shard_link.ShardLink.{ShardLink}
 use Rattle.mc_threads.specs.declared.session.Session.{Session}
 use Rattle.mc_seat.specs.declared.clerk.Clerk.{Ghosts}
+use Rattle.mc_seat.specs.declared.warrant.Warrant.{Ghosts as Warrants}
 use Rattle.mc_seat.specs.declared.buffered_conn.BufferedConn.{BufferedConn}
 use Rattle.mc_seat.specs.declared.buffered_conn.LineStep.{LineStep}
 use Rattle.mc_seat.specs.declared.buffered_conn.LineStep.TheVariants as stepped
+use Rattle.mc_seat.specs.Place.{Place}
+use Rattle.mc_threads.specs.Records.{IsLineOf}
 use Rattle.mc_threads.specs.Service.{IsServedBy, LineSays, ServesSomeLine, WasServedBy}
 use Rattle.mc_threads.specs.Session.{StepSays}
 use Rattle.mc_command.specs.declared.rules.Rules.{Rules}
@@ -32,10 +35,10 @@ some_so {A} o x P is holds = let S : Option A → Type 0 = λ it. IsSomeAnd it P
 pub some_is : {A : Type 0} (o : Option A) (x : A) (P : A → Type 0) → o ≡ Some x → IsSomeAnd o P → P x
 some_is {A} o x P is holds = let S : Option A → Type 0 = λ it. IsSomeAnd it P in subst S is holds
 
-module _ {T C : Type 0} {g : Ghosts C T} where
+module _ {T C : Type 0} {w : Warrants T} {g : Ghosts C T} where
   -- What a step says of the line is so of the session.
   pub steps_on : (did : LineStep) (shards : ℕ) (rules : Rules) (may_answer : ℕ → Type 0) (begin now : Sight)
-      (before : Ends Near) (session : Session T C g) (buffered_conn : BufferedConn) → session.buffered_conn
+      (before : Ends Near) (session : Session T C w g) (buffered_conn : BufferedConn) → session.buffered_conn
       ≡ Some buffered_conn → LineSays did shards rules may_answer begin now before session.shard_link buffered_conn
       → StepSays did shards rules may_answer begin now before session
   steps_on stepped.Did shards rules may_answer begin now before session buffered_conn is says =
@@ -51,16 +54,15 @@ module _ {T C : Type 0} {g : Ghosts C T} where
 
   -- What is served may be served on.
   pub may_serve : (shards : ℕ) (rules : Rules) (may_answer : ℕ → Type 0) (begin now : Sight) (before : Ends Near)
-      (shard_link : ShardLink T C g) (o : Option BufferedConn)
+      (shard_link : ShardLink T C w g) (place : Place) (o : Option BufferedConn)
       → IsSomeAnd o (IsServedBy shards rules may_answer begin now before shard_link)
-      → IsSomeAnd o (ServesSomeLine shard_link)
-  may_serve shards rules may_answer begin now before shard_link (Some buffered_conn) served =
-      record {
-        before = before;
-        told = served.told;
-        received = served.received;
-        conn_is = served.stopped.serves.conn_is;
-        carries = served.carries;
-        as_recorded = served.recorded;
-      }
-  may_serve shards rules may_answer begin now before shard_link None served = absurd served
+      → IsLineOf shard_link rules place begin → IsSomeAnd o (ServesSomeLine may_answer place now shard_link)
+  may_serve shards rules may_answer begin now before shard_link place (Some buffered_conn) served line = record {
+    shards = shards;
+    rules = rules;
+    begin = begin;
+    before = before;
+    serves = served;
+    line = line;
+  }
+  may_serve shards rules may_answer begin now before shard_link place None served line = absurd served

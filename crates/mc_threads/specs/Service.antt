@@ -8,22 +8,24 @@ use Rattle.mc_ring.specs.Ends.{Ends}
 use Rattle.mc_conn.specs.Fits.{KeysFit}
 use Rattle.mc_conn.specs.Told.{Told}
 use Rattle.mc_seat.specs.declared.clerk.Clerk.{Ghosts}
+use Rattle.mc_seat.specs.declared.warrant.Warrant.{Ghosts as Warrants}
 use Rattle.mc_seat.specs.declared.buffered_conn.BufferedConn.{BufferedConn}
 use Rattle.mc_seat.specs.declared.buffered_conn.LineStep.{LineStep}
 use Rattle.mc_seat.specs.declared.buffered_conn.LineStep.TheVariants as stepped
 use Rattle.mc_seat.specs.LineServed.{LineServed}
 use Rattle.mc_seat.specs.BufferedConn.{HasStopped}
+use Rattle.mc_seat.specs.Place.{Place}
 use Rattle.mc_threads.specs.declared.shard_link.ShardLink.{ShardLink}
 use Rattle.mc_threads.specs.Credit.{IsInCredit}
-use Rattle.mc_threads.specs.Records.{RecordsLineOf, RecordsPastOf}
+use Rattle.mc_threads.specs.Records.{IsLineOf, RecordsLineOf, RecordsPastOf}
 use Rattle.mc_threads.specs.Serving.{IsIdle}
-use Rattle.mc_threads.specs.internal.Carrying.{CanRecord, Carries}
+use Rattle.mc_threads.specs.internal.Carrying.{Carries}
 use Rattle.mc_command.specs.declared.rules.Rules.{Rules}
 
-module _ {T C : Type 0} {g : Ghosts C T} where
+module _ {T C : Type 0} {w : Warrants T} {g : Ghosts C T} where
   -- The line is being served; it began so and is so now, since the ends were as before.
   pub record IsServedBy (shards : ℕ) (rules : Rules) (may_answer : ℕ → Type 0) (begin now : Sight) (before : Ends Near)
-      (shard_link : ShardLink T C g) (buffered_conn : BufferedConn) : Type 0 where
+      (shard_link : ShardLink T C w g) (buffered_conn : BufferedConn) : Type 0 where
     pub told : Told
     pub received : ℕ → List Shown
     pub shards_is : told.shards ≡ shards
@@ -38,7 +40,7 @@ module _ {T C : Type 0} {g : Ghosts C T} where
 
   -- The line was served, and nothing is under way.
   pub record WasServedBy (shards : ℕ) (rules : Rules) (may_answer : ℕ → Type 0) (begin now : Sight) (before : Ends Near)
-      (shard_link : ShardLink T C g) (buffered_conn : BufferedConn) (commands : ℕ) (broke : Bool) : Type 0 where
+      (shard_link : ShardLink T C w g) (buffered_conn : BufferedConn) (commands : ℕ) (broke : Bool) : Type 0 where
     pub served : LineServed shards rules may_answer begin now before shard_link.ends buffered_conn.conn commands broke
     pub idle : IsIdle shard_link.under_way.items
     -- Where the clerk keeps a record, it is of what has passed, and each reply received was the answer to the piece in
@@ -47,8 +49,8 @@ module _ {T C : Type 0} {g : Ghosts C T} where
     pub fits : g.keeps → KeysFit served.told.shards served.told.taken served.received
 
   -- What a step says of the line.
-  abbrev pub LineSays : LineStep → ℕ → Rules → (ℕ → Type 0) → Sight → Sight → Ends Near → ShardLink T C g → BufferedConn
-      → Type 0
+  abbrev pub LineSays : LineStep → ℕ → Rules → (ℕ → Type 0) → Sight → Sight → Ends Near → ShardLink T C w g
+      → BufferedConn → Type 0
   LineSays stepped.Did shards rules may_answer begin now before shard_link buffered_conn =
       IsServedBy shards rules may_answer begin now before shard_link buffered_conn
   LineSays stepped.Waits shards rules may_answer begin now before shard_link buffered_conn =
@@ -57,9 +59,15 @@ module _ {T C : Type 0} {g : Ghosts C T} where
       WasServedBy shards rules may_answer begin now before shard_link buffered_conn served.commands served.broke
 
   -- Replies of a shard are awaited.
-  abbrev pub AwaitsShards : ShardLink T C g → Type 0
+  abbrev pub AwaitsShards : ShardLink T C w g → Type 0
   AwaitsShards shard_link = list_all (λ count. count == 0) shard_link.under_way.items ≡ false
 
-  -- Some line is being served.
-  abbrev pub ServesSomeLine : ShardLink T C g → BufferedConn → Type 0
-  ServesSomeLine shard_link buffered_conn = CanRecord shard_link buffered_conn.conn
+  -- Some line is being served, which is so now and in this place.
+  pub record ServesSomeLine (may_answer : ℕ → Type 0) (place : Place) (now : Sight) (shard_link : ShardLink T C w g)
+      (buffered_conn : BufferedConn) : Type 0 where
+    pub shards : ℕ
+    pub rules : Rules
+    pub begin : Sight
+    pub before : Ends Near
+    pub serves : IsServedBy shards rules may_answer begin now before shard_link buffered_conn
+    pub line : IsLineOf shard_link rules place begin

@@ -3,11 +3,12 @@ ghost use Rattle.mc_command.specs.declared.rules.Rules.{Rules};
 ghost use Rattle.std.specs.Prelude.{◌≡◌, ◌<◌, ◌↔◌, ◌⊎◌, ℕ, Some, IfOk, IsSomeAnd, IsTrue, OnErr, OnOk, length};
 ghost use Rattle.std.specs.Bool.{OnFalse, OnTrue};
 ghost use Rattle.mc_sizes.specs.Sizes.{SuitLines, rules_of};
+ghost use Rattle.mc_seat.specs.Place.{no_place};
 ghost use Rattle.mc_threads.specs.Routes.{AreOnRoutes, IsUpToDate};
 
 use crate::shard_link::ShardLink;
-use mc_ring::{SeatEnds, Token};
-use mc_seat::{BufferPool, BufferedConn, Clerk, Clock, LineStep, Transport};
+use mc_ring::SeatEnds;
+use mc_seat::{BufferPool, BufferedConn, Clerk, Clock, LineStep, Transport, Warrant};
 use mc_sizes::Sizes;
 use mc_wake::Wakers;
 use std::alloc::{AllocError, Global};
@@ -15,7 +16,7 @@ use std::alloc::{AllocError, Global};
 /// What a seat needs to serve lines, one after another. Until the first line comes it has its ends
 /// of the channels alone; the room that a line is served in is made then, and kept for the lines
 /// that follow. A clerk records what the lines' connections take.
-pub struct Session<T: Token = (), C: Clerk<T> = ()> {
+pub struct Session<T: Warrant = (), C: Clerk<T> = ()> {
     alloc: Global,
     pub(crate) shard_link: ShardLink<T, C>,
     /// What the room is made for.
@@ -26,7 +27,7 @@ pub struct Session<T: Token = (), C: Clerk<T> = ()> {
     ghost ring: { shard_link.places ≡ sizes.ring },
 }
 
-impl<T: Token + Drop, C: Clerk<T> + Drop> Drop for Session<T, C> {
+impl<T: Warrant + Drop, C: Clerk<T> + Drop> Drop for Session<T, C> {
     /// By hand, so that to let one go is one call for whoever holds it (docs/DECISIONS.md).
     fn drop(self) {
         let Session {
@@ -60,7 +61,7 @@ impl Session<(), ()> {
     }
 }
 
-impl<T: Token + Drop, C: Clerk<T> + Drop> Session<T, C> {
+impl<T: Warrant + Drop, C: Clerk<T> + Drop> Session<T, C> {
     ghost use Rattle.mc_wire.specs.Sink.{Sight};
     ghost use Rattle.mc_ring.specs.Channel.{Near};
     ghost use Rattle.mc_ring.specs.Ends.{Ends};
@@ -72,7 +73,7 @@ impl<T: Token + Drop, C: Clerk<T> + Drop> Session<T, C> {
     ghost use Rattle.mc_threads.specs.Ending.{EndsOne, StandsStill};
     ghost use Rattle.mc_threads.specs.Serving.{AreCalled, IsIdle};
     ghost use Rattle.mc_threads.specs.Records.{RecordsPastOf};
-    ghost use Rattle.mc_threads.specs.Session.{IsServingLine, IsVacant, MayStep, StepSays, seat_ends, seat_ring};
+    ghost use Rattle.mc_threads.specs.Session.{IsLineAt, IsRuled, IsServingLine, IsVacant, MayStep, StepSays, seat_ends, seat_ring};
 
     /// A seat that serves no line yet, with a clerk whose record is of these ends of its channels.
     /// The wakers are those of the shards.
@@ -87,10 +88,12 @@ impl<T: Token + Drop, C: Clerk<T> + Drop> Session<T, C> {
         requires width { length ends.channels ≡ sizes.shards }
         requires routes { C.keeps → AreOnRoutes (C.route clerk) ends }
         requires past { C.keeps → IsUpToDate (C.work clerk) (C.answers clerk) ends }
+        requires named { C.keeps → (C.route clerk 0).name.sizes ≡ sizes }
         ensures vacant { IfOk result
             (λ session. IsVacant (rules_of sizes) sizes.window session) }
         ensures ends { IfOk result (λ session. seat_ends session ≡ ends) }
         ensures ring { IfOk result (λ session. seat_ring session ≡ sizes.ring) }
+        ensures ruled { IfOk result (λ session. IsRuled (rules_of sizes) session) }
     {
         let shard_link = ShardLink::new(alloc, ends, clerk, shards, sizes.ring)?;
         Ok(Session {
@@ -101,19 +104,30 @@ impl<T: Token + Drop, C: Clerk<T> + Drop> Session<T, C> {
         })
     }
 
-    /// Begins to serve a line. Where memory for its room is refused nothing has changed, and it may
-    /// be tried again.
-    pub fn begin<K: Clock>(&mut self, clock: &K) -> Result<(), AllocError>
+    /// Begins to serve a line, as the next connection of the slot. Where memory for its room is
+    /// refused nothing has changed, and it may be tried again.
+    pub fn begin<L: Transport<Warrant = T>, K: Clock>(
+        &mut self,
+        line: &mut L,
+        clock: &K,
+    ) -> Result<(), AllocError>
+        requires new { L.place line.old ≡ no_place }
         ensures serving { OnOk result
-            ((rules : Rules) (window : ℕ) (line : Sight) → IsVacant rules window self.old →
+            ((rules : Rules) (window : ℕ) (begin : Sight) → IsVacant rules window self.old →
             IsServingLine (length (seat_ends self.old).channels) rules
-            (K.may_answer clock.now) line line (seat_ends self.old) self.new) }
+            (K.may_answer clock.now) begin begin (seat_ends self.old) self.new) }
+        // The line is that of the connection that is recorded.
+        ensures line { OnOk result ((rules : Rules) → IsRuled rules self.old →
+            IsLineAt rules (L.place line.new) (L.sight line.old) self.new) }
+        ensures sight { L.sight line.new ≡ L.sight line.old }
         ensures refused { OnErr result (self.new ≡ self.old) }
+        ensures unplaced { OnErr result (L.place line.new ≡ L.place line.old) }
+        ensures ruled { (rules : Rules) → IsRuled rules self.old → IsRuled rules self.new }
         ensures ends { seat_ends self.new ≡ seat_ends self.old }
         ensures ring { seat_ring self.new ≡ seat_ring self.old }
     {
         let mut buffered_conn = self.take_buffered_conn()?;
-        self.shard_link.begin_line();
+        self.shard_link.begin_line(line);
         buffered_conn.take_all(clock);
         self.buffered_conn = Some(buffered_conn);
         Ok(())
@@ -138,13 +152,13 @@ impl<T: Token + Drop, C: Clerk<T> + Drop> Session<T, C> {
 
     /// Serves the line a step further, as [`ShardLink::step`] does. At each moment at most
     /// `sizes.ring` of its pieces are under way to each shard.
-    pub fn step<L: Transport, K: Clock>(
+    pub fn step<L: Transport<Warrant = T>, K: Clock>(
         &mut self,
         line: &mut L,
         clock: &K,
         pool: &mut BufferPool,
     ) -> LineStep
-        requires { MayStep self.old }
+        requires { MayStep (K.may_answer clock.now) (L.place line.old) (L.sight line.old) self.old }
         ensures says { (shards : ℕ) (rules : Rules) (begin : Sight) (before : Ends Near) →
             IsServingLine shards rules (K.may_answer clock.now) begin (L.sight line.old) before
             self.old →
@@ -159,6 +173,10 @@ impl<T: Token + Drop, C: Clerk<T> + Drop> Session<T, C> {
             IsSomeAnd self.new.buffered_conn (λ buffered_conn.
             AwaitsShards self.new.shard_link ⊎ WaitsForLine buffered_conn) }
         ensures ring { seat_ring self.new ≡ seat_ring self.old }
+        ensures line { (rules : Rules) (begin : Sight) →
+            IsLineAt rules (L.place line.old) begin self.old →
+            IsLineAt rules (L.place line.new) begin self.new }
+        ensures ruled { (rules : Rules) → IsRuled rules self.old → IsRuled rules self.new }
     {
         let Some(buffered_conn) = &mut self.buffered_conn else {
             unreachable!()
@@ -180,6 +198,7 @@ impl<T: Token + Drop, C: Clerk<T> + Drop> Session<T, C> {
             IsVacant told.rules told.window self.new }
         ensures ends { seat_ends self.new ≡ seat_ends self.old }
         ensures ring { seat_ring self.new ≡ seat_ring self.old }
+        ensures ruled { (rules : Rules) → IsRuled rules self.old → IsRuled rules self.new }
     {
         let Some(buffered_conn) = &mut self.buffered_conn else {
             return true;
@@ -201,6 +220,7 @@ impl<T: Token + Drop, C: Clerk<T> + Drop> Session<T, C> {
         ensures ended { OnTrue result (EndsOne shard (seat_ends self.old) (seat_ends self.new)) }
         ensures full { OnFalse result (StandsStill (seat_ends self.old) (seat_ends self.new)) }
         ensures ring { seat_ring self.new ≡ seat_ring self.old }
+        ensures ruled { (rules : Rules) → IsRuled rules self.old → IsRuled rules self.new }
     {
         self.shard_link.end_channel(shard)
     }

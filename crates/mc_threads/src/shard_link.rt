@@ -3,20 +3,21 @@ ghost use Rattle.mc_command.specs.declared.rules.Rules.{Rules};
 ghost use Rattle.std.specs.Prelude.{◌≡◌, ◌<◌, ◌==◌, ◌⊎◌, ℕ, [], false, true, IfOk, IsTrue, length};
 ghost use Rattle.std.specs.Bool.{OnFalse, OnTrue};
 ghost use Rattle.std.specs.List.{list_all};
+ghost use Rattle.mc_seat.specs.Place.{no_place};
 ghost use Rattle.mc_threads.specs.Credit.{AreWithin};
 ghost use Rattle.mc_threads.specs.Routes.{AreOnRoutes};
 ghost use Rattle.mc_threads.specs.Serving.{AreCalled};
 
 use mc_conn::Conn;
-use mc_ring::{Request, SeatEnds, Token};
-use mc_seat::{BufferPool, BufferedConn, Clerk, Clock, LineStep, Transport};
+use mc_ring::{Request, SeatEnds};
+use mc_seat::{BufferPool, BufferedConn, Clerk, Clock, LineStep, Transport, Warrant};
 use mc_wake::{Doorbell, Wakers};
 use std::alloc::{AllocError, Global};
 
 /// A seat's ends of its channels, and what is under way on them. A clerk records what the seat's
 /// connections take. Its tokens go with the requests, and it hears those of the replies.
 #[derive(Drop)]
-pub struct ShardLink<T: Token = (), C: Clerk<T> = ()> {
+pub struct ShardLink<T: Warrant = (), C: Clerk<T> = ()> {
     pub(crate) ends: SeatEnds<T>,
     pub(crate) clerk: C,
     /// How many pieces were sent to each shard whose replies were not received yet.
@@ -36,7 +37,7 @@ pub struct ShardLink<T: Token = (), C: Clerk<T> = ()> {
     ghost routed: { C.keeps → AreOnRoutes (C.route clerk) ends },
 }
 
-impl<T: Token + Drop, C: Clerk<T> + Drop> ShardLink<T, C> {
+impl<T: Warrant + Drop, C: Clerk<T> + Drop> ShardLink<T, C> {
     ghost use Rattle.mc_wire.specs.Sink.{Sight};
     ghost use Rattle.std.specs.Prelude.{List};
     ghost use Rattle.mc_ring.specs.Channel.{Near};
@@ -45,8 +46,10 @@ impl<T: Token + Drop, C: Clerk<T> + Drop> ShardLink<T, C> {
     ghost use Rattle.mc_conn.specs.Conn.{IsConn};
     ghost use Rattle.mc_conn.specs.Told.{Told};
     ghost use Rattle.mc_threads.specs.Ending.{EndsOne, StandsStill};
-    ghost use Rattle.mc_threads.specs.Records.{RecordsAllOf, RecordsLineOf, RecordsPastOf};
+    ghost use Rattle.mc_threads.specs.Records.{IsLineOf, IsRuledBy, KeepsPlace, RecordsAllOf, RecordsLineOf, RecordsPastOf};
     ghost use Rattle.mc_seat.specs.BufferedConn.{WaitsForLine};
+    ghost use Rattle.mc_seat.specs.Clerk.{IsOwed};
+    ghost use Rattle.mc_seat.specs.Place.{Place};
     ghost use Rattle.mc_threads.specs.Service.{AwaitsShards, IsServedBy, LineSays, ServesSomeLine};
     ghost use Rattle.mc_threads.specs.Serving.{IsIdle};
     ghost use Rattle.mc_threads.specs.internal.Carrying.{AllOutWhere, AnyOut, CanCarry, CanRecord, ShardLinkGoesOn, NoneOut};
@@ -79,8 +82,9 @@ impl<T: Token + Drop, C: Clerk<T> + Drop> ShardLink<T, C> {
         })
     }
 
-    /// Has the clerk record that a line begins.
-    pub(crate) fn begin_line(&mut self)
+    /// Has the clerk record that a line begins, and shows it to the line.
+    pub(crate) fn begin_line<L: Transport<Warrant = T>>(&mut self, line: &mut L)
+        requires new { L.place line.old ≡ no_place }
         ensures begins { (before : Ends Near) (told : Told) → told.taken ≡ [] →
             told.accepted ≡ [] → told.shards ≡ length before.channels →
             RecordsPastOf self.old before →
@@ -88,8 +92,13 @@ impl<T: Token + Drop, C: Clerk<T> + Drop> ShardLink<T, C> {
         ensures ends { self.new.ends ≡ self.old.ends }
         ensures under_way { self.new.under_way ≡ self.old.under_way }
         ensures places { self.new.places ≡ self.old.places }
+        ensures line { (rules : Rules) → IsRuledBy self.old rules →
+            IsLineOf self.new rules (L.place line.new) (L.sight line.old) }
+        ensures route { C.route self.new.clerk ≡ C.route self.old.clerk }
+        ensures sight { L.sight line.new ≡ L.sight line.old }
     {
-        self.clerk.open();
+        let seen = self.clerk.open();
+        line.begin(seen);
     }
 
     /// Has the clerk record what the connection took since it recorded last.
@@ -102,8 +111,26 @@ impl<T: Token + Drop, C: Clerk<T> + Drop> ShardLink<T, C> {
         ensures ends { self.new.ends ≡ self.old.ends }
         ensures under_way { self.new.under_way ≡ self.old.under_way }
         ensures places { self.new.places ≡ self.old.places }
+        ensures kept { KeepsPlace self.old self.new }
     {
         self.clerk.take_all(conn);
+    }
+
+    /// Evidence by which the line is sent what its connection hands out.
+    fn evidence(&mut self) -> T
+        ensures may { (place : Place) (begin now : Sight) (bytes : List ℕ) →
+            (C.keeps → (place ≡ C.place self.old.clerk begin) × C.opened self.old.clerk
+            × IsOwed (C.route self.old.clerk 0).name.sizes (C.work self.old.clerk)
+            (C.taken self.old.clerk) (C.answers self.old.clerk) begin now bytes) →
+            T.may_write place now bytes result }
+        ensures clerk { self.new.clerk ≡ self.old.clerk }
+        ensures ends { self.new.ends ≡ self.old.ends }
+        ensures under_way { self.new.under_way ≡ self.old.under_way }
+        ensures blocked { self.new.blocked ≡ self.old.blocked }
+        ensures called { self.new.uncalled ≡ self.old.uncalled }
+        ensures places { self.new.places ≡ self.old.places }
+    {
+        self.clerk.evidence()
     }
 
     /// Whether no reply is awaited.
@@ -120,6 +147,7 @@ impl<T: Token + Drop, C: Clerk<T> + Drop> ShardLink<T, C> {
             self.new conn.new }
         ensures called { self.new.uncalled ≡ false }
         ensures places { self.new.places ≡ self.old.places }
+        ensures kept { KeepsPlace self.old self.new }
     {
         for _ in 0..u64::MAX {
             if !self.send_next(conn) {
@@ -140,6 +168,7 @@ impl<T: Token + Drop, C: Clerk<T> + Drop> ShardLink<T, C> {
         // No shard was called since.
         ensures noted { IsTrue result → self.new.shards ≡ [] }
         ensures places { self.new.places ≡ self.old.places }
+        ensures kept { KeepsPlace self.old self.new }
     {
         self.blocked = false;
         let Some((shard, piece)) = conn.next_piece() else {
@@ -197,6 +226,7 @@ impl<T: Token + Drop, C: Clerk<T> + Drop> ShardLink<T, C> {
         ensures blocked { self.new.blocked ≡ self.old.blocked }
         ensures called { self.new.uncalled ≡ self.old.uncalled }
         ensures places { self.new.places ≡ self.old.places }
+        ensures kept { KeepsPlace self.old self.new }
     {
         for shard in 0..self.under_way.len() {
             self.receive_from(conn, shard);
@@ -212,6 +242,7 @@ impl<T: Token + Drop, C: Clerk<T> + Drop> ShardLink<T, C> {
         ensures called { self.new.uncalled ≡ self.old.uncalled }
         ensures same { length self.new.under_way.items ≡ length self.old.under_way.items }
         ensures places { self.new.places ≡ self.old.places }
+        ensures kept { KeepsPlace self.old self.new }
     {
         for _ in 0..self.under_way[shard] {
             if !self.receive_next(conn, shard) {
@@ -230,6 +261,7 @@ impl<T: Token + Drop, C: Clerk<T> + Drop> ShardLink<T, C> {
         ensures called { self.new.uncalled ≡ self.old.uncalled }
         ensures same { length self.new.under_way.items ≡ length self.old.under_way.items }
         ensures places { self.new.places ≡ self.old.places }
+        ensures kept { KeepsPlace self.old self.new }
     {
         let Some(left) = self.under_way[shard].checked_sub(1) else {
             return false;
@@ -247,15 +279,17 @@ impl<T: Token + Drop, C: Clerk<T> + Drop> ShardLink<T, C> {
     /// Makes a step with the line: receives the replies that have come, and sends pieces while
     /// there is room. Once every reply has come it goes on with the line, as
     /// [`BufferedConn::go_on`] does. It waits for no shard. It receives before it sends: where a
-    /// channel is full then, replies are still to come on it, which end the wait.
-    pub(crate) fn step<L: Transport, K: Clock>(
+    /// channel is full then, replies are still to come on it, which end the wait. What was taken is
+    /// recorded first, and the replies are written by the clerk's evidence.
+    pub(crate) fn step<L: Transport<Warrant = T>, K: Clock>(
         &mut self,
         buffered_conn: &mut BufferedConn,
         line: &mut L,
         clock: &K,
         pool: &mut BufferPool,
     ) -> LineStep
-        requires { ServesSomeLine self.old buffered_conn.old }
+        requires { ServesSomeLine (K.may_answer clock.now) (L.place line.old) (L.sight line.old)
+            self.old buffered_conn.old }
         ensures says { (shards : ℕ) (rules : Rules) (begin : Sight) (before : Ends Near) →
             IsServedBy shards rules (K.may_answer clock.now) begin (L.sight line.old) before
             self.old buffered_conn.old →
@@ -269,6 +303,8 @@ impl<T: Token + Drop, C: Clerk<T> + Drop> ShardLink<T, C> {
         ensures waits { result ≡ LineStep.Waits →
             AwaitsShards self.new ⊎ WaitsForLine buffered_conn.new }
         ensures places { self.new.places ≡ self.old.places }
+        ensures kept { KeepsPlace self.old self.new }
+        ensures place { L.place line.new ≡ L.place line.old }
     {
         self.note_taken(&buffered_conn.conn);
         self.receive_all(&mut buffered_conn.conn);
@@ -280,7 +316,8 @@ impl<T: Token + Drop, C: Clerk<T> + Drop> ShardLink<T, C> {
             // No reply would end this wait.
             return LineStep::Did;
         }
-        buffered_conn.go_on(line, clock, pool)
+        let seen = self.evidence();
+        buffered_conn.go_on(line, clock, pool, &seen)
     }
 
     /// The seat's ends of its channels, once it serves no more.
@@ -297,6 +334,7 @@ impl<T: Token + Drop, C: Clerk<T> + Drop> ShardLink<T, C> {
         ensures ended { OnTrue result (EndsOne shard self.old.ends self.new.ends) }
         ensures full { OnFalse result (StandsStill self.old.ends self.new.ends) }
         ensures places { self.new.places ≡ self.old.places }
+        ensures route { C.route self.new.clerk ≡ C.route self.old.clerk }
     {
         let token = self.clerk.token();
         match self.ends.send_with(shard, Request::End, token) {

@@ -3,7 +3,7 @@
 use crate::chooser::Chooser;
 use crate::gates::Come;
 use mc_seat::{Transport, TransportError};
-use mc_wire::{Sink, SinkError};
+use mc_wire::SinkError;
 use std::alloc::{AllocError, Global};
 use std::sync::Arc;
 use std::sync::atomic::Ordering;
@@ -114,9 +114,12 @@ impl Asking {
     }
 }
 
-impl Sink for Asking {
+impl Transport for Asking {
     ghost use Rattle.std.specs.Prelude.{None};
     ghost use Rattle.mc_wire.specs.Sink.{Untold};
+    ghost use Rattle.mc_seat.specs.Place.{no_place};
+
+    type Warrant = ();
 
     ghost sight = { λ line.
         record {
@@ -127,16 +130,10 @@ impl Sink for Asking {
           failed = line.failed;
         } };
 
-    fn write(&mut self, bytes: &[u8]) -> Result<usize, SinkError> {
-        if self.failed || self.talk.hear(bytes).is_err() {
-            self.failed = true;
-            return Err(SinkError);
-        }
-        Ok(bytes.len())
-    }
-}
+    ghost place = { λ line. no_place };
 
-impl Transport for Asking {
+    fn begin(&mut self, _seen: ()) {}
+
     fn read(&mut self, room: &mut [u8]) -> Result<usize, TransportError> {
         if self.failed {
             return Err(TransportError);
@@ -154,6 +151,14 @@ impl Transport for Asking {
                 Err(TransportError)
             }
         }
+    }
+
+    fn write_if_ready(&mut self, bytes: &[u8], _seen: &()) -> Result<usize, SinkError> {
+        if self.failed || self.talk.hear(bytes).is_err() {
+            self.failed = true;
+            return Err(SinkError);
+        }
+        Ok(bytes.len())
     }
 }
 

@@ -1,7 +1,7 @@
 //! Lines that return nothing before the other lines, or pieces at the gate, have arrived.
 use crate::gates::{Come, LOOKS};
 use mc_seat::{Transport, TransportError};
-use mc_wire::{Sink, SinkError};
+use mc_wire::SinkError;
 use std::alloc::{AllocError, Global};
 use std::sync::Arc;
 use std::sync::atomic::{AtomicU64, Ordering};
@@ -31,15 +31,17 @@ impl<L: Drop> Gathered<L> {
     }
 }
 
-impl<L: Sink> Sink for Gathered<L> {
+impl<L: Transport> Transport for Gathered<L> {
+    type Warrant = L::Warrant;
+
     ghost sight = { λ gathered. L.sight gathered.line };
 
-    fn write(&mut self, bytes: &[u8]) -> Result<usize, SinkError> {
-        self.line.write(bytes)
-    }
-}
+    ghost place = { λ gathered. L.place gathered.line };
 
-impl<L: Transport> Transport for Gathered<L> {
+    fn begin(&mut self, seen: L::Warrant) {
+        self.line.begin(seen);
+    }
+
     fn read(&mut self, room: &mut [u8]) -> Result<usize, TransportError> {
         if !self.has_waited {
             self.has_waited = true;
@@ -47,6 +49,10 @@ impl<L: Transport> Transport for Gathered<L> {
             self.saw_all = have_come(&self.come, self.all);
         }
         self.line.read(room)
+    }
+
+    fn write_if_ready(&mut self, bytes: &[u8], seen: &L::Warrant) -> Result<usize, SinkError> {
+        self.line.write_if_ready(bytes, seen)
     }
 }
 

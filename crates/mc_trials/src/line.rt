@@ -2,7 +2,7 @@
 ghost use Rattle.std.specs.Prelude.{◌≤◌, None, length, take};
 
 use mc_seat::{Transport, TransportError};
-use mc_wire::{Sink, SinkError};
+use mc_wire::SinkError;
 use std::alloc::{AllocError, Global};
 
 /// Where a line fails, if it does: the index of the read or write, from 0.
@@ -114,9 +114,12 @@ impl MemoryLine {
     }
 }
 
-impl Sink for MemoryLine {
+impl Transport for MemoryLine {
     ghost use Rattle.std.specs.Prelude.{take};
     ghost use Rattle.mc_wire.specs.Sink.{Listed};
+    ghost use Rattle.mc_seat.specs.Place.{no_place};
+
+    type Warrant = ();
 
     ghost sight = { λ line.
         record {
@@ -127,25 +130,10 @@ impl Sink for MemoryLine {
           failed = line.failed;
         } };
 
-    fn write(&mut self, bytes: &[u8]) -> Result<usize, SinkError> {
-        if self.failed || self.cutting.fault == Fault::Writing(self.writes) {
-            self.failed = true;
-            return Err(SinkError);
-        }
-        self.writes = self.writes.wrapping_add(1);
-        let count = bytes.len().min(self.cutting.portion.max(1));
-        let (front, _) = bytes.split_at(count);
-        match self.output.extend_from_slice(front) {
-            Ok(()) => Ok(count),
-            Err(_) => {
-                self.failed = true;
-                Err(SinkError)
-            }
-        }
-    }
-}
+    ghost place = { λ line. no_place };
 
-impl Transport for MemoryLine {
+    fn begin(&mut self, _seen: ()) {}
+
     fn read(&mut self, room: &mut [u8]) -> Result<usize, TransportError> {
         if self.failed || self.cutting.fault == Fault::Reading(self.reads) {
             self.failed = true;
@@ -161,5 +149,22 @@ impl Transport for MemoryLine {
         self.given += count;
         self.ended = count == 0;
         Ok(count)
+    }
+
+    fn write_if_ready(&mut self, bytes: &[u8], _seen: &()) -> Result<usize, SinkError> {
+        if self.failed || self.cutting.fault == Fault::Writing(self.writes) {
+            self.failed = true;
+            return Err(SinkError);
+        }
+        self.writes = self.writes.wrapping_add(1);
+        let count = bytes.len().min(self.cutting.portion.max(1));
+        let (front, _) = bytes.split_at(count);
+        match self.output.extend_from_slice(front) {
+            Ok(()) => Ok(count),
+            Err(_) => {
+                self.failed = true;
+                Err(SinkError)
+            }
+        }
     }
 }

@@ -122,15 +122,11 @@ impl<
             return Ok(self.serve(lines, sizes));
         }
         let mut back = Vec::new(self.alloc);
-        for mut line in lines {
-            let Some(served) = self.serve_alone(&mut line, sizes) else {
+        for line in lines {
+            let Some(served) = self.serve_alone(line, sizes) else {
                 return Ok(None);
             };
-            back.push(ServedLine {
-                line,
-                commands: served.commands,
-                broke: served.broke,
-            })?;
+            back.push(served)?;
         }
         Ok(Some(back))
     }

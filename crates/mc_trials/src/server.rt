@@ -1,12 +1,17 @@
 //! Serving lines in memory, by threads or by a single thread.
+ghost use Rattle.std.specs.Prelude.{◌≡◌, IfOk, length};
+ghost use Rattle.std.specs.List.{AllByRecursion};
+ghost use Rattle.mc_seat.specs.Place.{no_place};
+ghost use Rattle.mc_serve.specs.Placed.{place_by};
+
 use crate::line::MemoryLine;
 use mc_doors::ServedLine;
-use mc_seat::{Clock, Served, Transport};
-use mc_serve::serve_over;
+use mc_seat::{Clock, Transport};
+use mc_serve::{PlacedLine, serve_over};
 use mc_server::{FixedClock, serve_one};
 use mc_sizes::Sizes;
 use mc_worker::{Gate, OpenGate};
-use std::alloc::Global;
+use std::alloc::{AllocError, Global};
 use std::random::RandomSource;
 use std::sync::Wait;
 use std::thread::Threads;
@@ -35,7 +40,7 @@ impl<R: Threads + Wait + RandomSource + Copy + Send + Drop + 'static> Server<R> 
     /// Serves lines of any type, with this gate and clock, and returns them; `None` if the server
     /// refuses or can't be made.
     pub fn serve_by<
-        L: Transport + Send + Drop + 'static,
+        L: Transport<Warrant = ()> + Send + Drop + 'static,
         G: Gate + Send + Sync + Drop + 'static,
         K: Clock + Copy + Send + Drop + 'static,
     >(&self, lines: Vec<L>, sizes: Sizes, gate: G, clock: K) -> Option<Vec<ServedLine<L>>> {
@@ -44,15 +49,62 @@ impl<R: Threads + Wait + RandomSource + Copy + Send + Drop + 'static> Server<R> 
             ..sizes
         };
         sizes.check().ok()?;
+        let lines = placed(self.alloc, lines).ok()?;
         match serve_over(&self.rt, self.alloc, lines, sizes, gate, clock) {
-            Ok(report) => Some(report.lines),
+            Ok(report) => unplaced(self.alloc, report.lines).ok(),
             Err(_refusal) => None,
         }
     }
 
-    /// Serves one line by a single thread; `None` if the server refuses or can't be made.
-    pub fn serve_alone(&self, line: &mut MemoryLine, sizes: Sizes) -> Option<Served> {
+    /// Serves one line by a single thread, and returns it; `None` if the server refuses or can't be
+    /// made.
+    pub fn serve_alone(&self, line: MemoryLine, sizes: Sizes) -> Option<ServedLine<MemoryLine>> {
         sizes.check().ok()?;
-        serve_one(&self.rt, self.alloc, line, sizes, &FixedClock(MOMENT)).ok()
+        let mut line = PlacedLine::new(line);
+        let clock = FixedClock(MOMENT);
+        let served = serve_one(&self.rt, self.alloc, &mut line, sizes, &clock).ok()?;
+        Some(ServedLine {
+            line: line.into_line(),
+            commands: served.commands,
+            broke: served.broke,
+        })
     }
+}
+
+/// The lines, each with room for the connection that it is.
+fn placed<L: Transport<Warrant = ()> + Drop>(
+    alloc: Global,
+    lines: Vec<L>,
+) -> Result<Vec<PlacedLine<L>>, AllocError>
+    ensures as_many { IfOk result (λ placed. length placed.items ≡ length lines.items) }
+    ensures new { IfOk result (λ placed.
+        AllByRecursion (λ one. place_by one.seen.value (L.sight one.begin.value) ≡ no_place)
+        placed.items) }
+{
+    let mut placed = Vec::with_capacity(alloc, lines.len())?;
+    for line in lines {
+        placed.push(PlacedLine::new(line))?;
+    }
+    Ok(placed)
+}
+
+/// The lines that were served, without the connections that they were.
+fn unplaced<L: Transport<Warrant = ()> + Drop>(
+    alloc: Global,
+    served: Vec<ServedLine<PlacedLine<L>>>,
+) -> Result<Vec<ServedLine<L>>, AllocError> {
+    let mut lines = Vec::with_capacity(alloc, served.len())?;
+    for one in served {
+        let ServedLine {
+            line,
+            commands,
+            broke,
+        } = one;
+        lines.push(ServedLine {
+            line: line.into_line(),
+            commands,
+            broke,
+        })?;
+    }
+    Ok(lines)
 }

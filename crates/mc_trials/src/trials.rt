@@ -414,9 +414,11 @@ impl<R: Threads + Wait + RandomSource + Copy + Send + Drop + 'static> Server<R> 
         if let Fault::Writing(_) = fault {
             return Ok(true);
         }
-        let mut alone = MemoryLine::of(self.alloc, line.given(), Cutting::NONE)?;
-        let taken = self.serve_alone(&mut alone, sizes(2, 64, 256));
-        Ok(taken.is_some() && alone.output.as_slice() == line.output.as_slice())
+        let alone = MemoryLine::of(self.alloc, line.given(), Cutting::NONE)?;
+        match self.serve_alone(alone, sizes(2, 64, 256)) {
+            Some(one) => Ok(one.line.output.as_slice() == line.output.as_slice()),
+            None => Ok(false),
+        }
     }
 
     /// Whether a get with as many keys as a line can hold is answered over rings of capacity 1.

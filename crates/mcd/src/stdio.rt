@@ -1,9 +1,11 @@
 //! Serves one line, by the options of the command line.
-ghost use Rattle.std.specs.Prelude.{IfOk};
+ghost use Rattle.std.specs.Prelude.{◌≡◌, IfOk};
 ghost use Rattle.mc_sizes.specs.Sizes.{AreWithin};
 ghost use Rattle.mc_seat.specs.Explains.{IsExplained};
+ghost use Rattle.mc_seat.specs.Place.{no_place};
 ghost use Rattle.mcd.specs.Served.{MayBe};
 
+use mc_history::Evidence;
 use mc_seat::{Clock, Served, Transport};
 use mc_server::{FixedClock, LineError, MachineClock, serve_one};
 use mc_sizes::Sizes;
@@ -14,13 +16,12 @@ use std::time;
 
 /// Serves one line until it ends, by the machine's clock, or by a clock that is fixed at the given
 /// time.
-pub fn serve_line<R: Wait + RandomSource + time::Clock + Alloc<A = Global>, L: Transport>(
-    rt: &R,
-    line: &mut L,
-    at: Option<u64>,
-    sizes: Sizes,
-) -> Result<Served, LineError>
-    requires { AreWithin sizes }
+pub fn serve_line<
+    R: Wait + RandomSource + time::Clock + Alloc<A = Global>,
+    L: Transport<Warrant = Evidence>,
+>(rt: &R, line: &mut L, at: Option<u64>, sizes: Sizes) -> Result<Served, LineError>
+    requires sizes { AreWithin sizes }
+    requires new { L.place line.old ≡ no_place }
     // A server of these sizes explains what was read and written, at such times.
     ensures explained { IfOk result (λ served.
         IsExplained (record sizes { seats = 1 }) (MayBe at)
@@ -38,13 +39,14 @@ pub fn serve_line<R: Wait + RandomSource + time::Clock + Alloc<A = Global>, L: T
 }
 
 /// Serves one line until it ends, by this clock.
-fn serve_by<R: Wait + RandomSource + Alloc<A = Global>, L: Transport, K: Clock>(
+fn serve_by<R: Wait + RandomSource + Alloc<A = Global>, L: Transport<Warrant = Evidence>, K: Clock>(
     rt: &R,
     line: &mut L,
     sizes: Sizes,
     clock: &K,
 ) -> Result<Served, LineError>
-    requires { AreWithin sizes }
+    requires sizes { AreWithin sizes }
+    requires new { L.place line.old ≡ no_place }
     ensures explained { IfOk result (λ served.
         IsExplained (record sizes { seats = 1 }) (K.may_answer clock.now)
         (record {

@@ -12,7 +12,12 @@ use Rattle.mc_conn.specs.declared.conn.Conn.{Conn}
 use Rattle.mc_conn.specs.Conn.{IsConn}
 use Rattle.mc_conn.specs.Fits.{Fits}
 use Rattle.mc_conn.specs.Told.{KeepsHanded, Told, all_pieces}
-use Rattle.mc_model.specs.Log.{Entry, Leaves, on_shard, replies_in}
+use Rattle.mc_model.specs.Log.{Entry, Leaves}
+use Rattle.mc_history.specs.Tokens.{Acting}
+use Rattle.mc_seat.specs.Place.{Place}
+use Rattle.mc_wire.specs.Sink.{Sight}
+use Rattle.mc_server.specs.declared.line_history.LineHistory.{LineHistory}
+use Rattle.mc_server.specs.internal.Recording.{IsWhole, replies_on}
 
 -- Each shard is what its part of the log leads to, from the empty state.
 abbrev pub Backs : Sizes → List Shard → List Entry → Type 0
@@ -23,10 +28,6 @@ Backs sizes shards log =
 -- the piece of an entry, with its shard
 abbrev pub piece_in : Entry → ℕ × Piece
 piece_in entry = (entry.shard, entry.piece)
-
--- the replies that each shard gave
-abbrev pub replies_on : List Entry → ℕ → List Shown
-replies_on log shard = replies_in (on_shard shard log)
 
 -- The shards ran the pieces that are out, for the one line, and their answers were accepted.
 pub record ShardsAnswered (sizes : Sizes) (told : Told) (shards : List Shard) (log : List Entry) : Type 0 where
@@ -40,12 +41,15 @@ pub record ShardsAnswered (sizes : Sizes) (told : Told) (shards : List Shard) (l
   pub fits : Fits told.shards told.taken told.accepted (replies_on log)
 
 -- what is known before pieces are run
-pub record CanAnswer (conn : Conn) (shards : List Shard) : Type 0 where
+pub record CanAnswer (conn : Conn) (shards : List Shard) (history : LineHistory) : Type 0 where
   pub sizes : Sizes
+  pub place : Place
+  pub begin : Sight
   pub told : Told
   pub log : List Entry
   pub conn_is : IsConn conn told
   pub answers : ShardsAnswered sizes told shards log
+  pub recorded : IsWhole sizes place begin told.taken log history.clerk history.recorders.items
 
 -- The first `out` pieces have been sent, and all of them were run and answered.
 pub record AnswersMore (sizes : Sizes) (told : Told) (conn : Conn) (shards : List Shard) : Type 0 where
@@ -57,8 +61,17 @@ pub record AnswersMore (sizes : Sizes) (told : Told) (conn : Conn) (shards : Lis
   pub answers : ShardsAnswered sizes (record told { out = out; lent = lent; accepted = accepted }) shards log
   pub handed : KeepsHanded told (record told { out = out; lent = lent; accepted = accepted })
 
--- Whatever the shards had answered before, they answered the rest of what is due.
-abbrev pub AnswersAll : Conn → List Shard → Conn → List Shard → Type 0
-AnswersAll old before new after =
-    (sizes : Sizes) (told : Told) (log : List Entry) → IsConn old told → ShardsAnswered sizes told before log →
-    (more : AnswersMore sizes told new after) × (more.out ≡ length (all_pieces told))
+-- And they are recorded in the line's history.
+pub record RecordsMore (sizes : Sizes) (place : Place) (begin : Sight) (told : Told) (conn : Conn)
+    (shards : List Shard) (clerk : Acting) (recorders : List Acting) : Type 0 where
+  pub more : AnswersMore sizes told conn shards
+  pub recorded : IsWhole sizes place begin told.taken more.log clerk recorders
+
+-- Whatever the shards had answered before, they answered the rest of what is due, and it is recorded.
+abbrev pub AnswersAll : Conn → List Shard → LineHistory → Conn → List Shard → LineHistory → Type 0
+AnswersAll old before history new after history' =
+    (sizes : Sizes) (place : Place) (begin : Sight) (told : Told) (log : List Entry) → IsConn old told
+    → ShardsAnswered sizes told before log
+    → IsWhole sizes place begin told.taken log history.clerk history.recorders.items →
+    (records : RecordsMore sizes place begin told new after history'.clerk history'.recorders.items)
+    × (records.more.out ≡ length (all_pieces told))

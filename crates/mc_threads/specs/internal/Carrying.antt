@@ -11,6 +11,7 @@ use Rattle.mc_conn.specs.Due.{channel}
 use Rattle.mc_conn.specs.Fits.{Serves}
 use Rattle.mc_conn.specs.Told.{KeepsHanded, Told, all_pieces}
 use Rattle.mc_seat.specs.declared.clerk.Clerk.{Ghosts}
+use Rattle.mc_seat.specs.declared.warrant.Warrant.{Ghosts as Warrants}
 use Rattle.mc_threads.specs.Records.{RecordsAllOf, RecordsLineOf}
 use Rattle.mc_threads.specs.declared.shard_link.ShardLink.{ShardLink}
 
@@ -91,16 +92,16 @@ AllOutWhere so told out = so → AllOut told out
 abbrev pub NoneOut : Told → ℕ → Type 0
 NoneOut told out = out ≡ told.out
 
-module _ {T C : Type 0} {g : Ghosts C T} where
+module _ {T C : Type 0} {w : Warrants T} {g : Ghosts C T} where
   -- The shard link and the connection carry on, with all that the connection took recorded.
-  abbrev pub ShardLinkGoesOn : (Told → ℕ → Type 0) → ShardLink T C g → Conn → ShardLink T C g → Conn → Type 0
+  abbrev pub ShardLinkGoesOn : (Told → ℕ → Type 0) → ShardLink T C w g → Conn → ShardLink T C w g → Conn → Type 0
   ShardLinkGoesOn says shard_link conn shard_link' conn' =
       MovesOn says (RecordsAllOf shard_link) (RecordsAllOf shard_link') shard_link.ends shard_link.under_way.items conn
       shard_link'.ends shard_link'.under_way.items conn'
 
-  abbrev pub CanCarry : ShardLink T C g → Conn → Type 0
+  abbrev pub CanCarry : ShardLink T C w g → Conn → Type 0
   CanCarry shard_link conn = MayCarry (RecordsAllOf shard_link) shard_link.ends shard_link.under_way.items conn
 
   -- The same, where the connection may have taken more than is recorded.
-  abbrev pub CanRecord : ShardLink T C g → Conn → Type 0
+  abbrev pub CanRecord : ShardLink T C w g → Conn → Type 0
   CanRecord shard_link conn = MayCarry (RecordsLineOf shard_link) shard_link.ends shard_link.under_way.items conn

@@ -1,4 +1,5 @@
-use Rattle.mc_history.proofs.Writing.{behind_may, front_may, grown_may, read_may}
+use Rattle.mc_history.specs.WritesLaws.{behind_may, front_may}
+use Rattle.mc_history.proofs.Writing.{grown_may, read_may}
 use Rattle.mc_history.proofs.laws.what_may_be_written_stays.Goals as goal
 
 pub returns-clause-front : goal.returns-clause-front

@@ -10,7 +10,7 @@ loop-source-preserved g c =
     let was = c.loop-source.invariant in (
       was.0 ++ c.in-Some.source ∷ [],
       append_assoc was.0 (c.in-Some.source ∷ []) _ ∙ (ap (λ ds. was.0 ++ ds) (sym c.in-Some.ensures.steps.0) ∙ was.1),
-      zips_push (λ source one. IsBack (told_of (λ line. g.L.Sink.sight line) source) (g.L.Sink.sight one.line)
+      zips_push (λ source one. IsBack (told_of (λ line. g.L.Transport.sight line) source) (g.L.Transport.sight one.line)
           one.commands one.broke) was.0 c.loop-source.lines.items _ c.in-Some.source c.in-Some-served.served
           c.in-Ok.ensures.items was.2 c.in-Some-served.ensures,
     )
@@ -23,5 +23,7 @@ returns-clause-back g c =
     let was = c.loop-source.invariant in
     let none : into_iter_items c.loop-source.source-iterator ≡ [] = empty_when _ (search rules) in
     let all : was.0 ≡ c.args.sources.items = sym (append-nil was.0) ∙ (ap (λ ds. was.0 ++ ds) (sym none) ∙ was.1) in
-    zips_are (λ source one. IsBack (told_of (λ line. g.L.Sink.sight line) source) (g.L.Sink.sight one.line) one.commands
+    zips_are
+    (λ source one. IsBack (told_of (λ line. g.L.Transport.sight line) source)
+    (g.L.Transport.sight one.line) one.commands
     one.broke) was.0 c.args.sources.items c.loop-source.lines.items all was.2

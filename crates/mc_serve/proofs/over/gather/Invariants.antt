@@ -8,5 +8,7 @@ use Rattle.mc_serve.proofs.over.gather.Given as goal
 abbrev pub invariant-loop-source : goal.invariant-loop-source
 invariant-loop-source g l =
     (done : List _) × (done ++ into_iter_items l.source-iterator ≡ l.fn.sources.items)
-    × Zips (λ source one. IsBack (told_of (λ line. g.L.Sink.sight line) source) (g.L.Sink.sight one.line) one.commands
+    × Zips
+    (λ source one. IsBack (told_of (λ line. g.L.Transport.sight line) source)
+    (g.L.Transport.sight one.line) one.commands
     one.broke) done l.lines.items

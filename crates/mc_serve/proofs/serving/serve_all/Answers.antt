@@ -65,7 +65,7 @@ new-requires-send-T g c κs within =
     let bounds = c.type_bounds in
     param_send 0 _
     (arg_send _ no _
-    (part_send (param 1 g.row.D) (param 2 g.row.G) (copied 3 g.row.K) (param 4 g.row.D-Transport)
+    (part_send (param 1 g.row.D) (param 2 g.row.G) (copied 3 g.row.K) (param 4 g.row.D-Transport) _
     (search (bounds.send-D, sendable)) (search (bounds.send-G, sendable)) (search (bounds.sync-G, sendable))
     (search (bounds.send-K, sendable)) (search (bounds.send-D-Transport, sendable))))
 
@@ -74,7 +74,7 @@ dismiss-requires-send-T g c κs within =
     let bounds = c.type_bounds in
     param_send 0 _
     (arg_send _ no _
-    (part_send (param 1 g.row.D) (param 2 g.row.G) (copied 3 g.row.K) (param 4 g.row.D-Transport)
+    (part_send (param 1 g.row.D) (param 2 g.row.G) (copied 3 g.row.K) (param 4 g.row.D-Transport) _
     (search (bounds.send-D, sendable)) (search (bounds.send-G, sendable)) (search (bounds.sync-G, sendable))
     (search (bounds.send-K, sendable)) (search (bounds.send-D-Transport, sendable))))
 
@@ -83,7 +83,7 @@ begin-requires-send-T g c κs within =
     let bounds = c.type_bounds in
     param_send 0 _
     (arg_send _ no _
-    (part_send (param 1 g.row.D) (param 2 g.row.G) (copied 3 g.row.K) (param 4 g.row.D-Transport)
+    (part_send (param 1 g.row.D) (param 2 g.row.G) (copied 3 g.row.K) (param 4 g.row.D-Transport) _
     (search (bounds.send-D, sendable)) (search (bounds.send-G, sendable)) (search (bounds.sync-G, sendable))
     (search (bounds.send-K, sendable)) (search (bounds.send-D-Transport, sendable))))
 
@@ -92,6 +92,6 @@ join-requires-send-T g c κs within =
     let bounds = c.type_bounds in
     param_send 0 _
     (arg_send _ no _
-    (part_send (param 1 g.row.D) (param 2 g.row.G) (copied 3 g.row.K) (param 4 g.row.D-Transport)
+    (part_send (param 1 g.row.D) (param 2 g.row.G) (copied 3 g.row.K) (param 4 g.row.D-Transport) _
     (search (bounds.send-D, sendable)) (search (bounds.send-G, sendable)) (search (bounds.sync-G, sendable))
     (search (bounds.send-K, sendable)) (search (bounds.send-D-Transport, sendable))))

@@ -28,7 +28,7 @@ loop-ends-preserved g c =
     record {
       width = all_rest (λ seat. length seat.channels ≡ c.args.sizes.shards) _ c.in-Some.ends _ step.0 was.width;
       clerks =
-          zips_rest IsClerkOf _ _ _ _ c.in-Some.ends c.in-Some-next-2.clerk step.0 clerk.0 was.clerks;
+          zips_rest (IsClerkOf c.args.sizes) _ _ _ _ c.in-Some.ends c.in-Some-next-2.clerk step.0 clerk.0 was.clerks;
       as_many = one_less _ _ _ _ _ _ source.0 step.0 was.as_many;
       free = all_rest (λ source. IsFree (g.D.ConnectionSource.told source)) _ c.in-Some-next.source _ source.0 was.free;
       ends =
@@ -46,6 +46,7 @@ loop-ends-preserved g c =
             width = rw made.ends wide;
             window = c.args.sizes.window;
             vacant = made.vacant;
+            ruled = made.ruled;
           });
     }
 
@@ -83,6 +84,6 @@ new-requires g c = record {
       all_first (λ seat. length seat.channels ≡ c.args.sizes.shards) _ c.in-Some.ends _ c.in-Some.ensures.steps.0
       c.loop-ends.invariant.width;
   clerk =
-      zips_first IsClerkOf _ _ _ _ c.in-Some.ends c.in-Some-next-2.clerk c.in-Some.ensures.steps.0
+      zips_first (IsClerkOf c.args.sizes) _ _ _ _ c.in-Some.ends c.in-Some-next-2.clerk c.in-Some.ensures.steps.0
       c.in-Some-next-2.ensures.cases.0 c.loop-ends.invariant.clerks;
 }

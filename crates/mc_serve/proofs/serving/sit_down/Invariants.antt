@@ -13,7 +13,7 @@ use Rattle.mc_serve.proofs.serving.sit_down.Given as goal
 abbrev pub invariant-loop-ends : goal.invariant-loop-ends
 invariant-loop-ends g l = record {
   width : AllByRecursion (λ seat. length seat.channels ≡ l.fn.sizes.shards) (into_iter_items l.ends-iterator);
-  clerks : Zips IsClerkOf (into_iter_items l.ends-iterator) (into_iter_items l.clerks);
+  clerks : Zips (IsClerkOf l.fn.sizes) (into_iter_items l.ends-iterator) (into_iter_items l.clerks);
   as_many : length (into_iter_items l.sources) ≡ length (into_iter_items l.ends-iterator);
   free : AllByRecursion (λ source. IsFree (g.D.ConnectionSource.told source)) (into_iter_items l.sources);
   ends : map (λ one. seat_ends one.session) l.seats.items ++ into_iter_items l.ends-iterator ≡ l.fn.ends.items;

@@ -76,6 +76,6 @@ start-requires-send-T g c κs within =
     let bounds = c.type_bounds in
     param_send 0 _
     (arg_send _ no _
-    (part_send (param 1 g.row.D) (param 2 g.row.G) (copied 3 g.row.K) (param 4 g.row.D-Transport)
+    (part_send (param 1 g.row.D) (param 2 g.row.G) (copied 3 g.row.K) (param 4 g.row.D-Transport) _
     (search (bounds.send-D, sendable)) (search (bounds.send-G, sendable)) (search (bounds.sync-G, sendable))
     (search (bounds.send-K, sendable)) (search (bounds.send-D-Transport, sendable))))

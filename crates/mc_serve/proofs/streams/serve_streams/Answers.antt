@@ -4,6 +4,7 @@ use Rattle.mc_sizes.specs.Sizes.{MayServe}
 use Rattle.mc_serve.proofs.Connections.{all_free, as_many, joined}
 use Rattle.mc_serve.proofs.StreamSent.{line_send, stream_source_send}
 use Rattle.mc_serve.proofs.Zipped.{if_ok}
+use Rattle.mc_history.proofs.evidence.Evidence.TheSendSync as evidence_sent
 use denote.Exit.{no}
 use denote.Param.Send.{arg_send, param_send}
 use Rattle.mc_serve.proofs.streams.serve_streams.Goals as goal
@@ -42,8 +43,9 @@ returns-clause-streams g c =
 pub serve-requires-send-D : goal.serve-requires-send-D
 serve-requires-send-D g c κs within =
     param_send 1 _ (arg_send _ no _
-    (stream_source_send _ _ _ _ _ c.type_bounds.send-R c.type_bounds.send-A c.type_bounds.send-A-Stream))
+    (stream_source_send _ _ _ _ _ _ c.type_bounds.send-R c.type_bounds.send-A evidence_sent.the_send
+    c.type_bounds.send-A-Stream))
 
 pub serve-requires-send-D-Transport : goal.serve-requires-send-D-Transport
 serve-requires-send-D-Transport g c κs within =
-    param_send 4 _ (arg_send _ no _ (line_send _ _ c.type_bounds.send-A-Stream))
+    param_send 4 _ (arg_send _ no _ (line_send _ _ _ c.type_bounds.send-A-Stream evidence_sent.the_send))

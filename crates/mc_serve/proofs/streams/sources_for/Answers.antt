@@ -1,10 +1,12 @@
 -- One source more, which is new, and wary by memcached's rules.
-use Rattle.std.proofs.Common.{◌≡◌, List, [], ◌∷◌, ◌++◌, ◌∙◌, subst, sym}
+use Rattle.std.proofs.Common.{◌≡◌, List, [], ◌∷◌, ◌++◌, ◌∙◌, ap, append-nil, map, subst, sym}
 use Rattle.std.specs.List.{AllByRecursion}
+use Rattle.std.specs.Vec.Iter.{into_iter_items}
 use Rattle.mc_command.specs.Rules.{is_drop_in}
 use Rattle.mc_sizes.specs.Sizes.{rules_of}
 use Rattle.mc_doors.specs.Tcp.{new_source, told_source}
 use Rattle.mc_serve.proofs.Connections.{note_more}
+use Rattle.mc_serve.proofs.Zipped.{empty_when}
 use Rattle.mc_serve.proofs.streams.sources_for.Goals as goal
 
 appended : {X : Type 0} (P : X → Type 0) (xs : List X) (x : X) → AllByRecursion P xs → P x
@@ -32,3 +34,13 @@ loop-one-preserved g c =
           c.push.new.self.items c.new.result c.in_ok-push.ensures.items was.sniff_protocol
           (c.new.ensures.sniff_protocol ∙ was.sniffs_protocol);
     }
+
+pub returns-clause-told : goal.returns-clause-told
+returns-clause-told g c =
+    let was = c.loop-one.invariant in
+    let none : into_iter_items c.loop-one.one-iterator ≡ [] =
+    empty_when _ (sym c.loop-one.one-iterator.rest.ok.0 ∙ c.in-None.ensures.steps.0) in
+    sym (append-nil _) ∙ (ap (λ arrivals. map (λ source. told_source (g.A.Arrivals.coming source.arrivals) source.out
+    source.gone.items source.is_over) c.loop-one.sources.items
+    ++ map (λ one. new_source g.A.Stream.Stream.remaining g.A.Stream.Stream.contents (g.A.Arrivals.coming one))
+    arrivals) (sym none) ∙ was.told)

@@ -1,17 +1,22 @@
--- Whatever was answered before, more of it is now.
+-- Whatever was answered before, more of it is now, and is recorded.
 use Rattle.std.proofs.Common.{List}
+use Rattle.mc_wire.specs.Sink.{Sight}
 use Rattle.mc_sizes.specs.declared.sizes.Sizes.{Sizes}
 use Rattle.mc_conn.specs.Conn.{IsConn}
 use Rattle.mc_conn.specs.Told.{Told}
 use Rattle.mc_model.specs.Log.{Entry}
-use Rattle.mc_server.specs.internal.Answering.{ShardsAnswered, AnswersMore}
+use Rattle.mc_seat.specs.Place.{Place}
+use Rattle.mc_server.specs.internal.Answering.{ShardsAnswered, RecordsMore}
+use Rattle.mc_server.specs.internal.Recording.{IsWhole}
 use Rattle.mc_server.proofs.Answering.{unsent_count}
 use Rattle.mc_server.proofs.serve.answer.Given as goal
 
 abbrev pub invariant-loop-place : goal.invariant-loop-place
 invariant-loop-place l =
-    (sizes : Sizes) (told : Told) (log : List Entry) → IsConn l.fn.conn told
-    → ShardsAnswered sizes told l.fn.shards.items log → AnswersMore sizes told l.conn l.shards.items
+    (sizes : Sizes) (place : Place) (begin : Sight) (told : Told) (log : List Entry) → IsConn l.fn.conn told
+    → ShardsAnswered sizes told l.fn.shards.items log
+    → IsWhole sizes place begin told.taken log l.fn.history.clerk l.fn.history.recorders.items
+    → RecordsMore sizes place begin told l.conn l.shards.items l.history.clerk l.history.recorders.items
 
 abbrev pub decreases-loop-place : goal.decreases-loop-place
 decreases-loop-place l = unsent_count l.conn

@@ -3,5 +3,8 @@ use Rattle.mc_doors.proofs.single_source.SingleSource.served.Goals as goal
 use Rattle.std.proofs.Common.{refl}
 
 pub returns-in-Some : goal.returns-in-Some
-returns-in-Some g c =
-    (g.L.Sink.sight c.in-Some.returned.begin.value, c.args.self.over, rw (c.in-Some.is, c.into_served.ensures) refl)
+returns-in-Some g c = (
+  g.L.Transport.sight c.in-Some.returned.begin.value,
+  c.args.self.over,
+  rw (c.in-Some.is, c.into_served.ensures) refl,
+)

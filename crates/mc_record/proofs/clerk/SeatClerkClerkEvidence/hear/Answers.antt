@@ -1,5 +1,5 @@
 use Rattle.mc_ring.specs.Reply.{shown}
-use Rattle.mc_record.proofs.Clerking.{hears_of, hears_reply}
+use Rattle.mc_record.proofs.Clerking.{hears_of, hears_reply, same_place}
 use Rattle.mc_record.proofs.clerk.SeatClerkClerkEvidence.hear.Goals as goal
 
 pub returns-clause-answers : goal.returns-clause-answers
@@ -36,3 +36,11 @@ pub returns-clause-work : goal.returns-clause-work
 returns-clause-work c =
     rw (← c.self.view_is) ((hears_of c.args.token.events c.self.inside.member c.hear.new.self c.self.invariant
     c.hear.ensures.lawful c.hear.ensures.sees).work)
+
+pub returns-clause-place : goal.returns-clause-place
+returns-clause-place c = λ keeps opened.
+    let old = c.self.inside.member in
+    let o = rw (← c.self.view_is) at opened in
+    rw (← c.self.view_is) (same_place old c.hear.new.self c.hear.ensures.sees.name
+    ((hears_of c.args.token.events old c.hear.new.self c.self.invariant c.hear.ensures.lawful
+    c.hear.ensures.sees).number o))

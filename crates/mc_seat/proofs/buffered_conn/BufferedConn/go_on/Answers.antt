@@ -3,7 +3,7 @@ use Rattle.std.proofs.Common.{◌∙◌, arith}
 use Rattle.mc_seat.specs.Later.{text_in}
 use Rattle.mc_seat.specs.internal.Steps.{all_handed}
 use Rattle.mc_seat.proofs.Later.{breaks_flushing, breaks_given_up}
-use Rattle.mc_seat.proofs.Serving.{handed_out, serves_handed, stops_flushed, stops_in}
+use Rattle.mc_seat.proofs.Serving.{handed_out, serves_handed, stops_flushed, stops_in, waits_behind}
 use Rattle.mc_seat.proofs.buffered_conn.BufferedConn.go_on.Goals as goal
 
 pub returns-in-Err-clause-says : goal.returns-in-Err-clause-says
@@ -20,7 +20,8 @@ returns-in-Ok-true-clause-says g c received begin told stopped complete =
     let out = c.in_default.ensures.ok told lent.serves.conn_is lent.serves.unbroken in
     let handed = handed_out received _ begin _ told _ _ _ (text_in c.hand.new.out) _ _ out lent in
     let flushed = stops_flushed received _ begin _ _ told _ _ (text_in c.hand.new.out) c.flush.new.self handed
-    c.in-Ok-true.ensures.ok c.in-Ok-true.ensures.grows lent in
+    (waits_behind told _ _ _ (text_in c.hand.new.out) _ _ out) c.in-Ok-true.ensures.ok c.in-Ok-true.ensures.takes
+    c.in-Ok-true.ensures.grows lent in
     let returned = stops_in received _ begin _ (all_handed told) _ c.return_room.new.self c.return_room.ensures flushed
     in
     c.go_on_reading.ensures.says received begin told returned
@@ -33,7 +34,8 @@ returns-in-Ok-false-clause-says g c received begin told stopped complete =
     let handed = handed_out received _ begin _ told _ _ _ (text_in c.hand.new.out) _ _ out lent in
     serves_handed received _ begin _ told _
     (stops_flushed received _ begin _ _ told _ _ (text_in c.hand.new.out) c.flush.new.self handed
-    c.in-Ok-false.ensures.ok c.in-Ok-false.ensures.grows lent)
+    (waits_behind told _ _ _ (text_in c.hand.new.out) _ _ out) c.in-Ok-false.ensures.ok c.in-Ok-false.ensures.takes
+    c.in-Ok-false.ensures.grows lent)
 
 pub returns-in-Ok-false-2-clause-says : goal.returns-in-Ok-false-2-clause-says
 returns-in-Ok-false-2-clause-says g c received begin told stopped complete =
@@ -42,7 +44,8 @@ returns-in-Ok-false-2-clause-says g c received begin told stopped complete =
     let handed = handed_out received _ begin _ told _ _ _ (text_in c.hand.new.out) _ _ out lent in
     serves_handed received _ begin _ told _
     (stops_flushed received _ begin _ _ told _ _ (text_in c.hand.new.out) c.flush.new.self handed
-    c.in-Ok-false.ensures.ok c.in-Ok-false.ensures.grows lent)
+    (waits_behind told _ _ _ (text_in c.hand.new.out) _ _ out) c.in-Ok-false.ensures.ok c.in-Ok-false.ensures.takes
+    c.in-Ok-false.ensures.grows lent)
 
 pub returns-in-Err-flush-clause-says : goal.returns-in-Err-flush-clause-says
 returns-in-Err-flush-clause-says g c received begin told stopped complete =
@@ -56,3 +59,10 @@ returns-in-Err-flush-clause-says g c received begin told stopped complete =
     (c.broken.ensures (all_handed told) handed.0) c.in-Err-flush.ensures.some c.in-Err-flush.ensures.err
     (omega (arith, grown, more)) handed.1 in
     rw c.ended-in-Err-flush.ensures (record { served = served; counted = serves.counted })
+
+pub flush-requires : goal.flush-requires
+flush-requires g c =
+    let on = c.requires.may in
+    let lent = rw (← c.borrow_room.ensures) at on.may in
+    let out = c.in_default.ensures.ok on.told on.conn_is on.unbroken in
+    record { may = rw (waits_behind on.told _ _ _ (text_in c.hand.new.out) _ _ out) lent }

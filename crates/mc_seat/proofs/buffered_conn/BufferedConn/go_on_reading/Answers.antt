@@ -8,7 +8,7 @@ returns-in-Continues-clause-says g c received begin told stopped none complete =
     let all = written received _ begin _ told _ none stopped in
     let said = c.in-Continues.ensures.says received begin told stopped.serves.conn_is all.serving
     stopped.serves.unbroken all.stops complete in
-    rw c.note_taken.ensures (serves_read received _ begin _ told said.fed said.ended _
+    rw c.note_taken.ensures.sight (serves_read received _ begin _ told said.fed said.ended _
     (c.take_all.ensures received begin _ _
     (serving_read received _ begin _ _ told _ _ c.go_on.new.self none stopped said)))
 
@@ -17,7 +17,8 @@ returns-in-Waits-clause-says g c received begin told stopped none complete =
     let all = written received _ begin _ told _ none stopped in
     let said = c.in-Waits.ensures.says received begin told stopped.serves.conn_is all.serving stopped.serves.unbroken
     all.stops complete in
-    let goes : GoesOn received begin (g.L.Sink.sight c.go_on.new.line) told c.go_on.new.conn c.go_on.new.self.unread =
+    let goes : GoesOn received begin (g.L.Transport.sight c.go_on.new.line) told c.go_on.new.conn
+    c.go_on.new.self.unread =
     record { fed = told.fed; ended = told.ended; conn_is = said.conn_is; serving = said.serving } in
     serves_handed received _ begin _ told _
     (record {

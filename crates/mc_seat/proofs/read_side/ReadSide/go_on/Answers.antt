@@ -7,7 +7,7 @@ use Rattle.mc_seat.proofs.read_side.ReadSide.go_on.Goals as goal
 pub returns-in-NeedMore-clause-says : goal.returns-in-NeedMore-clause-says
 returns-in-NeedMore-clause-says g c received begin told is serving unbroken stops complete =
     let more : StopsAt took.NeedMore (all_handed told) = rw c.in-NeedMore.is at stops in
-    c.read_on.ensures received begin told is serving more.0 more.1 complete
+    c.read_on.ensures.says received begin told is serving more.0 more.1 complete
 
 pub returns-in-Closed-clause-says : goal.returns-in-Closed-clause-says
 returns-in-Closed-clause-says g c received begin told is serving unbroken stops complete =

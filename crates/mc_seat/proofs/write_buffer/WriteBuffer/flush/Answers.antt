@@ -1,13 +1,13 @@
 -- The line took the first bytes of what waits, or what stands behind the front becomes the front.
-use Rattle.std.proofs.Common.{◌≡◌, ℕ, ◌≤◌, List, [], ◌++◌, OnErr, Result, Ok, Err, take, drop, sym, ap, subst, ◌∙◌}
-use Rattle.std.proofs.Common.{arith}
+use Rattle.std.proofs.Common.{◌≡◌, ℕ, ◌≤◌, List, [], ◌++◌, OnErr, Result, Ok, Err, take, drop, refl, sym, ap}
+use Rattle.std.proofs.Common.{subst, ◌∙◌, arith, append_assoc}
 use Rattle.std.specs.Result.{IsErr}
 use Rattle.std.proofs.lemmas.List.{nil_from_length, take-append-drop}
 use Rattle.mc_wire.specs.Sink.{Sight, took}
-use Rattle.mc_wire.proofs.Sinks.{took-append}
+use Rattle.mc_wire.proofs.Sinks.{took-append, took-nil}
 use Rattle.mc_seat.specs.Chunks.{bytes_of}
 use Rattle.mc_seat.specs.Later.{behind, text_in}
-use Rattle.mc_seat.specs.Lines.{told}
+use Rattle.mc_seat.specs.Lines.{TakesFront, told}
 use Rattle.mc_seat.proofs.Traces.{told-grows}
 use Rattle.mc_seat.proofs.Pieces.{some_waits}
 use Rattle.mc_seat.proofs.write_buffer.WriteBuffer.flush.Goals as goal
@@ -27,26 +27,74 @@ grown_by : (old new : Sight) (bytes : List ℕ) → new ≡ took bytes old → t
 grown_by old new bytes taken = let P : Sight → Type 0 =
     λ s. told old.taken ≤ told s.taken in subst P (sym taken) (told-grows old.taken bytes)
 
+-- it took more of what waited
+front_more : (waited text left : List ℕ) (count : ℕ) (old mid new : Sight) → TakesFront waited text old mid → left
+    ≡ drop count text → new ≡ took (take count text) mid → TakesFront waited left old new
+front_more waited text left count old mid new some left_is taken = record {
+  front = some.front ++ take count text;
+  parts =
+      append_assoc some.front (take count text) left
+      ∙ (ap (λ l. some.front ++ l) (ap (λ l. take count text ++ l) left_is ∙ take-append-drop count text) ∙ some.parts);
+  now =
+      taken ∙ (ap (λ s. took (take count text) s) some.now ∙ took-append old some.front (take count text));
+}
+
+front_still : (waited text left : List ℕ) (old now : Sight) → TakesFront waited text old now → left ≡ text
+    → TakesFront waited left old now
+front_still waited text left old now some same =
+    record { front = some.front; parts = ap (λ l. some.front ++ l) same ∙ some.parts; now = some.now }
+
+-- where the first bytes of a text that may be written were written, the rest may be
+may_rest : (may : Sight → List ℕ → Type 0) (text left : List ℕ) (count : ℕ) (mid new : Sight)
+    → ((bytes more : List ℕ) → may mid (bytes ++ more) → may (took bytes mid) more) → left ≡ drop count text → new
+    ≡ took (take count text) mid → may mid text → may new left
+may_rest may text left count mid new behind left_is taken allowed =
+    subst (λ s. may s left) (sym taken)
+    (subst (λ l. may (took (take count text) mid) l) (sym left_is)
+    (behind (take count text) (drop count text) (subst (λ l. may mid l) (sym (take-append-drop count text)) allowed)))
+
+pub loop-init : goal.loop-init
+loop-init g c =
+    let now = g.L.Transport.sight c.args.line.now in
+    (refl, omega arith, record { front = []; parts = refl; now = sym (took-nil now) }, refl, c.requires.may)
+
 pub loop-preserved : goal.loop-preserved
 loop-preserved g c = elim c.if-not-is_empty.branch [
   | then-not-is_empty+in_ok-count+else-count-eq0 w ↦
       let waits = text_in c.loop.self in
-      let old = g.L.Sink.sight c.loop.line in
-      let new = g.L.Sink.sight w.offer.new.line in
-      let grown = grown_by old new (take w.in_ok-count.count waits) w.in_ok-count.ensures.ok in
+      let left = text_in w.pass.new.self in
+      let count = w.in_ok-count.count in
+      let old = g.L.Transport.sight c.loop.line in
+      let new = g.L.Transport.sight w.offer.new.line in
+      let ok = w.in_ok-count.ensures.ok in
+      let grown = grown_by old new (take count waits) ok in
       let before = c.loop.invariant.1 in
+      let W = g.L.Warrant.Warrant in
+      let place = g.L.Transport.place w.offer.new.line in
       rw (w.self-is, w.line-is) (
-        took_front waits (text_in w.pass.new.self) w.in_ok-count.count old new w.pass.ensures w.in_ok-count.ensures.ok
-            ∙ c.loop.invariant.0,
+        took_front waits left count old new w.pass.ensures ok ∙ c.loop.invariant.0,
         omega (arith, grown, before),
+        front_more _ waits left count _ old new c.loop.invariant.2 w.pass.ensures ok,
+        w.in_ok-count.ensures.place ∙ c.loop.invariant.3,
+        may_rest (λ s bytes. W.may_write place s bytes c.args.seen.now) waits left count old new
+            (λ bytes more. W.behind place old bytes more c.args.seen.now) w.pass.ensures ok
+            (subst (λ p. W.may_write p old waits c.args.seen.now) (sym w.in_ok-count.ensures.place) c.loop.invariant.4),
       )
   | else-not-is_empty+else-is_last w ↦
       let rest = drop c.loop.self.sent (bytes_of c.loop.self.front) in
+      let now = g.L.Transport.sight c.loop.line in
       let none : rest ≡ [] = nil_from_length rest (grind (arith, w.if-not-is_empty.ensures, c.rest.ensures)) in
       let same : text_in w.go_on.new.self ≡ text_in c.loop.self = w.go_on.ensures.text
       ∙ sym (ap (λ xs. xs ++ behind c.loop.self) none) in
-      rw (w.self-is, w.line-is)
-      (ap (λ bytes. took bytes (g.L.Sink.sight c.loop.line)) same ∙ c.loop.invariant.0, c.loop.invariant.1)
+      rw (w.self-is, w.line-is) (
+        ap (λ bytes. took bytes now) same ∙ c.loop.invariant.0,
+        c.loop.invariant.1,
+        front_still _ _ _ _ now c.loop.invariant.2 same,
+        c.loop.invariant.3,
+        subst
+            (λ bytes. g.L.Warrant.Warrant.may_write (g.L.Transport.place c.loop.line) now bytes c.args.seen.now)
+            (sym same) c.loop.invariant.4,
+      )
 ]
 
 -- of a fault this is known

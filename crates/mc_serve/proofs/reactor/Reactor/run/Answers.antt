@@ -13,7 +13,8 @@ loop-init g c =
       next = (tt, tt);
       clock = refl;
       seats =
-          seats_begin c.args.self.now.seats.all.items (λ line. g.D.Transport.Sink.sight line)
+          seats_begin c.args.self.now.seats.all.items (λ line. g.D.Transport.Transport.place line)
+          (λ line. g.D.Transport.Transport.sight line)
           (λ one. g.D.ConnectionSource.told one.source) (λ one. one.session) (λ one. one.slot_state) sizes.shards
           (rules_of sizes) (g.K.Clock.may_answer c.args.self.now.clock) c.requires;
       workers = workers_begin c.args.self.now.workers.items (λ one. one.worker);
@@ -78,7 +79,8 @@ returns-then-is_done-clause-seats g c =
     let sats = map (λ one. seat_at (g.D.ConnectionSource.told one.source) (seat_ends one.session))
     c.args.self.now.seats.all.items in
     rw (← c.loop.invariant.clock)
-    (seats_over c.step-answered.new.self.all.items sats (λ line. g.D.Transport.Sink.sight line)
+    (seats_over c.step-answered.new.self.all.items sats (λ line. g.D.Transport.Transport.place line)
+    (λ line. g.D.Transport.Transport.sight line)
     (λ one. g.D.ConnectionSource.told one.source) (λ one. one.session) (λ one. one.slot_state) sizes.shards
     (rules_of sizes) (g.K.Clock.may_answer c.loop.self.clock)
     (c.if-is_done.ensures.over refl)

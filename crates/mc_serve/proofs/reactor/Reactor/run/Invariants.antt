@@ -11,7 +11,8 @@ abbrev pub invariant-loop : goal.invariant-loop
 invariant-loop g l = record {
   next : (goal.iterator-loop g).can_next l.iterator' × (goal.iterator-loop g).is_finite l.iterator';
   clock : l.self.clock ≡ l.fn.self.clock;
-  seats : Zips (λ sat one. SeatStands (λ line. g.D.Transport.Sink.sight line) l.fn.self.sizes.shards
+  seats : Zips (λ sat one. SeatStands (λ line. g.D.Transport.Transport.place line)
+      (λ line. g.D.Transport.Transport.sight line) l.fn.self.sizes.shards
       (rules_of l.fn.self.sizes) (g.K.Clock.may_answer l.self.clock) sat (g.D.ConnectionSource.told one.source)
       one.session one.slot_state)
       (map (λ one. seat_at (g.D.ConnectionSource.told one.source) (seat_ends one.session)) l.fn.self.seats.all.items)

@@ -7,7 +7,9 @@ use Rattle.mc_command.specs.declared.rules.Rules.{Rules}
 
 abbrev pub invariant-loop-place : goal.invariant-loop-place
 invariant-loop-place g l = (shards : ℕ) (rules : Rules) (sats : List SeatAt)
-    → Zips (λ sat one. SeatStands (λ line. g.D.Transport.Sink.sight line) shards rules (g.K.Clock.may_answer l.fn.clock)
+    → Zips (λ sat one. SeatStands (λ line. g.D.Transport.Transport.place line)
+    (λ line. g.D.Transport.Transport.sight line) shards rules (g.K.Clock.may_answer l.fn.clock)
     sat (g.D.ConnectionSource.told one.source) one.session one.slot_state) sats l.fn.self.all.items
-    → Zips (λ sat one. SeatStands (λ line. g.D.Transport.Sink.sight line) shards rules (g.K.Clock.may_answer l.fn.clock)
+    → Zips (λ sat one. SeatStands (λ line. g.D.Transport.Transport.place line)
+    (λ line. g.D.Transport.Transport.sight line) shards rules (g.K.Clock.may_answer l.fn.clock)
     sat (g.D.ConnectionSource.told one.source) one.session one.slot_state) sats l.self.all.items

@@ -1,5 +1,6 @@
 -- It serves no line, and the record is of the ends.
-use Rattle.std.proofs.Common.{refl, sym}
+use Rattle.std.proofs.Common.{refl, sym, ap}
+use Rattle.mc_sizes.specs.Sizes.{rules_of}
 use Rattle.mc_threads.proofs.session.Session.recorded.Goals as goal
 
 pub returns-clause-vacant : goal.returns-clause-vacant
@@ -10,3 +11,6 @@ returns-clause-vacant g c =
       idle = made.idle;
       recorded = rw (made.clerk, made.ends) c.requires.past;
     }
+
+pub returns-clause-ruled : goal.returns-clause-ruled
+returns-clause-ruled g c keeps = rw c.in_ok-shard_link.ensures.clerk (ap rules_of (sym (c.requires.named keeps)))

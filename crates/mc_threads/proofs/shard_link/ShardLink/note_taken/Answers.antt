@@ -29,3 +29,6 @@ returns-clause-records g c before told received is width was =
 pub invariant_of-self-clause-routed : goal.invariant_of-self-clause-routed
 invariant_of-self-clause-routed g c keeps =
     routes_still _ _ _ _ c.take_all.ensures.route (same_ends-refl c.args.self.now.ends) (c.args.self.now.routed keeps)
+
+pub returns-clause-kept : goal.returns-clause-kept
+returns-clause-kept g c = record { route = c.take_all.ensures.route; place = c.take_all.ensures.place }

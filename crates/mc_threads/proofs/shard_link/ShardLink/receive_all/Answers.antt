@@ -3,6 +3,7 @@ use Rattle.std.proofs.Common.{refl, ◌∙◌, arith, rules}
 use Rattle.mc_threads.specs.Records.{RecordsAllOf}
 use Rattle.mc_threads.specs.internal.Carrying.{NoneOut}
 use Rattle.mc_threads.proofs.Carrying.{may_still, stays_more, stays_refl}
+use Rattle.mc_threads.proofs.Placing.{kept_refl, kept_then}
 use Rattle.mc_threads.proofs.shard_link.ShardLink.receive_all.Goals as goal
 
 pub loop-shard-init : goal.loop-shard-init
@@ -14,6 +15,7 @@ loop-shard-init g c =
       called = refl;
       same = refl;
       places = refl;
+      kept = kept_refl c.args.self.now;
       last = search rules;
     }
 
@@ -30,5 +32,6 @@ loop-shard-preserved g c = record {
   called = c.receive_from.ensures.called ∙ c.loop-shard.invariant.called;
   same = c.receive_from.ensures.same ∙ c.loop-shard.invariant.same;
   places = c.receive_from.ensures.places ∙ c.loop-shard.invariant.places;
+  kept = kept_then _ _ _ c.loop-shard.invariant.kept c.receive_from.ensures.kept;
   last = c.loop-shard.invariant.last;
 }

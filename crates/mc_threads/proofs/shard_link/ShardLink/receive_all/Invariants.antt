@@ -1,5 +1,6 @@
 -- Replies have come in, and no piece has left.
 use Rattle.std.proofs.Common.{◌≡◌, length}
+use Rattle.mc_threads.specs.Records.{KeepsPlace}
 use Rattle.mc_threads.specs.internal.Carrying.{ShardLinkGoesOn, NoneOut}
 use Rattle.mc_threads.proofs.shard_link.ShardLink.receive_all.Given as goal
 
@@ -10,5 +11,6 @@ invariant-loop-shard g l = record {
   called : l.self.uncalled ≡ l.fn.self.uncalled;
   same : length l.self.under_way.items ≡ length l.fn.self.under_way.items;
   places : l.self.places ≡ l.fn.self.places;
+  kept : KeepsPlace l.fn.self l.self;
   last : l.shard-end ≡ length l.fn.self.under_way.items;
 }

@@ -3,6 +3,7 @@ use Rattle.std.proofs.Common.{refl, ◌∙◌, arith}
 use Rattle.mc_threads.specs.Records.{RecordsAllOf}
 use Rattle.mc_threads.specs.internal.Carrying.{NoneOut}
 use Rattle.mc_threads.proofs.Carrying.{may_still, stays_more, stays_refl}
+use Rattle.mc_threads.proofs.Placing.{kept_refl, kept_then}
 use Rattle.mc_threads.proofs.shard_link.ShardLink.receive_from.Goals as goal
 
 pub loop-init : goal.loop-init
@@ -14,6 +15,7 @@ loop-init g c =
       called = refl;
       same = refl;
       places = refl;
+      kept = kept_refl c.args.self.now;
     }
 
 pub receive_next-requires : goal.receive_next-requires
@@ -29,6 +31,7 @@ returns-then-not-receive_next g c = record {
   called = c.receive_next.ensures.called ∙ c.loop.invariant.called;
   same = c.receive_next.ensures.same ∙ c.loop.invariant.same;
   places = c.receive_next.ensures.places ∙ c.loop.invariant.places;
+  kept = kept_then _ _ _ c.loop.invariant.kept c.receive_next.ensures.kept;
 }
 
 pub loop-preserved : goal.loop-preserved
@@ -38,4 +41,5 @@ loop-preserved g c = record {
   called = c.receive_next.ensures.called ∙ c.loop.invariant.called;
   same = c.receive_next.ensures.same ∙ c.loop.invariant.same;
   places = c.receive_next.ensures.places ∙ c.loop.invariant.places;
+  kept = kept_then _ _ _ c.loop.invariant.kept c.receive_next.ensures.kept;
 }

@@ -74,3 +74,15 @@ invariant_of-self-2-clause-in_credit g c =
     let less : c.index.result.now ≡ c.in-Some.left + 1 = omega arith in
     within_set c.args.self.now.places ways c.args.shard c.in-Some.left c.index.result.now got (omega (arith, few, less))
     c.args.self.now.in_credit
+
+pub returns-clause-kept : goal.returns-clause-kept
+returns-clause-kept g c = record {
+  route = c.hear.ensures.route;
+  place = λ keeps. c.hear.ensures.place keeps (c.requires.carries.as_recorded keeps).0.0;
+}
+
+pub returns-in_default-clause-kept : goal.returns-in_default-clause-kept
+returns-in_default-clause-kept g c = record { route = refl; place = λ keeps. refl }
+
+pub returns-in_default-receive_with-clause-kept : goal.returns-in_default-receive_with-clause-kept
+returns-in_default-receive_with-clause-kept g c = record { route = refl; place = λ keeps. refl }

@@ -3,6 +3,7 @@ use Rattle.std.proofs.Common.{refl, ◌∙◌}
 use Rattle.mc_threads.specs.Records.{RecordsAllOf}
 use Rattle.mc_threads.specs.internal.Carrying.{AnyOut}
 use Rattle.mc_threads.proofs.Carrying.{may_still, moves_more, moves_refl, moves_then, moves_unless}
+use Rattle.mc_threads.proofs.Placing.{kept_refl, kept_same, kept_then}
 use Rattle.mc_threads.proofs.shard_link.ShardLink.send_all.Goals as goal
 
 pub loop-init : goal.loop-init
@@ -11,6 +12,7 @@ loop-init g c =
       goes = moves_refl (RecordsAllOf c.args.self.now) c.args.self.now.ends c.args.self.now.under_way.items
           c.args.conn.now;
       places = refl;
+      kept = kept_refl c.args.self.now;
     }
 
 pub send_next-requires : goal.send_next-requires
@@ -41,4 +43,13 @@ pub loop-preserved : goal.loop-preserved
 loop-preserved g c = record {
   goes = moves_more AnyOut _ _ _ _ _ _ _ _ _ _ _ _ _ c.loop.invariant.goes c.send_next.ensures.goes;
   places = c.send_next.ensures.places ∙ c.loop.invariant.places;
+  kept = kept_then _ _ _ c.loop.invariant.kept c.send_next.ensures.kept;
 }
+
+pub returns-then-not-send_next-clause-kept : goal.returns-then-not-send_next-clause-kept
+returns-then-not-send_next-clause-kept g c =
+    kept_then _ _ _ c.loop.invariant.kept
+    (kept_then _ _ _ c.send_next.ensures.kept (kept_same _ _ c.call_shards.ensures.clerk))
+
+pub returns-clause-kept : goal.returns-clause-kept
+returns-clause-kept g c = kept_then _ _ _ c.loop.invariant.kept (kept_same _ _ c.call_shards-2.ensures.clerk)

@@ -95,3 +95,21 @@ invariant_of-self-in-Ok-clause-routed g c keeps =
 pub invariant_of-self-in-Err-clause-routed : goal.invariant_of-self-in-Err-clause-routed
 invariant_of-self-in-Err-clause-routed g c keeps =
     routes_still _ _ _ _ c.token-token.ensures.route c.in-Err.ensures.same (c.args.self.now.routed keeps)
+
+pub returns-in_default-clause-kept : goal.returns-in_default-clause-kept
+returns-in_default-clause-kept g c = record { route = refl; place = λ keeps. refl }
+
+pub returns-then-count-self-clause-kept : goal.returns-then-count-self-clause-kept
+returns-then-count-self-clause-kept g c = record { route = refl; place = λ keeps. refl }
+
+pub returns-in-Ok-clause-kept : goal.returns-in-Ok-clause-kept
+returns-in-Ok-clause-kept g c = record {
+  route = c.token-token.ensures.route;
+  place = λ keeps. c.token-token.ensures.place;
+}
+
+pub returns-in-Piece-clause-kept : goal.returns-in-Piece-clause-kept
+returns-in-Piece-clause-kept g c = record {
+  route = c.token-token.ensures.route;
+  place = λ keeps. c.token-token.ensures.place;
+}

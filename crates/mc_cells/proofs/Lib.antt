@@ -1,5 +1,0 @@
-pub mod Chains
-pub mod Fills
-pub mod Held
-pub mod Kept
-pub mod Listed

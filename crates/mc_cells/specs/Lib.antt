@@ -1,4 +1,0 @@
-pub mod Chains
-pub mod Held
-pub mod Kept
-pub mod Sizes

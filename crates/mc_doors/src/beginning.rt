@@ -1,0 +1,43 @@
+//! Which connection a line is.
+ghost use Rattle.std.specs.Prelude.{◌≡◌, None, Some};
+
+use crate::trail::Trail;
+use std::snapshot::Snapshot;
+
+/// Which connection a line is, visible to contracts alone: what was shown when it began, and the
+/// bytes read and written before that. It takes no memory.
+#[derive(Drop)]
+pub(crate) struct Beginning<T> {
+    seen: Snapshot<Option<T>>,
+    given: Snapshot<Trail>,
+    taken: Snapshot<Trail>,
+}
+
+impl<T: Drop> Beginning<T> {
+    /// That of a line that has not begun.
+    pub(crate) fn none() -> Beginning<T>
+        ensures { result.seen.value ≡ None }
+    {
+        let seen: Option<T> = None;
+        let bytes = Trail::new();
+        Beginning {
+            seen: Snapshot::of(&seen),
+            given: Snapshot::of(&bytes),
+            taken: Snapshot::of(&bytes),
+        }
+    }
+
+    /// That of a line that begins with this warrant, once these bytes were read and written.
+    pub(crate) fn new(seen: T, given: &Trail, taken: &Trail) -> Beginning<T>
+        ensures seen { result.seen.value ≡ Some seen }
+        ensures given { result.given.value ≡ given.now }
+        ensures taken { result.taken.value ≡ taken.now }
+    {
+        let seen = Some(seen);
+        Beginning {
+            seen: Snapshot::of(&seen),
+            given: Snapshot::of(given),
+            taken: Snapshot::of(taken),
+        }
+    }
+}

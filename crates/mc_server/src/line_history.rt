@@ -1,0 +1,92 @@
+//! The history of one line that is served without threads.
+ghost use Rattle.std.specs.Prelude.{◌≡◌, List, IfOk, [], ◌∷◌, ◌++◌};
+ghost use Rattle.std.specs.List.{AllByRecursion};
+ghost use Rattle.mc_conn.specs.Conn.{IsConn};
+ghost use Rattle.mc_conn.specs.History.{Taken};
+ghost use Rattle.mc_conn.specs.Told.{Told};
+ghost use Rattle.mc_model.specs.Log.{Entry, reply_to};
+ghost use Rattle.mc_ring.specs.Reply.{shown};
+ghost use Rattle.mc_seat.specs.Place.{Place, no_place};
+ghost use Rattle.mc_sizes.specs.declared.sizes.Sizes.{Sizes};
+ghost use Rattle.mc_wire.specs.Sink.{Sight};
+ghost use Rattle.mc_server.specs.internal.Recording.{CanNote, CanNoteRun, IsFresh, IsHistoryOf, IsWhole, entry_for};
+
+use mc_conn::Conn;
+use mc_history::Evidence;
+use mc_record::{Opening, Recorder, SeatClerk};
+use mc_ring::Reply;
+use mc_seat::{Clerk, Transport};
+use mc_sizes::Sizes;
+use mc_split::Piece;
+use mc_worker::Scribe;
+use std::alloc::{AllocError, Global};
+use std::snapshot::Snapshot;
+
+/// A history of its own for one line: the clerk of its slot, and the recorder of each shard. Its
+/// events are visible to contracts alone.
+#[derive(Drop)]
+pub(crate) struct LineHistory {
+    pub(crate) clerk: SeatClerk,
+    recorders: Vec<Recorder>,
+}
+
+impl LineHistory {
+    /// Opens the history of a line over shards of these sizes, with one slot. Nothing has happened.
+    /// It fails if memory is refused.
+    pub(crate) fn open(alloc: Global, sizes: Sizes) -> Result<LineHistory, AllocError>
+        ensures { IfOk result (λ history. IsFresh (record sizes { seats = 1 }) history.clerk
+            history.recorders.items) }
+    {
+        let Opening {
+            recorders,
+            mut clerks,
+            source: _source,
+        } = Opening::new(alloc, Sizes { seats: 1, ..sizes })?;
+        let Some(clerk) = clerks.pop() else {
+            unreachable!()
+        };
+        Ok(LineHistory { clerk, recorders })
+    }
+
+    /// Records that the line's connection is opened, and shows it to the line.
+    pub(crate) fn begin<L: Transport<Warrant = Evidence>>(&mut self, line: &mut L)
+        requires new { L.place line.old ≡ no_place }
+        ensures begins { (sizes : Sizes) → IsFresh sizes self.old.clerk self.old.recorders.items →
+            IsHistoryOf sizes (L.place line.new) (L.sight line.old) [] [] self.new.clerk
+            self.new.recorders.items }
+        ensures sight { L.sight line.new ≡ L.sight line.old }
+    {
+        let seen = self.clerk.open();
+        line.begin(seen);
+    }
+
+    /// Records what the connection took beyond what is recorded.
+    pub(crate) fn note_taken(&mut self, conn: &Conn)
+        requires { CanNote self.old.clerk self.old.recorders.items conn.now }
+        ensures { (sizes : Sizes) (place : Place) (begin : Sight) (told : Told)
+            (log : List Entry) → IsConn conn.now told →
+            IsHistoryOf sizes place begin told.taken log self.old.clerk self.old.recorders.items →
+            IsWhole sizes place begin told.taken log self.new.clerk self.new.recorders.items }
+    {
+        self.clerk.take_all(conn);
+    }
+
+    /// Records that the next piece was run on this shard, with this reply.
+    pub(crate) fn note_run(&mut self, shard: usize, piece: Snapshot<Piece>, reply: &Reply)
+        requires may { CanNoteRun self.old.clerk self.old.recorders.items shard piece.value
+            reply.now.answer }
+        requires reply { shown reply.now ≡ reply_to (entry_for shard piece.value reply.now.answer) }
+        ensures { (sizes : Sizes) (place : Place) (begin : Sight) (taken : List Taken)
+            (log : List Entry) → AllByRecursion (λ entry. entry.asker ≡ 0) log →
+            IsWhole sizes place begin taken log self.old.clerk self.old.recorders.items →
+            IsWhole sizes place begin taken
+            (log ++ entry_for shard piece.value reply.now.answer ∷ [])
+            self.new.clerk self.new.recorders.items }
+    {
+        let sent = self.clerk.token();
+        let recorder = &mut self.recorders[shard];
+        recorder.runs(0, sent, piece, &reply.answer);
+        let given = recorder.token();
+        self.clerk.hear(shard, given, reply);
+    }
+}
