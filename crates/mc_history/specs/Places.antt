@@ -1,5 +1,5 @@
 -- Which connection a line is by a history that was shown when the line began.
-use Rattle.std.specs.Prelude.{◌-◌, length}
+use Rattle.std.specs.Prelude.{◌-◌, length, true}
 use Rattle.mc_wire.specs.Sink.{Sight}
 use Rattle.mc_seat.specs.Place.{Place}
 use Rattle.mc_history.specs.Tokens.{Sight as Shown}
@@ -9,6 +9,7 @@ use Rattle.mc_history.specs.Worlds.{seats_in}
 abbrev pub place_in : Shown → Sight → Place
 place_in shown begin = record {
   name = shown.name;
+  begun = true;
   number = length (seats_in shown.events) - 1;
   begin = begin;
 }

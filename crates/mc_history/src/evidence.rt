@@ -46,24 +46,26 @@ impl Token for Evidence {
 
 /// With what the history shows, the replies to a connection's commands may be written to its line.
 impl Warrant for Evidence {
-    ghost use Rattle.std.specs.Prelude.{◌≡◌};
+    ghost use Rattle.std.specs.Prelude.{◌≡◌, true};
     ghost use Rattle.mc_history.specs.Places.{place_in};
     ghost use Rattle.mc_history.specs.Writes.{MayWrite};
     ghost use Rattle.mc_history.specs.WritesLaws.{behind_may, front_may};
 
     ghost place_at = { λ e begin. place_in e begin };
 
-    ghost may_write = { λ place now bytes e. (e.name ≡ place.name)
+    ghost may_write = { λ place now bytes e. (e.name ≡ place.name) × (place.begun ≡ true)
         × MayWrite place.name.sizes place.number place.begin now bytes e.events };
 
     ghost front = { λ place now bytes more e may. (
       may.0,
-      front_may place.name.sizes place.number place.begin now bytes more e.events may.1,
+      may.1,
+      front_may place.name.sizes place.number place.begin now bytes more e.events may.2,
     ) };
 
     ghost behind = { λ place now bytes more e may. (
       may.0,
-      behind_may place.name.sizes place.number place.begin now bytes more e.events may.1,
+      may.1,
+      behind_may place.name.sizes place.number place.begin now bytes more e.events may.2,
     ) };
 }
 

@@ -1,5 +1,5 @@
 -- A seat's actor as the record of what the seat's connections take.
-use Rattle.std.specs.Prelude.{ℕ, ◌≡◌, ◌<◌, List, [], ◌∷◌, map}
+use Rattle.std.specs.Prelude.{ℕ, ◌≡◌, ◌<◌, true, List, [], ◌∷◌, map}
 use Rattle.mc_wire.specs.Sink.{Sight}
 use Rattle.mc_ring.specs.Reply.{Shown}
 use Rattle.mc_split.specs.declared.plan.Piece.{Piece}
@@ -46,7 +46,8 @@ answers_at actor shard = replies_in (ran_on (seat_of actor.role) shard actor.eve
 
 -- the place of the line of the seat's last connection, of which this was seen at its beginning
 abbrev pub place_of : Acting → Sight → Place
-place_of actor begin = record { name = actor.name; number = connection_of actor; begin = bytes_seen begin }
+place_of actor begin =
+    record { name = actor.name; begun = true; number = connection_of actor; begin = bytes_seen begin }
 
 -- The line of the seat's last connection is owed these bytes next, by what the actor has seen. What is seen of the line
 -- was so at its beginning, and is so now.

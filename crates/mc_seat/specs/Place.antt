@@ -1,17 +1,23 @@
 -- Which connection a line is.
-use Rattle.std.specs.Prelude.{ℕ, false, None}
+use Rattle.std.specs.Prelude.{ℕ, Bool, Option, false, None, Some}
 use Rattle.mc_wire.specs.Sink.{Sight, Untold, sight_out}
-use Rattle.mc_ring.specs.Route.{Name, no_history}
+use Rattle.mc_ring.specs.Route.{Name}
 
--- the connection of this number in a history, and the bytes seen of its line at the beginning
+-- a line of a history; once it has begun, the number of its connection there, and the bytes seen of it at the beginning
 pub record Place : Type 0 where
   pub name : Name
+  pub begun : Bool
   pub number : ℕ
   pub begin : Sight
 
--- the place of a line that has not begun
-abbrev pub no_place : Place
-no_place = record { name = no_history; number = 0; begin = sight_out Untold false }
+-- the place of a line of this history that has not begun
+abbrev pub unbegun : Name → Place
+unbegun name = record { name = name; begun = false; number = 0; begin = sight_out Untold false }
+
+-- the place of a line of this history, by what was shown when it began, if it has, and what was seen of it then
+abbrev pub place_by : {T : Type 0} → (T → Sight → Place) → Name → Option T → Sight → Place
+place_by place_at name None begin = unbegun name
+place_by place_at name (Some seen) begin = place_at seen begin
 
 -- of what is seen of a line, the bytes that it gave and took
 abbrev pub bytes_seen : Sight → Sight

@@ -45,6 +45,7 @@ pub trait Clerk<T: Warrant> {
 
     /// Records that the next connection is opened, and shows it to its line.
     fn open(&mut self) -> T
+        ensures name { T.name result ≡ (Self.route self.old 0).name }
         ensures place { Self.keeps → (begin : Sight) →
             T.place_at result (bytes_seen begin) ≡ Self.place self.new begin }
         ensures opened { Self.keeps → Self.opened self.new }
@@ -120,7 +121,7 @@ pub trait Clerk<T: Warrant> {
 impl Clerk<()> for () {
     ghost use Rattle.std.specs.Prelude.{[]};
     ghost use Rattle.mc_ring.specs.Route.{no_history};
-    ghost use Rattle.mc_seat.specs.Place.{no_place};
+    ghost use Rattle.mc_seat.specs.Place.{unbegun};
 
     ghost keeps = { ⊥ };
 
@@ -134,7 +135,7 @@ impl Clerk<()> for () {
 
     ghost answers = { λ clerk shard. [] };
 
-    ghost place = { λ clerk begin. no_place };
+    ghost place = { λ clerk begin. unbegun no_history };
 
     fn open(&mut self) {}
 

@@ -4,7 +4,7 @@ ghost use Rattle.std.specs.Io.{StartsWith};
 ghost use Rattle.std.specs.Io.Slices.{io_slices_bytes};
 ghost use Rattle.mc_wire.specs.Sink.{ReadsIntoRoom, broke, took};
 ghost use Rattle.mc_seat.specs.Lines.{ReadsIfReady};
-ghost use Rattle.mc_seat.specs.Place.{bytes_seen, no_place};
+ghost use Rattle.mc_seat.specs.Place.{bytes_seen, unbegun};
 
 use crate::warrant::Warrant;
 use mc_conn::StatsSource;
@@ -63,12 +63,13 @@ pub trait Transport {
     // What is seen of it: what it gave and took, if it lists its bytes.
     ghost sight: { Self → Sight };
 
-    // Which connection it is, once it has begun.
+    // Of which history it is and, once it has begun, which connection there.
     ghost place: { Self → Place };
 
-    /// Notes that it begins to be served, as the connection that was opened last. It begins once.
+    /// Notes that it begins to be served, as the connection that was opened last in its history. It
+    /// begins once.
     fn begin(&mut self, seen: Self::Warrant)
-        requires { Self.place self.old ≡ no_place }
+        requires { Self.place self.old ≡ unbegun (Self.Warrant.name seen) }
         ensures place { Self.place self.new ≡
             Self.Warrant.place_at seen (bytes_seen (Self.sight self.old)) }
         ensures sight { Self.sight self.new ≡ Self.sight self.old };

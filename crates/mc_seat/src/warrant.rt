@@ -25,9 +25,10 @@ pub trait Warrant: Token {
 
 /// Of no history: any bytes may be written.
 impl Warrant for () {
-    ghost use Rattle.mc_seat.specs.Place.{no_place};
+    ghost use Rattle.mc_ring.specs.Route.{no_history};
+    ghost use Rattle.mc_seat.specs.Place.{unbegun};
 
-    ghost place_at = { λ seen now. no_place };
+    ghost place_at = { λ seen now. unbegun no_history };
 
     ghost may_write = { λ place now bytes seen. Unit {0} };
 
