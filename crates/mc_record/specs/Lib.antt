@@ -1,3 +1,4 @@
 pub mod Recorder
 pub mod Clerk
 pub mod Opening
+pub mod Closing

@@ -8,6 +8,7 @@ ghost use Rattle.mc_history.specs.declared.event.Event.TheVariants.{Opened};
 ghost use Rattle.mc_history.specs.declared.knowledge.Role.TheVariants.{Seat as OfSeat};
 ghost use Rattle.mc_history.specs.Lawful.{MayFollow};
 ghost use Rattle.mc_history.specs.Roles.{is_own, seat_of};
+ghost use Rattle.mc_history.specs.Tokens.{Sees};
 ghost use Rattle.mc_history.specs.Worlds.{IsLastOn};
 ghost use Rattle.mc_record.specs.Clerk.{HasOpened, IsSeatActor, connection_of, taken_now};
 
@@ -42,6 +43,23 @@ impl SeatClerk {
         ensures { result ≡ member }
     {
         SeatClerk { member }
+    }
+
+    /// Evidence of all that the clerk has seen.
+    pub(crate) fn show(&mut self) -> Evidence
+        ensures shown { result ≡ record { name = self.old.name; events = self.old.events } }
+        ensures kept { self.new ≡ self.old }
+    {
+        let SeatClerk { member } = self;
+        member.show()
+    }
+
+    /// Sees what the evidence shows.
+    pub(crate) fn see(&mut self, evidence: Evidence)
+        requires { evidence.name ≡ self.old.name }
+        ensures { Sees evidence.events self.old self.new }
+    {
+        self.member.hear(evidence);
     }
 }
 

@@ -2,11 +2,11 @@
 ghost use Rattle.std.specs.Prelude.{◌≡◌, ◌≤◌, IfOk};
 ghost use Rattle.std.specs.Arc.{arc_value};
 ghost use Rattle.mc_history.specs.declared.knowledge.Role.TheVariants.{Seat as of_seat, Shard as of_shard};
-ghost use Rattle.mc_record.specs.Opening.{ActInOrder};
+ghost use Rattle.mc_record.specs.Opening.{ActInOrder, IsOpening};
 
 use crate::clerk::SeatClerk;
 use crate::recorder::Recorder;
-use mc_history::{Actors, History, Member};
+use mc_history::{Actors, Evidence, History, Member};
 use mc_sizes::Sizes;
 use std::alloc::{AllocError, Global};
 use std::sync::Arc;
@@ -17,29 +17,34 @@ use std::sync::Arc;
 pub struct Opening {
     pub recorders: Vec<Recorder>,
     pub clerks: Vec<SeatClerk>,
-    /// Shows the history to channels that are made. It acts for no seat of the server.
-    pub source: Member,
+    /// Shows the history to lines and channels that are made. It acts for no seat of the server.
+    pub witness: Member,
 }
 
 impl Opening {
     /// Opens a history for a server of these sizes. It fails if memory is refused.
     pub fn new(alloc: Global, sizes: Sizes) -> Result<Opening, AllocError>
-        ensures sizes { IfOk result (λ opening. opening.source.name.sizes ≡ sizes) }
-        ensures recorders { IfOk result (λ opening.
-            ActInOrder of_shard opening.source.name sizes.shards opening.recorders.items) }
-        ensures clerks { IfOk result (λ opening.
-            ActInOrder of_seat opening.source.name sizes.seats opening.clerks.items) }
+        ensures { IfOk result (λ opening. IsOpening sizes opening.recorders.items
+            opening.clerks.items opening.witness) }
     {
         let (history, mut actors) = History::new(alloc, sizes)?;
         let history = Arc::new(alloc, history)?;
         let recorders = recorders_of(alloc, &history, &mut actors, sizes.shards)?;
         let clerks = clerks_of(alloc, &history, &mut actors, sizes.seats)?;
-        let source = Member::new(actors.next_seat(&*history), history);
+        let witness = Member::new(actors.next_seat(&*history), history);
         Ok(Opening {
             recorders,
             clerks,
-            source,
+            witness,
         })
+    }
+
+    /// Shows the history, for a line or a channel that is made.
+    pub fn show(&mut self) -> Evidence
+        ensures name { result.name ≡ self.old.witness.name }
+        ensures same { self.new ≡ self.old }
+    {
+        self.witness.show()
     }
 }
 
