@@ -39,16 +39,21 @@ module _ {T C : Type 0} {w : Warrants T} {g : Ghosts C T} where
       → IsRuledBy one rules → IsRuledBy two rules
   ruled_route one two rules same ruled = route_rules g one.clerk two.clerk rules same ruled
 
+  -- It is of the same history.
+  pub history_route : (one two : ShardLink T C w g) → g.route two.clerk ≡ g.route one.clerk
+      → (g.route two.clerk 0).name ≡ (g.route one.clerk 0).name
+  history_route one two same = ap (λ (r : ℕ → Route). (r 0).name) same
+
+  -- So is that of a clerk that comes of an equal one with the same channels.
+  pub history_then : (one two three : ShardLink T C w g) → two ≡ one → g.route three.clerk ≡ g.route two.clerk
+      → (g.route three.clerk 0).name ≡ (g.route one.clerk 0).name
+  history_then one two three same route =
+      history_route two three route ∙ history_route one two (ap (λ (k : ShardLink T C w g). g.route k.clerk) same)
+
   -- The same clerk's record is for a server by the same rules.
   pub ruled_same : (one two : ShardLink T C w g) (rules : Rules) → two ≡ one → IsRuledBy one rules → IsRuledBy two rules
   ruled_same one two rules same ruled =
       ruled_route one two rules (ap (λ (k : ShardLink T C w g). g.route k.clerk) same) ruled
-
-  -- So is that of a clerk that comes of it with the same channels.
-  pub ruled_then : (one two three : ShardLink T C w g) (rules : Rules) → two ≡ one → g.route three.clerk
-      ≡ g.route two.clerk → IsRuledBy one rules → IsRuledBy three rules
-  ruled_then one two three rules same route ruled =
-      ruled_route two three rules route (ruled_same one two rules same ruled)
 
   -- So its line is the line still.
   pub line_kept : (one two : ShardLink T C w g) (rules : Rules) (place : Place) (begin : Sight) → KeepsPlace one two

@@ -4,6 +4,7 @@ use Rattle.mc_wire.specs.Sink.{Sight}
 use Rattle.mc_sizes.specs.Sizes.{rules_of}
 use Rattle.mc_ring.specs.Channel.{Near}
 use Rattle.mc_ring.specs.Ends.{Ends}
+use Rattle.mc_ring.specs.Route.{Name, Route}
 use Rattle.mc_seat.specs.declared.clerk.Clerk.{Ghosts}
 use Rattle.mc_seat.specs.declared.warrant.Warrant.{Ghosts as Warrants}
 use Rattle.mc_seat.specs.declared.buffered_conn.BufferedConn.{BufferedConn}
@@ -21,6 +22,18 @@ module _ {T C : Type 0} {w : Warrants T} {g : Ghosts C T} where
   -- The seat's ends of its channels.
   abbrev pub seat_ends : Session T C w g → Ends Near
   seat_ends session = session.shard_link.ends
+
+  -- its clerk
+  abbrev pub seat_clerk : Session T C w g → C
+  seat_clerk session = session.shard_link.clerk
+
+  -- the routes of its channels, by their shards, as its clerk knows them
+  abbrev pub seat_route : Session T C w g → ℕ → Route
+  seat_route session = g.route session.shard_link.clerk
+
+  -- the history that its connections are of
+  abbrev pub session_history : Session T C w g → Name
+  session_history session = (seat_route session 0).name
 
   -- how many places each of its rings has
   abbrev pub seat_ring : Session T C w g → ℕ

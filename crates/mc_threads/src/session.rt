@@ -3,7 +3,7 @@ ghost use Rattle.mc_command.specs.declared.rules.Rules.{Rules};
 ghost use Rattle.std.specs.Prelude.{◌≡◌, ◌<◌, ◌↔◌, ◌⊎◌, ℕ, Some, IfOk, IsSomeAnd, IsTrue, OnErr, OnOk, length};
 ghost use Rattle.std.specs.Bool.{OnFalse, OnTrue};
 ghost use Rattle.mc_sizes.specs.Sizes.{SuitLines, rules_of};
-ghost use Rattle.mc_seat.specs.Place.{no_place};
+ghost use Rattle.mc_seat.specs.Place.{unbegun};
 ghost use Rattle.mc_threads.specs.Routes.{AreOnRoutes, IsUpToDate};
 
 use crate::shard_link::ShardLink;
@@ -73,7 +73,7 @@ impl<T: Warrant + Drop, C: Clerk<T> + Drop> Session<T, C> {
     ghost use Rattle.mc_threads.specs.Ending.{EndsOne, StandsStill};
     ghost use Rattle.mc_threads.specs.Serving.{AreCalled, IsIdle};
     ghost use Rattle.mc_threads.specs.Records.{RecordsPastOf};
-    ghost use Rattle.mc_threads.specs.Session.{IsLineAt, IsRuled, IsServingLine, IsVacant, MayStep, StepSays, seat_ends, seat_ring};
+    ghost use Rattle.mc_threads.specs.Session.{IsLineAt, IsRuled, IsServingLine, IsVacant, MayStep, StepSays, seat_clerk, seat_ends, seat_ring, session_history};
 
     /// A seat that serves no line yet, with a clerk whose record is of these ends of its channels.
     /// The wakers are those of the shards.
@@ -94,6 +94,9 @@ impl<T: Warrant + Drop, C: Clerk<T> + Drop> Session<T, C> {
         ensures ends { IfOk result (λ session. seat_ends session ≡ ends) }
         ensures ring { IfOk result (λ session. seat_ring session ≡ sizes.ring) }
         ensures ruled { IfOk result (λ session. IsRuled (rules_of sizes) session) }
+        ensures clerk { IfOk result (λ session. seat_clerk session ≡ clerk) }
+        ensures history { IfOk result
+            (λ session. session_history session ≡ (C.route clerk 0).name) }
     {
         let shard_link = ShardLink::new(alloc, ends, clerk, shards, sizes.ring)?;
         Ok(Session {
@@ -104,14 +107,14 @@ impl<T: Warrant + Drop, C: Clerk<T> + Drop> Session<T, C> {
         })
     }
 
-    /// Begins to serve a line, as the next connection of the slot. Where memory for its room is
-    /// refused nothing has changed, and it may be tried again.
+    /// Begins to serve a line of the slot's history, as the next connection of the slot. Where memory
+    /// for its room is refused nothing has changed, and it may be tried again.
     pub fn begin<L: Transport<Warrant = T>, K: Clock>(
         &mut self,
         line: &mut L,
         clock: &K,
     ) -> Result<(), AllocError>
-        requires new { L.place line.old ≡ no_place }
+        requires new { L.place line.old ≡ unbegun (session_history self.old) }
         ensures serving { OnOk result
             ((rules : Rules) (window : ℕ) (begin : Sight) → IsVacant rules window self.old →
             IsServingLine (length (seat_ends self.old).channels) rules
@@ -122,7 +125,7 @@ impl<T: Warrant + Drop, C: Clerk<T> + Drop> Session<T, C> {
         ensures sight { L.sight line.new ≡ L.sight line.old }
         ensures refused { OnErr result (self.new ≡ self.old) }
         ensures unplaced { OnErr result (L.place line.new ≡ L.place line.old) }
-        ensures ruled { (rules : Rules) → IsRuled rules self.old → IsRuled rules self.new }
+        ensures history { session_history self.new ≡ session_history self.old }
         ensures ends { seat_ends self.new ≡ seat_ends self.old }
         ensures ring { seat_ring self.new ≡ seat_ring self.old }
     {
@@ -176,7 +179,7 @@ impl<T: Warrant + Drop, C: Clerk<T> + Drop> Session<T, C> {
         ensures line { (rules : Rules) (begin : Sight) →
             IsLineAt rules (L.place line.old) begin self.old →
             IsLineAt rules (L.place line.new) begin self.new }
-        ensures ruled { (rules : Rules) → IsRuled rules self.old → IsRuled rules self.new }
+        ensures history { session_history self.new ≡ session_history self.old }
     {
         let Some(buffered_conn) = &mut self.buffered_conn else {
             unreachable!()
@@ -198,7 +201,7 @@ impl<T: Warrant + Drop, C: Clerk<T> + Drop> Session<T, C> {
             IsVacant told.rules told.window self.new }
         ensures ends { seat_ends self.new ≡ seat_ends self.old }
         ensures ring { seat_ring self.new ≡ seat_ring self.old }
-        ensures ruled { (rules : Rules) → IsRuled rules self.old → IsRuled rules self.new }
+        ensures history { session_history self.new ≡ session_history self.old }
     {
         let Some(buffered_conn) = &mut self.buffered_conn else {
             return true;
@@ -220,14 +223,18 @@ impl<T: Warrant + Drop, C: Clerk<T> + Drop> Session<T, C> {
         ensures ended { OnTrue result (EndsOne shard (seat_ends self.old) (seat_ends self.new)) }
         ensures full { OnFalse result (StandsStill (seat_ends self.old) (seat_ends self.new)) }
         ensures ring { seat_ring self.new ≡ seat_ring self.old }
-        ensures ruled { (rules : Rules) → IsRuled rules self.old → IsRuled rules self.new }
+        ensures history { session_history self.new ≡ session_history self.old }
+        // What the clerk has recorded stays: an End is no work.
+        ensures recorded { (ends : Ends Near) → RecordsPastOf self.old.shard_link ends →
+            RecordsPastOf self.new.shard_link ends }
     {
         self.shard_link.end_channel(shard)
     }
 
-    /// The seat's ends of its channels, once it serves no more.
-    pub fn into_ends(self) -> SeatEnds<T>
-        ensures { result ≡ seat_ends self }
+    /// The clerk, once the seat serves no more. Its ends of its channels are dropped.
+    pub fn into_clerk(self) -> C
+        ensures clerk { result ≡ seat_clerk self }
+        ensures routes { C.keeps → AreOnRoutes (C.route result) (seat_ends self) }
     {
         let Session {
             shard_link,
@@ -235,6 +242,6 @@ impl<T: Warrant + Drop, C: Clerk<T> + Drop> Session<T, C> {
             sizes: _sizes,
             buffered_conn: _buffered_conn,
         } = self;
-        shard_link.into_ends()
+        shard_link.into_clerk()
     }
 }

@@ -3,7 +3,7 @@ ghost use Rattle.mc_command.specs.declared.rules.Rules.{Rules};
 ghost use Rattle.std.specs.Prelude.{◌≡◌, ◌<◌, ◌==◌, ◌⊎◌, ℕ, [], false, true, IfOk, IsTrue, length};
 ghost use Rattle.std.specs.Bool.{OnFalse, OnTrue};
 ghost use Rattle.std.specs.List.{list_all};
-ghost use Rattle.mc_seat.specs.Place.{no_place};
+ghost use Rattle.mc_seat.specs.Place.{unbegun};
 ghost use Rattle.mc_threads.specs.Credit.{AreWithin};
 ghost use Rattle.mc_threads.specs.Routes.{AreOnRoutes};
 ghost use Rattle.mc_threads.specs.Serving.{AreCalled};
@@ -82,9 +82,9 @@ impl<T: Warrant + Drop, C: Clerk<T> + Drop> ShardLink<T, C> {
         })
     }
 
-    /// Has the clerk record that a line begins, and shows it to the line.
+    /// Has the clerk record that a line of its history begins, and shows it to the line.
     pub(crate) fn begin_line<L: Transport<Warrant = T>>(&mut self, line: &mut L)
-        requires new { L.place line.old ≡ no_place }
+        requires new { L.place line.old ≡ unbegun (C.route self.old.clerk 0).name }
         ensures begins { (before : Ends Near) (told : Told) → told.taken ≡ [] →
             told.accepted ≡ [] → told.shards ≡ length before.channels →
             RecordsPastOf self.old before →
@@ -320,12 +320,13 @@ impl<T: Warrant + Drop, C: Clerk<T> + Drop> ShardLink<T, C> {
         buffered_conn.go_on(line, clock, pool, &seen)
     }
 
-    /// The seat's ends of its channels, once it serves no more.
-    pub(crate) fn into_ends(self) -> SeatEnds<T>
-        ensures { result ≡ self.ends }
+    /// The clerk, once the seat serves no more.
+    pub(crate) fn into_clerk(self) -> C
+        ensures clerk { result ≡ self.clerk }
+        ensures routes { C.keeps → AreOnRoutes (C.route result) self.ends }
     {
-        let ShardLink { ends, .. } = self;
-        ends
+        let ShardLink { clerk, .. } = self;
+        clerk
     }
 
     /// Sends the shard the End of its channel if there is room, and returns whether it did.
@@ -335,6 +336,8 @@ impl<T: Warrant + Drop, C: Clerk<T> + Drop> ShardLink<T, C> {
         ensures full { OnFalse result (StandsStill self.old.ends self.new.ends) }
         ensures places { self.new.places ≡ self.old.places }
         ensures route { C.route self.new.clerk ≡ C.route self.old.clerk }
+        ensures recorded { (ends : Ends Near) → RecordsPastOf self.old ends →
+            RecordsPastOf self.new ends }
     {
         let token = self.clerk.token();
         match self.ends.send_with(shard, Request::End, token) {

@@ -1,5 +1,5 @@
 -- Nothing was taken of the line yet.
-use Rattle.mc_threads.proofs.Placing.{ruled_same, ruled_then}
+use Rattle.mc_threads.proofs.Placing.{history_then, ruled_same}
 use Rattle.mc_threads.proofs.Serving.{serves_first}
 use Rattle.mc_threads.proofs.session.Session.begin.Goals as goal
 
@@ -16,7 +16,7 @@ returns-clause-line g c rules ruled =
     c.begin_line.ensures.line rules
     (ruled_same c.args.self.now.shard_link _ rules c.in_ok-buffered_conn.ensures.shard_link ruled)
 
-pub returns-clause-ruled : goal.returns-clause-ruled
-returns-clause-ruled g c rules ruled =
-    ruled_then c.args.self.now.shard_link _ c.begin_line.new.self rules c.in_ok-buffered_conn.ensures.shard_link
-    c.begin_line.ensures.route ruled
+pub returns-clause-history : goal.returns-clause-history
+returns-clause-history g c =
+    history_then c.args.self.now.shard_link _ c.begin_line.new.self c.in_ok-buffered_conn.ensures.shard_link
+    c.begin_line.ensures.route

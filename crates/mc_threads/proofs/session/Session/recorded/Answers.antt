@@ -14,3 +14,6 @@ returns-clause-vacant g c =
 
 pub returns-clause-ruled : goal.returns-clause-ruled
 returns-clause-ruled g c keeps = rw c.in_ok-shard_link.ensures.clerk (ap rules_of (sym (c.requires.named keeps)))
+
+pub returns-clause-history : goal.returns-clause-history
+returns-clause-history g c = rw c.in_ok-shard_link.ensures.clerk refl

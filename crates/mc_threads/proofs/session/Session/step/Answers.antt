@@ -2,7 +2,7 @@
 use Rattle.std.proofs.Common.{refl, sym, subst}
 use Rattle.mc_seat.specs.Place.{Place}
 use Rattle.mc_threads.specs.Records.{IsLineOf}
-use Rattle.mc_threads.proofs.Placing.{line_kept, ruled_route}
+use Rattle.mc_threads.proofs.Placing.{history_route, line_kept}
 use Rattle.mc_threads.proofs.Sessions.{some_is, steps_on}
 use Rattle.mc_threads.specs.Service.{IsServedBy}
 use Rattle.mc_threads.proofs.session.Session.step.Goals as goal
@@ -24,6 +24,6 @@ returns-clause-line g c rules begin line =
     subst (λ (place : Place). IsLineOf c.step.new.self rules place begin) (sym c.step.ensures.place)
     (line_kept c.args.self.now.shard_link c.step.new.self rules _ begin c.step.ensures.kept line)
 
-pub returns-clause-ruled : goal.returns-clause-ruled
-returns-clause-ruled g c rules ruled =
-    ruled_route c.args.self.now.shard_link c.step.new.self rules c.step.ensures.kept.route ruled
+pub returns-clause-history : goal.returns-clause-history
+returns-clause-history g c =
+    history_route c.args.self.now.shard_link c.step.new.self c.step.ensures.kept.route
