@@ -1,8 +1,9 @@
 -- The history of a source: the lines that it accepts and takes back.
 use Rattle.std.specs.Prelude.{ℕ, ◌≡◌, Bool, true, List, [], ◌∷◌, ◌++◌, Option, Some, None, map}
 use Rattle.mc_wire.specs.Sink.{Sight}
+use Rattle.mc_ring.specs.Route.{Name}
 use Rattle.mc_seat.specs.Explains.{LineTold}
-use Rattle.mc_seat.specs.Place.{Place, no_place}
+use Rattle.mc_seat.specs.Place.{Place, unbegun}
 use Rattle.mc_doors.specs.declared.connection_source.Accept.{Accept}
 use Rattle.mc_doors.specs.declared.connection_source.Accept.TheVariants as arrival
 
@@ -59,11 +60,11 @@ Arrives sight (arrival.Came line) old new = IsNext (sight line) old × (new ≡ 
 Arrives sight arrival.NotYet old new = new ≡ old
 Arrives sight arrival.Over old new = (new ≡ closed old) × IsDone old
 
--- The line that came has not begun.
-abbrev pub IsUnplaced : {L : Type 0} → (L → Place) → Accept L → Type 0
-IsUnplaced place (arrival.Came line) = place line ≡ no_place
-IsUnplaced place arrival.NotYet = Unit {0}
-IsUnplaced place arrival.Over = Unit {0}
+-- The line that came is of this history, and has not begun.
+abbrev pub IsUnbegun : {L : Type 0} → Name → (L → Place) → Accept L → Type 0
+IsUnbegun history place (arrival.Came line) = place line ≡ unbegun history
+IsUnbegun history place arrival.NotYet = Unit {0}
+IsUnbegun history place arrival.Over = Unit {0}
 
 -- These lines came, of those that were to come, if they are known.
 abbrev pub Comes : Option (List Sight) → List Sight → Option (List Sight) → Type 0

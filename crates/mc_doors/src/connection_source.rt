@@ -1,6 +1,7 @@
 //! The source of a slot's lines, one at a time, to which they are returned.
 ghost use Rattle.std.specs.Prelude.{◌≡◌};
-ghost use Rattle.mc_doors.specs.Told.{Arrives, IsUnplaced, SourceTold, took_back};
+ghost use Rattle.mc_ring.specs.Route.{Name};
+ghost use Rattle.mc_doors.specs.Told.{Arrives, IsUnbegun, SourceTold, took_back};
 
 use mc_seat::Transport;
 
@@ -20,15 +21,19 @@ pub trait ConnectionSource {
     /// The type of the lines.
     type Transport: Transport + Drop;
 
-    /// Its history, for contracts.
+    // Its lines, as contracts see them.
     ghost told: { Self → SourceTold };
+
+    // The history of which its lines are.
+    ghost history: { Self → Name };
 
     /// Returns the next line, if there is one. Never blocks.
     fn accept(&mut self) -> Accept<Self::Transport>
         ensures told { Arrives (λ line. Self.Transport.sight line) result (told self.old)
             (told self.new) }
         // It has not begun.
-        ensures new { IsUnplaced (λ line. Self.Transport.place line) result };
+        ensures new { IsUnbegun (history self.old) (λ line. Self.Transport.place line) result }
+        ensures history { history self.new ≡ history self.old };
 
     /// Ends the output of the line that is out, since memory to serve it is refused. Nothing is
     /// read or written. Returns whether the slot is woken again after a pause, so that it may wait.
@@ -36,10 +41,12 @@ pub trait ConnectionSource {
     fn give_up(&mut self, line: &mut Self::Transport) -> bool
         ensures told { told self.new ≡ told self.old }
         ensures line { Self.Transport.sight line.new ≡ Self.Transport.sight line.old }
-        ensures place { Self.Transport.place line.new ≡ Self.Transport.place line.old };
+        ensures place { Self.Transport.place line.new ≡ Self.Transport.place line.old }
+        ensures history { history self.new ≡ history self.old };
 
     /// Takes back the line that was served: the number of commands, and whether it failed.
     fn give_back(&mut self, line: Self::Transport, commands: u64, broke: bool)
-        ensures { told self.new ≡
-            took_back (Self.Transport.sight line) commands broke (told self.old) };
+        ensures told { told self.new ≡
+            took_back (Self.Transport.sight line) commands broke (told self.old) }
+        ensures history { history self.new ≡ history self.old };
 }

@@ -1,7 +1,7 @@
 //! A source in memory for a single line, which it keeps after it was served.
 ghost use Rattle.std.specs.Prelude.{◌≡◌, IfSome};
 ghost use Rattle.std.specs.Option.{ForSome};
-ghost use Rattle.mc_seat.specs.Place.{no_place};
+ghost use Rattle.mc_seat.specs.Place.{unbegun};
 
 use crate::connection_source::{Accept, ConnectionSource};
 use mc_seat::Transport;
@@ -36,6 +36,8 @@ impl<L: Drop> ReturnedLine<L> {
 /// A source for one line, which waits, is being served, or was returned.
 #[derive(Drop)]
 pub struct SingleSource<L: Transport> {
+    /// A token of the line's history.
+    history: Snapshot<L::Warrant>,
     waits: Option<L>,
     /// The line being served, in the state in which it was accepted.
     out: Option<Snapshot<L>>,
@@ -43,19 +45,21 @@ pub struct SingleSource<L: Transport> {
     /// `accept` has returned `Over`.
     over: bool,
     // The line that waits has not begun.
-    ghost new: { ForSome waits (λ line. L.place line ≡ no_place) },
+    ghost new: { ForSome waits (λ line. L.place line ≡ unbegun (L.Warrant.name history.value)) },
 }
 
 impl<L: Transport + Drop> SingleSource<L> {
     ghost use Rattle.mc_doors.specs.One.{IsBack, told_of, waits};
 
-    /// A source with this line, which has not begun.
-    pub fn new(line: L) -> SingleSource<L>
-        requires { L.place line ≡ no_place }
-        ensures { told_of (λ line. L.sight line) result ≡
+    /// A source with this line of the token's history, which has not begun.
+    pub fn new(line: L, history: &L::Warrant) -> SingleSource<L>
+        requires { L.place line ≡ unbegun (L.Warrant.name history.now) }
+        ensures told { told_of (λ line. L.sight line) result ≡
             waits (L.sight line) }
+        ensures history { L.Warrant.name result.history.value ≡ L.Warrant.name history.now }
     {
         SingleSource {
+            history: Snapshot::of(history),
             waits: Some(line),
             out: None,
             back: None,
@@ -84,6 +88,8 @@ impl<L: Transport + Drop> ConnectionSource for SingleSource<L> {
 
     ghost told = { λ source.
         told_of (λ line. L.sight line) source };
+
+    ghost history = { λ source. L.Warrant.name source.history.value };
 
     fn accept(&mut self) -> Accept<L> {
         if self.back.is_some() || self.out.is_some() {

@@ -3,7 +3,7 @@ ghost use Rattle.std.specs.Prelude.{◌≡◌, ◌^◌, ◌-◌, length, min};
 ghost use Rattle.mc_doors.specs.Arrivals.{CameWary, KeepsContents};
 ghost use Rattle.mc_doors.specs.Tcp.{new_source, sight_of, told_source};
 ghost use Rattle.mc_doors.specs.Beginning.{place_of};
-ghost use Rattle.mc_doors.specs.Told.{Arrives, IsUnplaced, took_back};
+ghost use Rattle.mc_doors.specs.Told.{Arrives, IsUnbegun, took_back};
 
 use crate::arrivals::{Arrivals, NewStream};
 use crate::connection_source::{Accept, ConnectionSource};
@@ -30,6 +30,8 @@ pub struct ClosedConnection<S: Stream, T = ()> {
 pub struct StreamSource<R, A: Arrivals, T = ()> {
     rt: R,
     arrivals: A,
+    /// A token of the history of its lines.
+    history: T,
     /// Whether connections of other protocols are detected and closed, as by memcached's rules. See
     /// docs/DECISIONS.md, P12.
     sniffs_protocol: bool,
@@ -56,6 +58,7 @@ impl<R: Drop, A: Arrivals + Drop, T: Drop> Drop for StreamSource<R, A, T> {
         let StreamSource {
             rt: _rt,
             arrivals: _arrivals,
+            history: _history,
             sniffs_protocol: _sniffs_protocol,
             lingering: _lingering,
             out: _out,
@@ -69,9 +72,10 @@ impl<R: Drop, A: Arrivals + Drop, T: Drop> Drop for StreamSource<R, A, T> {
 }
 
 impl<R: time::Clock, A: Arrivals, T: Warrant + Drop> StreamSource<R, A, T> {
-    /// A source that has accepted nothing yet. The clock of `rt` limits how long a connection
-    /// lingers.
-    pub fn new(rt: R, arrivals: A, sniffs_protocol: bool) -> StreamSource<R, A, T>
+    /// A source that has accepted nothing yet, for lines of this token's history. The clock of `rt`
+    /// limits how long a connection lingers.
+    pub fn new(rt: R, arrivals: A, history: T, sniffs_protocol: bool) -> StreamSource<R, A, T>
+        ensures history { T.name result.history ≡ T.name history }
         ensures sniff_protocol { result.sniffs_protocol ≡ sniffs_protocol }
         ensures told { told_source (A.coming result.arrivals) result.out result.gone.items
             result.is_over ≡
@@ -80,6 +84,7 @@ impl<R: time::Clock, A: Arrivals, T: Warrant + Drop> StreamSource<R, A, T> {
         StreamSource {
             rt,
             arrivals,
+            history,
             sniffs_protocol,
             lingering: None,
             out: None,
@@ -118,6 +123,8 @@ impl<R: time::Clock, A: Arrivals, T: Warrant + Drop> ConnectionSource for Stream
     ghost told = { λ source.
         told_source (A.coming source.arrivals) source.out source.gone.items source.is_over };
 
+    ghost history = { λ source. T.name source.history };
+
     fn accept(&mut self) -> Accept<TcpConnection<A::Stream, T>>
         ensures told { Arrives (λ line. sight_of line) result
             (told_source (A.coming self.old.arrivals) self.old.out self.old.gone.items
@@ -126,7 +133,9 @@ impl<R: time::Clock, A: Arrivals, T: Warrant + Drop> ConnectionSource for Stream
             self.new.is_over) }
         // By memcached's rules other protocols are detected.
         ensures sniff_protocol { CameWary self.old.sniffs_protocol result }
-        ensures new { IsUnplaced (λ line. place_of T.place_at line.begun) result }
+        ensures new { IsUnbegun (T.name self.old.history)
+            (λ line. place_of T.place_at T.name line.begun) result }
+        ensures history { T.name self.new.history ≡ T.name self.old.history }
     {
         if lingers(&self.rt, &self.arrivals, &mut self.lingering) {
             return Accept::NotYet;
@@ -138,7 +147,13 @@ impl<R: time::Clock, A: Arrivals, T: Warrant + Drop> ConnectionSource for Stream
                     meter,
                     is_polled,
                 } = new;
-                let line = TcpConnection::begin(stream, meter, is_polled, self.sniffs_protocol);
+                let line = TcpConnection::begin(
+                    stream,
+                    meter,
+                    is_polled,
+                    self.sniffs_protocol,
+                    &self.history,
+                );
                 self.out = Some(Snapshot::of(&line));
                 self.gave_up = false;
                 Accept::Came(line)
@@ -158,7 +173,9 @@ impl<R: time::Clock, A: Arrivals, T: Warrant + Drop> ConnectionSource for Stream
             told_source (A.coming self.old.arrivals) self.old.out self.old.gone.items
             self.old.is_over }
         ensures line { sight_of line.new ≡ sight_of line.old }
-        ensures place { place_of T.place_at line.new.begun ≡ place_of T.place_at line.old.begun }
+        ensures place { place_of T.place_at T.name line.new.begun ≡
+            place_of T.place_at T.name line.old.begun }
+        ensures history { T.name self.new.history ≡ T.name self.old.history }
     {
         // Once: each end of a socket's output is an event for the poll.
         if !self.gave_up {
@@ -175,6 +192,7 @@ impl<R: time::Clock, A: Arrivals, T: Warrant + Drop> ConnectionSource for Stream
             took_back (sight_of line) commands broke
             (told_source (A.coming self.old.arrivals) self.old.out self.old.gone.items
             self.old.is_over) }
+        ensures history { T.name self.new.history ≡ T.name self.old.history }
         // Nothing more is written to its stream.
         ensures kept { KeepsContents A.Stream.contents line.tap.stream self.new.lingering }
     {

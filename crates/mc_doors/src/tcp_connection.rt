@@ -4,7 +4,7 @@ ghost use Rattle.std.specs.Io.KnownBytes.{Consumes, Keeps};
 ghost use Rattle.std.specs.Io.Slices.{io_slices_bytes};
 ghost use Rattle.mc_wire.specs.Sink.{ReadsIntoRoom, asked, broke, took};
 ghost use Rattle.mc_seat.specs.Lines.{ReadsIfReady};
-ghost use Rattle.mc_seat.specs.Place.{no_place};
+ghost use Rattle.mc_seat.specs.Place.{unbegun};
 ghost use Rattle.mc_doors.specs.Beginning.{place_of};
 ghost use Rattle.mc_doors.specs.Foreign.{EndsWhere};
 ghost use Rattle.mc_doors.specs.Tcp.{ReadsStream, TellsWrite, WritesStream, new_line, sight_of};
@@ -71,13 +71,13 @@ impl<S: Stream + Drop, T: Drop> Drop for TcpConnection<S, T> {
 }
 
 impl<S: Stream, T: Warrant + Drop> TcpConnection<S, T> {
-    /// A line whose stream is tried at each call; nothing was read or written yet. It accepts any
-    /// protocol.
-    pub fn new(stream: S) -> TcpConnection<S, T>
+    /// A line of this token's history, whose stream is tried at each call; nothing was read or
+    /// written yet. It accepts any protocol.
+    pub fn new(stream: S, history: &T) -> TcpConnection<S, T>
         ensures stream { result.tap.stream ≡ stream }
         ensures new { sight_of result ≡ new_line (S.remaining stream) (S.contents stream) }
         ensures serves { result.sniff_protocol ≡ false }
-        ensures unplaced { place_of T.place_at result.begun ≡ no_place }
+        ensures place { place_of T.place_at T.name result.begun ≡ unbegun (T.name history.now) }
     {
         TcpConnection {
             tap: Tap::new(stream),
@@ -91,25 +91,26 @@ impl<S: Stream, T: Warrant + Drop> TcpConnection<S, T> {
             ended: false,
             reads: Log::new(),
             meter: Meter::unwatched(),
-            begun: Beginning::none(),
+            begun: Beginning::none(history),
         }
     }
 
-    /// A line with a meter, and with a poll that reports its events, if `is_polled`; it counts as
-    /// ready at first. It fails once the meter reports it idle. With `sniff_protocol`, first bytes
-    /// of another protocol end the connection and are left unread.
+    /// Such a line with a meter, and with a poll that reports its events, if `is_polled`; it counts
+    /// as ready at first. It fails once the meter reports it idle. With `sniff_protocol`, first
+    /// bytes of another protocol end the connection and are left unread.
     pub fn begin(
         stream: S,
         meter: Meter,
         is_polled: bool,
         sniff_protocol: bool,
+        history: &T,
     ) -> TcpConnection<S, T>
         ensures stream { result.tap.stream ≡ stream }
         ensures new { sight_of result ≡ new_line (S.remaining stream) (S.contents stream) }
         ensures sniff_protocol { result.sniff_protocol ≡ sniff_protocol }
-        ensures unplaced { place_of T.place_at result.begun ≡ no_place }
+        ensures place { place_of T.place_at T.name result.begun ≡ unbegun (T.name history.now) }
     {
-        let mut line = TcpConnection::new(stream);
+        let mut line = TcpConnection::new(stream, history);
         line.is_polled = is_polled;
         line.may_read = !is_polled;
         line.sniff_protocol = sniff_protocol;
@@ -300,7 +301,7 @@ impl<S: Stream, T: Warrant + Drop> Transport for TcpConnection<S, T> {
 
     ghost sight = { sight_of };
 
-    ghost place = { λ line. place_of T.place_at line.begun };
+    ghost place = { λ line. place_of T.place_at T.name line.begun };
 
     fn begin(&mut self, seen: T) {
         let tap = &self.tap;
@@ -317,7 +318,8 @@ impl<S: Stream, T: Warrant + Drop> Transport for TcpConnection<S, T> {
             (take count room.new)) }
         ensures fault { OnErr result
             (Keeps (S.remaining self.old.tap.stream) (S.remaining self.new.tap.stream)) }
-        ensures place { place_of T.place_at self.new.begun ≡ place_of T.place_at self.old.begun }
+        ensures place { place_of T.place_at T.name self.new.begun ≡
+            place_of T.place_at T.name self.old.begun }
     {
         for _ in 0..u64::MAX {
             if let Some(count) = self.read_if_ready(room)? {
@@ -347,7 +349,8 @@ impl<S: Stream, T: Warrant + Drop> Transport for TcpConnection<S, T> {
             (λ given. IfSome given (λ _. self.new.sniff_protocol ≡ false)) }
         ensures waits { IfOk result
             (λ given. IfNone given (self.new.sniff_protocol ≡ self.old.sniff_protocol)) }
-        ensures place { place_of T.place_at self.new.begun ≡ place_of T.place_at self.old.begun }
+        ensures place { place_of T.place_at T.name self.new.begun ≡
+            place_of T.place_at T.name self.old.begun }
     {
         let may_read = self.may_read;
         if self.failed || self.lapses(may_read) {
@@ -388,7 +391,8 @@ impl<S: Stream, T: Warrant + Drop> Transport for TcpConnection<S, T> {
         // Exactly the bytes reported were written to the stream.
         ensures stream { WritesStream bytes.now result (S.contents self.old.tap.stream)
             (S.contents self.new.tap.stream) }
-        ensures place { place_of T.place_at self.new.begun ≡ place_of T.place_at self.old.begun }
+        ensures place { place_of T.place_at T.name self.new.begun ≡
+            place_of T.place_at T.name self.old.begun }
     {
         let may_write = self.may_write;
         if self.failed || self.lapses(may_write) {
@@ -417,7 +421,8 @@ impl<S: Stream, T: Warrant + Drop> Transport for TcpConnection<S, T> {
         // Exactly the bytes reported were written to the stream.
         ensures stream { WritesStream (io_slices_bytes bufs.now) result
             (S.contents self.old.tap.stream) (S.contents self.new.tap.stream) }
-        ensures place { place_of T.place_at self.new.begun ≡ place_of T.place_at self.old.begun }
+        ensures place { place_of T.place_at T.name self.new.begun ≡
+            place_of T.place_at T.name self.old.begun }
     {
         let may_write = self.may_write;
         if self.failed || self.lapses(may_write) {

@@ -9,6 +9,7 @@ abbrev pub invariant-loop : goal.invariant-loop
 invariant-loop g l = record {
   sight : sight_of l.self ≡ sight_of l.initial.self;
   stream : Keeps (g.S.Stream.remaining l.initial.self.tap.stream) (g.S.Stream.remaining l.self.tap.stream);
-  place : place_of g.T.Warrant.place_at l.self.begun ≡ place_of g.T.Warrant.place_at l.initial.self.begun;
+  place : place_of g.T.Warrant.place_at g.T.Token.name l.self.begun
+      ≡ place_of g.T.Warrant.place_at g.T.Token.name l.initial.self.begun;
   room : length l.room ≡ length l.initial.room;
 }
