@@ -1,4 +1,4 @@
--- What a connection was told stays true where only what its shards were sent and answered has changed.
+-- What is so of a connection stays true where only what its shards were sent and answered has changed.
 use Rattle.std.proofs.Common.{◌≡◌, ℕ, Bool, List, take, sym, subst, ◌∙◌, arith}
 use Rattle.mc_wire.specs.Sink.{Sight}
 use Rattle.mc_ring.specs.Reply.{Shown}

@@ -130,7 +130,7 @@ pub record PassesOn (front after : List ℕ) (count left : ℕ) : Type 0 where
   pub within : left ≤ length after
   pub same : drop left after ≡ drop count (front ++ after)
 
--- To pass more bytes than the front has is to pass the rest of them in what stands behind the front.
+-- To pass more bytes than the front has is to pass the rest of them in what is behind the front.
 pub passes_on : (front after : List ℕ) (count : ℕ) → length front < count → count ≤ length (front ++ after)
     → PassesOn front after count (count - length front)
 passes_on front after count more within =

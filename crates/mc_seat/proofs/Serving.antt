@@ -156,7 +156,7 @@ takes_next {may_show} received may_answer begin now told rounds buffered_conn co
           moment ticket may opens later_is some.serves;
     }
 
--- the same, of the connection as it is now, for this reason
+-- No more are taken of the connection as it is now, for this reason.
 stops_now : (received : ℕ → List Shown) (may_answer : ℕ → Type 0) (begin now : Sight) (told : Told)
     (buffered_conn : BufferedConn) (conn : Conn) (stop : Took) (rounds : ℕ)
     (some : TakesSome received may_answer begin now told rounds buffered_conn)

@@ -1,4 +1,4 @@
--- What stands between a line and its connection stays, step by step.
+-- What is between a line and its connection stays, step by step.
 use Rattle.std.proofs.Common.{◌≡◌, ℕ, ◌≤◌, Bool, true, false, List, [], ◌∷◌, ◌++◌, length, take, Option, Some, None}
 use Rattle.std.proofs.Common.{refl, sym, ap, ◌∙◌, arith, append_assoc, append-nil, length-append}
 use Rattle.std.specs.List.{AllByRecursion}
@@ -19,7 +19,7 @@ pub with_reads-nil : (reads : Option (List Read)) → with_reads reads [] ≡ re
 with_reads-nil None = refl
 with_reads-nil (Some reads) = ap (λ rs. Some rs) (append-nil reads)
 
--- The reads that are told, and then more, and more.
+-- The reads that are noted, and then more, and more.
 pub with_reads-append : (before : Option (List Read)) (reads more : List Read)
     → with_reads (with_reads before reads) more ≡ with_reads before (reads ++ more)
 with_reads-append None reads more = refl
@@ -101,7 +101,7 @@ stands_over weaker read_is ended_is open_is same_taken same_reads stands = recor
   owes_nothing = λ f. stands.owes_nothing (weaker f);
 }
 
--- every command of the bytes read was taken, and its reply is written out: the line was asked for more
+-- every command of the bytes read was taken, and its reply is written out: more is requested of the line
 pub stands_asked : (rules : Rules) (fits : Type 0) (begin before : Sight) (fed : List ℕ) (ended : Bool)
     (taken : List Taken) (texts : List (List ℕ)) → AreCommands rules fed (commands_of taken)
     → (fits → length texts ≡ length taken) →

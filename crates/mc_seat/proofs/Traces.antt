@@ -1,4 +1,4 @@
--- The bytes that a line took, as far as it tells them.
+-- The bytes that a line took, as far as they are counted.
 use Rattle.std.proofs.Common.{◌≡◌, ℕ, ◌+◌, ◌-◌, ◌≤◌, List, ◌++◌, length, take, length-append, refl, sym, ap, ◌∙◌, arith}
 use Rattle.std.proofs.lemmas.List.{length-take, take_at}
 use Rattle.std.proofs.Math.Seq.{take-append-add}

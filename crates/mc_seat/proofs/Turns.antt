@@ -151,7 +151,7 @@ asks received begin before unread told all complete empty serving =
     (handed_texts (all_handed told)) all (λ f. ap length (handed_all told) ∙ complete f)
     (rw (none_in unread empty) at serving)
 
--- it was asked for more, and failed
+-- more was requested of it, and it failed
 fails_at : (begin before now : Sight) (reads : List Read) → before.reads ≡ with_reads begin.reads reads
     → (before.ended ≡ true → begin.ended ≡ true) → now ≡ broke (asked before) → FailsAtRead begin now
 fails_at begin before now reads reads_are open_is fails =

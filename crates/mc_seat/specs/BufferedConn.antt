@@ -23,7 +23,8 @@ pub record IsNew (shards : ℕ) (rules : Rules) (window : ℕ) (buffered_conn : 
   pub none_waits : text_in buffered_conn.unwritten ≡ []
   pub none_taken : buffered_conn.commands ≡ 0
 
--- The line is being served; it began so and is so now, its connection was told this, and these replies were received.
+-- The line is being served; it began so and is so now. This came in at its connection and went out, and these replies
+-- were received.
 pub record IsServing (received : ℕ → List Shown) (may_answer : ℕ → Type 0) (begin now : Sight) (told : Told)
     (buffered_conn : BufferedConn) : Type 0 where
   pub conn_is : IsConn buffered_conn.conn told
@@ -44,7 +45,7 @@ pub record HasStopped (received : ℕ → List Shown) (may_answer : ℕ → Type
   pub serves : IsServing received may_answer begin now told buffered_conn
   pub stops : StopsAt buffered_conn.stop told
 
--- what is told once more bytes were fed, more replies handed out and more commands taken
+-- what has come in and gone out once more bytes were fed, more replies handed out and more commands taken
 abbrev pub told_on : Told → List ℕ → Bool → ℕ → List Taken → Told
 told_on told fed ended handed taken = record told { fed = fed; ended = ended; handed = handed; taken = taken }
 

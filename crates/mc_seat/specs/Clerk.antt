@@ -28,8 +28,8 @@ pub record AddsWork (shards shard : ℕ) (taken later : List Taken) (work more :
   pub due_is : due shards shard later ≡ due shards shard taken ++ added
   pub work_is : more ≡ work ++ added
 
--- The record is of a connection that was told this, since the ends were as before: its commands are recorded, but for
--- the last ones; on each channel the work is what was sent before and what is due for them, and the replies received
+-- The record is of a connection at which this came in and went out, since the ends were as before: its commands are
+-- recorded, but for the last ones; on each channel the work is what was sent before and what is due for them, and the replies received
 -- are answers of the record; and each is the answer to the piece in its place.
 pub record IsKept (work : ℕ → List Piece) (taken : List Taken) (answers : ℕ → List Shown) (before : Ends Near)
     (told : Told) (received : ℕ → List Shown) : Type 0 where
@@ -51,7 +51,7 @@ pub record IsAnsweredNext (work : List Piece) (told : Told) (shard : ℕ) (recei
 -- took, and the answers. What is seen of the line was so at its beginning, and is so now.
 pub record IsOwed (sizes : Sizes) (work : ℕ → List Piece) (taken : List Taken) (answers : ℕ → List Shown)
     (begin now : Sight) (bytes : List ℕ) : Type 0 where
-  -- what the connection was told, and the replies received for it, on ends that were so before it
+  -- what came in at the connection and went out, and the replies received for it, on ends that were so before it
   pub told : Told
   pub before : Ends Near
   pub received : ℕ → List Shown

@@ -5,11 +5,11 @@ use Rattle.mc_seat.specs.declared.write_buffer.Chunk.{Chunk}
 use Rattle.mc_seat.specs.declared.write_buffer.WriteBuffer.{WriteBuffer}
 use Rattle.mc_seat.specs.Chunks.{bytes_of}
 
--- what stands behind the front, and then the tail
+-- what is behind the front, and then the tail
 abbrev pub behind : WriteBuffer → List ℕ
 behind unwritten = flat_map bytes_of unwritten.later.items ++ unwritten.tail.items
 
--- what is left of the front, then what stands behind it, and then the tail
+-- what is left of the front, then what is behind it, and then the tail
 abbrev pub text_in : WriteBuffer → List ℕ
 text_in unwritten = drop unwritten.sent (bytes_of unwritten.front) ++ behind unwritten
 
@@ -20,7 +20,7 @@ piece_behind [] tail (suc place) = []
 piece_behind (chunk ∷ chunks) tail zero = bytes_of chunk
 piece_behind (chunk ∷ chunks) tail (suc place) = piece_behind chunks tail place
 
--- how much stands behind the front: the chunks, each as one, and the bytes of the tail
+-- how much is behind the front: the chunks, each as one, and the bytes of the tail
 abbrev pub ahead : WriteBuffer → ℕ
 ahead unwritten = length unwritten.later.items + length unwritten.tail.items
 

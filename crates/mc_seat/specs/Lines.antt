@@ -9,13 +9,13 @@ ReadsIfReady room (Ok (Some count)) old new = new ≡ gave (take count room) (as
 ReadsIfReady room (Ok None) old new = new ≡ old
 ReadsIfReady room (Err fault) old new = new ≡ broke (asked old)
 
--- the number of bytes, as far as it is told
+-- the number of bytes, as far as it is counted
 abbrev pub told : Trace → ℕ
 told Untold = 0
 told (Counted count) = count
 told (Listed bytes) = length bytes
 
--- The line has taken all the bytes that it had taken, as far as it tells how many they are.
+-- The line has taken all the bytes that it had taken, as far as they are counted.
 abbrev pub HasGrown : Sight → Sight → Type 0
 HasGrown old new = told old.taken ≤ told new.taken
 

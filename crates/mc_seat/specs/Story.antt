@@ -17,7 +17,8 @@ abbrev pub WritesTexts : Bool → List ℕ → List (List ℕ) → Type 0
 WritesTexts broke written texts =
     MatchBool broke ((rest : List ℕ) × (written ++ rest ≡ concat texts)) (written ≡ concat texts)
 
--- It failed at a read: it was asked for bytes last, took nothing since, and gave none, though its end was not read.
+-- It failed at a read: the last request was one for bytes, it took nothing since, and gave none, though its end was
+-- not read.
 pub record FailsAtRead (begin now : Sight) : Type 0 where
   pub before : List Read
   pub reads_are : now.reads ≡ with_reads begin.reads (before ++ record { given = now.given; taken = now.taken } ∷ [])

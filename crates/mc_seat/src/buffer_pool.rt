@@ -9,7 +9,7 @@ use std::mem;
 const ROOM: usize = 65_536;
 
 /// A room that bytes are read into, and one that replies are gathered in. A seat takes the first to
-/// read, and gives it back once the bytes were fed; a line has the one for replies until it took
+/// read, and returns it once the bytes were fed; a line has the one for replies until it took
 /// them all. So a line that waits for its client holds none.
 #[derive(Drop)]
 pub struct BufferPool {
@@ -59,7 +59,7 @@ impl BufferPool {
         self.replies.capacity()
     }
 
-    /// Gives the room for replies, and keeps this one in its place.
+    /// Hands the room for replies out, and keeps this one in its place.
     pub(crate) fn exchange(&mut self, room: &mut Vec<u8>)
         requires { room.old.items ≡ [] }
         ensures { room.new.items ≡ [] }

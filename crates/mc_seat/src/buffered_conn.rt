@@ -35,7 +35,8 @@ pub enum LineStep {
 /// What one line is served by, and how far it is with the line.
 pub struct BufferedConn {
     alloc: Global,
-    /// Whoever has the shards, or channels to them, takes its pieces and has them answered there.
+    /// The caller, which has the shards or channels to them, takes its pieces and has them answered
+    /// there.
     pub conn: Conn,
     seat: ReadSide,
     /// Replies that were handed out, and which the line didn't take yet.
@@ -47,7 +48,7 @@ pub struct BufferedConn {
 }
 
 impl Drop for BufferedConn {
-    /// By hand, so that to let one go is one call for whoever holds it (docs/DECISIONS.md).
+    /// By hand, so that to drop one is one call for its holder (docs/DECISIONS.md).
     fn drop(self) {
         let BufferedConn {
             alloc: _alloc,
@@ -141,7 +142,7 @@ impl BufferedConn {
         }
     }
 
-    /// The same, once the line took all replies.
+    /// Goes on once the line took all replies.
     fn go_on_reading<L: Transport, K: Clock>(
         &mut self,
         line: &mut L,

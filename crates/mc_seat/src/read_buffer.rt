@@ -77,7 +77,7 @@ impl ReadBuffer {
         self.start += count;
     }
 
-    /// Lets go of those that are there, and of the room.
+    /// Drops those that are there, and the room.
     pub(crate) fn clear(&mut self)
         ensures { self.new ≡ [] }
     {
@@ -86,7 +86,7 @@ impl ReadBuffer {
         self.end = 0;
     }
 
-    /// Gives the room back, where no bytes stand in it.
+    /// Returns the room to the pool, if no bytes are in it.
     pub(crate) fn give_back(&mut self, pool: &mut BufferPool)
         ensures { self.new ≡ self.old }
     {

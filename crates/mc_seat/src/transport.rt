@@ -12,7 +12,7 @@ use mc_wire::SinkError;
 use std::io::IoSlice;
 use thiserror::Error;
 
-/// A line gives no more bytes: it has failed.
+/// A line has failed: no more bytes are read of it.
 #[derive(Clone, Copy, Debug, Error)]
 #[error("the line has failed: it gives no more bytes")]
 pub struct TransportError;
@@ -22,8 +22,8 @@ pub struct TransportError;
 pub enum Ready {
     /// It may give bytes, or take some.
     Open,
-    /// The same, and its input is at its end, or it has failed: from now on there is always
-    /// something to read.
+    /// It may give bytes, or take some. Its input is at its end, or it has failed: from now on
+    /// there is always something to read.
     Closing,
 }
 
@@ -74,16 +74,16 @@ pub trait Transport {
             Self.Warrant.place_at seen (bytes_seen (Self.sight self.old)) }
         ensures sight { Self.sight self.new ≡ Self.sight self.old };
 
-    /// Reads some bytes into the front of the room, and gives how many: none only at the end of the
-    /// input. At a fault it gives none, and has failed.
+    /// Reads some bytes into the front of the room, and returns how many: none only at the end of the
+    /// input. At a fault it reads none, and has failed.
     fn read(&mut self, room: &mut [u8]) -> Result<usize, TransportError>
         requires { 0 < length room.old }
         ensures within { IfOk result (λ count. count ≤ length room.old) }
         ensures read { ReadsIntoRoom room.new result (Self.sight self.old) (Self.sight self.new) }
         ensures place { Self.place self.new ≡ Self.place self.old };
 
-    /// The same, of a line that may have nothing to give yet: then it gives `None`, and is as it
-    /// was. Where it isn't told how else, a line waits until there is something.
+    /// Reads as `read` does, of a line that may have nothing to give yet: then it returns `None`, and
+    /// is as it was. By default a line waits until there is something.
     fn read_if_ready(&mut self, room: &mut [u8]) -> Result<Option<usize>, TransportError>
         requires { 0 < length room.old }
         ensures within { IfOk result (λ given. IfSome given (λ count. count ≤ length room.old)) }
@@ -94,7 +94,7 @@ pub trait Transport {
         Ok(Some(count))
     }
 
-    /// Takes a beginning of the bytes, and gives how many bytes it took: none where it takes
+    /// Takes a beginning of the bytes, and returns how many bytes it took: none where it takes
     /// nothing now. At a fault it takes none, and has failed. The bytes may be written, by what the
     /// warrant shows.
     fn write_if_ready(&mut self, bytes: &[u8], seen: &Self::Warrant) -> Result<usize, SinkError>
@@ -106,8 +106,8 @@ pub trait Transport {
         ensures err { OnErr result (Self.sight self.new ≡ broke (Self.sight self.old)) }
         ensures place { Self.place self.new ≡ Self.place self.old };
 
-    /// The same of the bytes of all the buffers, one after another. Where it isn't told how else, a
-    /// line is offered the first of them that isn't empty.
+    /// Takes a beginning of the bytes of all the buffers, one after another, as `write_if_ready`
+    /// does. By default a line is offered the first of them that isn't empty.
     fn write_vectored_if_ready(
         &mut self,
         bufs: &[IoSlice<'_>],
@@ -132,7 +132,7 @@ pub trait Transport {
         ensures place { Self.place self.new ≡ Self.place self.old }
     {}
 
-    /// Tells the line that it may give bytes or take some again. Nothing that is seen of it
+    /// Notifies the line that it may give bytes or take some again. Nothing that is seen of it
     /// changes.
     fn rouse(&mut self, _ready: Ready)
         ensures sight { Self.sight self.new ≡ Self.sight self.old }
@@ -140,7 +140,8 @@ pub trait Transport {
     {}
 }
 
-/// Tells the time in seconds since 1970, and to `stats` what it shows of the server then.
+/// Returns the time in seconds since 1970, and reports to `stats` what it shows of the server
+/// then.
 pub trait Clock: StatsSource {
     /// The moments that it may answer.
     ghost may_answer: { Self → ℕ → Type 0 };

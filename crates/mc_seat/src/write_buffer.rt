@@ -18,14 +18,14 @@ use std::sync::ArcSlice;
 /// freed. It holds the replies to a full window of commands, unless these are longer than most.
 const KEPT_TEXT: usize = 262_144;
 
-/// The same of the places for what is written later, in chunks.
+/// The most places for what is written later that a line keeps, in chunks.
 const KEPT_CHUNKS: usize = 64;
 
 /// The room, in bytes, that is there for a line's replies from the beginning, and the most that it
 /// keeps while nothing waits.
 const OWN_ROOM: usize = 1_024;
 
-/// Bytes that lie together.
+/// Bytes that are contiguous.
 #[derive(Drop)]
 pub enum Chunk {
     /// Text that was copied.
@@ -79,7 +79,7 @@ impl WriteBuffer {
         }
     }
 
-    /// The same, with room for small replies, so that they want no memory when they come.
+    /// No replies, with room for small ones, so that they need no memory when they come.
     pub fn with_room(alloc: Global) -> Result<WriteBuffer, AllocError>
         ensures { IfOk result (λ unwritten. text_in unwritten ≡ []) }
     {
@@ -88,7 +88,7 @@ impl WriteBuffer {
         Ok(unwritten)
     }
 
-    /// Lets all replies go, and their memory.
+    /// Drops all replies, and frees their memory.
     pub fn clear(&mut self)
         ensures { text_in self.new ≡ [] }
     {
@@ -104,7 +104,7 @@ impl WriteBuffer {
         }
     }
 
-    /// Gives the thread its room again, once all is written, or another one that is larger than the
+    /// Returns its room to the thread, once all is written, or another one that is larger than the
     /// thread's: so a line at rest has a small one.
     pub fn return_room(&mut self, pool: &mut BufferPool)
         ensures { text_in self.new ≡ text_in self.old }
@@ -127,7 +127,7 @@ impl WriteBuffer {
         self.front.bytes().split_at(self.sent).1
     }
 
-    /// Whether nothing stands behind the front.
+    /// Whether nothing is behind the front.
     fn is_last(&self) -> bool
         ensures { IsTrue result → (self.now.later.items ≡ []) × (self.now.tail.items ≡ []) }
     {
@@ -141,8 +141,7 @@ impl WriteBuffer {
         !self.rest().is_empty()
     }
 
-    /// What stands at `place` behind the front, from 0: a chunk, then the tail, and nothing behind
-    /// that.
+    /// What is at `place` behind the front, from 0: a chunk, then the tail, and then nothing.
     fn piece(&self, place: usize) -> &[u8]
         ensures { result.now ≡ piece_behind self.now.later.items self.now.tail.items place }
     {
@@ -153,9 +152,9 @@ impl WriteBuffer {
         }
     }
 
-    /// Offers a beginning of what waits to the line, which gives how many bytes it took, without
-    /// waiting: what lies together by a plain write, else the rest of the front and at most three
-    /// pieces behind it, in one write. All that waits may be written.
+    /// Offers a beginning of what waits to the line, and returns how many bytes it took, without
+    /// waiting: what is contiguous by a plain write, else the rest of the front and at most three
+    /// pieces after it, in one write. All that waits may be written.
     fn offer<L: Transport>(&self, line: &mut L, seen: &L::Warrant) -> Result<usize, SinkError>
         requires may { L.Warrant.may_write (L.place line.old) (L.sight line.old) (text_in self.now)
             seen.now }
@@ -205,7 +204,7 @@ impl WriteBuffer {
     /// All is written: the front is freed, so that an idle line keeps no share of a value. Its
     /// room of text becomes the tail's, for the next replies, where it is the larger one and not
     /// too large to be kept.
-    fn let_go(&mut self)
+    fn free_front(&mut self)
         requires { (self.old.later.items ≡ []) × (self.old.tail.items ≡ []) }
         ensures { text_in self.new ≡ [] }
     {
@@ -282,7 +281,7 @@ impl WriteBuffer {
                 }
                 self.pass(count);
             } else if self.is_last() {
-                self.let_go();
+                self.free_front();
                 return Ok(true);
             } else {
                 self.go_on();

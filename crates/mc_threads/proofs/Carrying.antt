@@ -341,7 +341,7 @@ channel_within s out all =
     ap length (ap (channel s) (sym (take-append-drop out all)) ∙ channel-append s (take out all) (drop out all)) in
     omega (arith, whole, length-append (channel s (take out all)) (channel s (drop out all)))
 
--- what stands at a place of the counts, of which one was set
+-- what is at a place of the counts, of which one was set
 count_same : (ways : List ℕ) (s count c was : ℕ) → slice_get ways s ≡ Some was → slice_get (slice_set ways s count) s
     ≡ Some c → c ≡ count
 count_same ways s count c was here set = same_Some c count (sym set ∙ get-set_same ways s was count here)

@@ -50,7 +50,7 @@ module _ {T C : Type 0} {w : Warrants T} {g : Ghosts C T} where
   history_then one two three same route =
       history_route two three route ∙ history_route one two (ap (λ (k : ShardLink T C w g). g.route k.clerk) same)
 
-  -- The same clerk's record is for a server by the same rules.
+  -- An equal clerk's record is for a server by the same rules.
   pub ruled_same : (one two : ShardLink T C w g) (rules : Rules) → two ≡ one → IsRuledBy one rules → IsRuledBy two rules
   ruled_same one two rules same ruled =
       ruled_route one two rules (ap (λ (k : ShardLink T C w g). g.route k.clerk) same) ruled

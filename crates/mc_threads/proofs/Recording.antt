@@ -32,7 +32,7 @@ use Rattle.mc_threads.specs.Routes.{AreOnRoutes}
 use Rattle.mc_threads.specs.internal.Carrying.{Carries, MayCarry, carried, sent_to}
 use Rattle.mc_threads.proofs.Carrying.{Hears, Leaves, shard_there, some_shards}
 
--- The same ends have the same routes.
+-- Ends that stay the same keep their routes.
 pub routes_still : (route route' : ℕ → Route) (ends ends' : Ends Near) → route' ≡ route → AreSameEnds ends ends'
     → AreOnRoutes route ends → AreOnRoutes route' ends'
 routes_still route route' ends ends' is same are = rw is (record {
@@ -121,7 +121,7 @@ module _ {T C : Type 0} (g : Ghosts C T) where
         takens ∙ has.1,
       )
 
-  -- the same where nothing has happened to the clerk
+  -- what is recorded where nothing has happened to the clerk
   pub still_recorded : (clerk : C) (before : Ends Near) (told : Told) (received : ℕ → List Shown) (out : ℕ)
       (lent : Bool) → RecordsAll g clerk before told received
       → RecordsAll g clerk before (carried told out lent told.accepted) received

@@ -137,7 +137,7 @@ at_rest : (told : Told) (broke : Bool) (handed : ℕ) → told.out ≡ length (a
 at_rest told true handed sent rest whole = record { sent = sent; done = whole }
 at_rest told false handed sent rest whole = record { sent = sent; done = ((rest refl).0, (rest refl).1 ∙ whole) }
 
--- the same channels carry the same
+-- channels that are the same carry the same
 same_carries : (before ends ends' : Ends Near) (ways ways' : List ℕ) (told : Told) (received : ℕ → List Shown) → ends'
     ≡ ends → ways' ≡ ways → Carries before ends ways told received → Carries before ends' ways' told received
 same_carries before ends ends' ways ways' told received same counts carries = rw (same, counts) carries

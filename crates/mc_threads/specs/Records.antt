@@ -16,7 +16,7 @@ use Rattle.mc_threads.specs.Routes.{IsUpToDate}
 use Rattle.mc_threads.specs.declared.shard_link.ShardLink.{ShardLink}
 
 module _ {T C : Type 0} (g : Ghosts C T) where
-  -- A connection is opened, and the record is of the one that was told this, since the ends were as before.
+  -- A connection is opened, at which this came in and went out, and the record is of it, since the ends were as before.
   abbrev pub RecordsLine : C → Ends Near → Told → (ℕ → List Shown) → Type 0
   RecordsLine clerk before told received =
       g.keeps → g.opened clerk × IsKept (g.work clerk) (g.taken clerk) (g.answers clerk) before told received
@@ -32,7 +32,7 @@ module _ {T C : Type 0} (g : Ghosts C T) where
   RecordsPast clerk ends = g.keeps → IsUpToDate (g.work clerk) (g.answers clerk) ends
 
 module _ {T C : Type 0} {w : Warrants T} {g : Ghosts C T} where
-  -- the same of a shard link's clerk
+  -- what a shard link's clerk has recorded
   abbrev pub RecordsLineOf : ShardLink T C w g → Ends Near → Told → (ℕ → List Shown) → Type 0
   RecordsLineOf shard_link = RecordsLine g shard_link.clerk
 

@@ -28,7 +28,7 @@ pub struct Session<T: Warrant = (), C: Clerk<T> = ()> {
 }
 
 impl<T: Warrant + Drop, C: Clerk<T> + Drop> Drop for Session<T, C> {
-    /// By hand, so that to let one go is one call for whoever holds it (docs/DECISIONS.md).
+    /// By hand, so that to drop one is one call for its holder (docs/DECISIONS.md).
     fn drop(self) {
         let Session {
             alloc: _alloc,

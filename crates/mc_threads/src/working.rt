@@ -25,16 +25,16 @@ pub struct Working<G, T: Token = (), S: Scribe<T> = ()> {
     pub worker: Worker<T, S>,
     gate: Arc<G, Global>,
     seats: Wakers,
-    /// Per seat: a reply was given to it since it was last roused.
+    /// Per seat: a reply was sent to it since it was last woken.
     given: Vec<bool>,
     alloc: Global,
     ghost each_seat: { length given.items ≡ length worker.ends.channels },
-    // Between two turns none is left to be roused.
+    // Between two turns none is left to be woken.
     ghost none_left: { (seat : ℕ) → slice_get given.items seat ≢ Some true },
 }
 
 impl<G: Drop, T: Token + Drop, S: Scribe<T> + Drop> Drop for Working<G, T, S> {
-    /// By hand, so that to let one go is one call for whoever holds it (docs/DECISIONS.md).
+    /// By hand, so that to drop one is one call for its holder (docs/DECISIONS.md).
     fn drop(self) {
         let Working {
             worker: _worker,
@@ -68,9 +68,9 @@ impl<G: Gate + Drop, T: Token + Drop, S: Scribe<T> + Drop> Working<G, T, S> {
         })
     }
 
-    /// Serves those of the 64 seats from `64 * block` on that have a bit, and rouses the seats that
-    /// it gave a reply to; then it shows its shard to the gate. It gives a bit for each of them
-    /// whose channel may hold more.
+    /// Serves those of the 64 seats from `64 * block` on that have a bit, and wakes the seats that it
+    /// sent a reply to; then it shows its shard to the gate. It returns a bit for each of them whose
+    /// channel may hold more.
     pub fn turn(&mut self, block: usize, called: u64) -> u64
         ensures { Goes self.old.worker self.new.worker }
     {
@@ -87,8 +87,8 @@ impl<G: Gate + Drop, T: Token + Drop, S: Scribe<T> + Drop> Working<G, T, S> {
         more
     }
 
-    /// Serves the seat, where there is one of this number, and rouses each seat that a reply was
-    /// given to. It marks the seat in the word where its channel may hold more. Whether there was
+    /// Serves the seat, where there is one of this number, and wakes each seat that a reply was sent
+    /// to. It marks the seat in the word where its channel may hold more. Whether there was
     /// anything to do.
     fn serve_seat(&mut self, seat: usize, more: &mut u64) -> bool
         ensures goes { Goes self.old.worker self.new.worker }
@@ -109,8 +109,8 @@ impl<G: Gate + Drop, T: Token + Drop, S: Scribe<T> + Drop> Working<G, T, S> {
         let served = self
             .worker
             .serve(self.alloc, seat, &*self.gate, &mut self.given);
-        rouse_given(&mut self.given, &self.seats, holder);
-        rouse_given(&mut self.given, &self.seats, Some(seat));
+        wake_given(&mut self.given, &self.seats, holder);
+        wake_given(&mut self.given, &self.seats, Some(seat));
         match served {
             Served::Nothing => false,
             Served::All => true,
@@ -142,8 +142,8 @@ impl<G: Gate + Drop, T: Token + Drop, S: Scribe<T> + Drop> Working<G, T, S> {
     }
 }
 
-/// Rouses the seat, if there is one, where it is marked as given a reply, and takes its mark.
-fn rouse_given(given: &mut [bool], seats: &Wakers, seat: Option<usize>)
+/// Wakes the seat, if there is one, where it is marked as sent a reply, and takes its mark.
+fn wake_given(given: &mut [bool], seats: &Wakers, seat: Option<usize>)
     ensures many { length given.new ≡ length given.old }
     ensures taken { (one : ℕ) → seat ≡ Some one → slice_get given.new one ≢ Some true }
     ensures others { (other : ℕ) → seat ≢ Some other →

@@ -1,4 +1,4 @@
--- What stands between a line and its connection while the line is served.
+-- What is between a line and its connection while the line is served.
 use Rattle.std.specs.Prelude.{ℕ, ◌≡◌, ◌≤◌, Bool, true, false, List, [], ◌++◌, length, take}
 use Rattle.std.specs.List.{AllByRecursion, concat}
 use Rattle.mc_wire.specs.Sink.{with_bytes}
@@ -27,7 +27,7 @@ pub record GaveAndTook (rules : Rules) (fits : Type 0) (begin now : Sight) (unre
 abbrev pub handed_texts : Told → List (List ℕ)
 handed_texts told = take told.handed (all_texts told)
 
--- By what its connection was told, and what the shards sent.
+-- By what came in at its connection and went out, and what the shards sent.
 abbrev pub Serving : (ℕ → List Shown) → Sight → Sight → List ℕ → Told → Type 0
 Serving received begin now unread told =
     GaveAndTook told.rules (KeysFit told.shards told.taken received) begin now unread told.fed told.ended told.taken

@@ -1,4 +1,4 @@
--- The steps of a seat, by what its connection was told.
+-- The steps of a seat, by what came in at its connection and went out.
 use Rattle.std.specs.Prelude.{ℕ, ◌≡◌, ◌≤◌, Bool, true, false, List, length}
 use Rattle.mc_conn.specs.declared.conn.Conn.{Conn}
 use Rattle.mc_conn.specs.declared.conn.Taken.{Taken as Took}
@@ -21,11 +21,11 @@ StopsAt took.NeedMore told = IsAllTaken told × (told.ended ≡ false)
 StopsAt took.Full told = told.window ≤ length told.taken
 StopsAt took.Closed told = IsOver told
 
--- what is told once the replies whose turn has come are handed out
+-- what has come in and gone out once the replies whose turn has come are handed out
 abbrev pub all_handed : Told → Told
 all_handed told = record told { handed = length (all_texts told) }
 
--- The connection was told of the commands taken as before, and more bytes were fed and more replies handed out.
+-- The connection has the commands taken as before, and more bytes were fed and more replies handed out.
 pub record GoesOn (received : ℕ → List Shown) (begin now : Sight) (told : Told) (conn : Conn) (unread : List ℕ) : Type 0
   where
     pub fed : List ℕ
@@ -33,13 +33,13 @@ pub record GoesOn (received : ℕ → List Shown) (begin now : Sight) (told : To
     pub conn_is : IsConn conn (record (all_handed told) { fed = fed; ended = ended })
     pub serving : Serving received begin now unread (record (all_handed told) { fed = fed; ended = ended })
 
--- The replies were handed out, and nothing was read: the connection was told nothing more.
+-- The replies were handed out, and nothing was read: nothing more came in at the connection.
 pub record Rests (received : ℕ → List Shown) (begin now : Sight) (told : Told) (conn : Conn) (unread : List ℕ) : Type 0
   where
     pub conn_is : IsConn conn (all_handed told)
     pub serving : Serving received begin now unread (all_handed told)
 
--- The line was served: what became of it, and what its connection was told.
+-- The line was served: what became of it, and what came in at its connection and went out.
 pub record IsServed (received : ℕ → List Shown) (begin now : Sight) (told : Told) (broke : Bool) (conn : Conn) : Type 0
   where
     pub handed : ℕ

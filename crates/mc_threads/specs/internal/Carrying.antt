@@ -33,7 +33,7 @@ pub record Carries (before now : Ends Near) (under_way : List ℕ) (told : Told)
         ≡ length (sent_to told shard)
     pub serves : Serves told.shards told.taken told.accepted received
 
--- what is told once the first out pieces have left, and these replies were accepted
+-- what has come in and gone out once the first out pieces have left, and these replies were accepted
 abbrev pub carried : Told → ℕ → Bool → List Shown → Told
 carried told out lent accepted = record told { out = out; lent = lent; accepted = accepted }
 
@@ -102,6 +102,6 @@ module _ {T C : Type 0} {w : Warrants T} {g : Ghosts C T} where
   abbrev pub CanCarry : ShardLink T C w g → Conn → Type 0
   CanCarry shard_link conn = MayCarry (RecordsAllOf shard_link) shard_link.ends shard_link.under_way.items conn
 
-  -- The same, where the connection may have taken more than is recorded.
+  -- The shard link and the connection can carry on once more is recorded: the connection may have taken more than is.
   abbrev pub CanRecord : ShardLink T C w g → Conn → Type 0
   CanRecord shard_link conn = MayCarry (RecordsLineOf shard_link) shard_link.ends shard_link.under_way.items conn

@@ -1,4 +1,4 @@
--- The line took the first bytes of what waits, or what stands behind the front becomes the front.
+-- The line took the first bytes of what waits, or what is behind the front becomes the front.
 use Rattle.std.proofs.Common.{◌≡◌, ℕ, ◌≤◌, List, [], ◌++◌, OnErr, Result, Ok, Err, take, drop, refl, sym, ap}
 use Rattle.std.proofs.Common.{subst, ◌∙◌, arith, append_assoc}
 use Rattle.std.specs.Result.{IsErr}

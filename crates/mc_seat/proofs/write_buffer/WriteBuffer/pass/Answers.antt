@@ -1,4 +1,4 @@
--- The rest of the front was passed, and what stands behind it becomes the front.
+-- The rest of the front was passed, and what is behind it becomes the front.
 use Rattle.std.proofs.Common.{◌<◌, ◌∙◌, length, drop}
 use Rattle.mc_seat.specs.Chunks.{bytes_of}
 use Rattle.mc_seat.specs.Later.{behind}
