@@ -17,8 +17,12 @@ use std::sync::Arc;
 pub struct Opening {
     pub recorders: Vec<Recorder>,
     pub clerks: Vec<SeatClerk>,
-    /// Shows the history to lines and channels that are made. It acts for no seat of the server.
+    /// Shows the history to channels that are made. It acts for no seat of the server.
+    pub source: Member,
+    /// Shows the history to lines that are made, and joins it at the end. It acts for no seat of
+    /// the server.
     pub witness: Member,
+    ghost one_history: { source.name ≡ witness.name },
 }
 
 impl Opening {
@@ -31,15 +35,17 @@ impl Opening {
         let history = Arc::new(alloc, history)?;
         let recorders = recorders_of(alloc, &history, &mut actors, sizes.shards)?;
         let clerks = clerks_of(alloc, &history, &mut actors, sizes.seats)?;
+        let source = Member::new(actors.next_seat(&*history), Arc::try_clone(&history)?);
         let witness = Member::new(actors.next_seat(&*history), history);
         Ok(Opening {
             recorders,
             clerks,
+            source,
             witness,
         })
     }
 
-    /// Shows the history, for a line or a channel that is made.
+    /// Shows the history, for a line that is made.
     pub fn show(&mut self) -> Evidence
         ensures name { result.name ≡ self.old.witness.name }
         ensures same { self.new ≡ self.old }
