@@ -1,18 +1,21 @@
 //! One line is served: how often it is read and written, when the clock is read, and what a refused
 //! allocation changes. The worked rows are in the crate mc_rows.
-ghost use Rattle.std.specs.Prelude.{◌≡◌};
-ghost use Rattle.mc_seat.specs.Place.{no_place};
+ghost use Rattle.std.specs.Prelude.{◌≡◌, IfOk};
+ghost use Rattle.mc_seat.specs.Place.{unbegun};
+ghost use Rattle.mc_record.specs.Opening.{IsOpening};
+ghost use Rattle.mc_serving_tests.specs.declared.line.TheConstants.{SIZES};
 
 use crate::asserting::{equal, holds};
 use crate::memory_line::MemoryLine;
 use crate::sizes::SMALL;
 use mc_conn::StatsSource;
+use mc_record::Opening;
 use mc_reply::ServerStats;
 use mc_seat::{Clock, Transport};
 use mc_serve::PlacedLine;
-use mc_server::{FixedClock, LineError, serve_one};
+use mc_server::{FixedClock, LineError, open_one, serve_one};
 use mc_sizes::Sizes;
-use std::alloc::Global;
+use std::alloc::{AllocError, Global};
 use std::cell::Cell;
 use std::random::RandomSource;
 use std::sync::Wait;
@@ -23,16 +26,33 @@ const SIZES: Sizes = Sizes {
     ..SMALL
 };
 
+/// Opens a history for this line.
+fn opened(alloc: Global, line: MemoryLine) -> Result<(Opening, PlacedLine<MemoryLine>), AllocError>
+    ensures opening { IfOk result (λ opened.
+        IsOpening (record SIZES { seats = 1 }) opened.0.recorders.items opened.0.clerks.items
+        opened.0.witness) }
+    ensures new { IfOk result (λ opened.
+        ⟦<PlacedLine<MemoryLine> as Transport>⟧.place opened.1 ≡
+        unbegun opened.0.witness.name) }
+{
+    let (opening, history) = open_one(alloc, SIZES)?;
+    Ok((opening, PlacedLine::new(line, &history)))
+}
+
 /// Serves the line with these sizes. Returns the number of commands, and whether the line broke.
 fn serve<R: RandomSource + Wait, C: Clock>(
     rt: &R,
     alloc: Global,
+    opening: Opening,
     line: &mut PlacedLine<MemoryLine>,
     clock: &C,
 ) -> Result<(u64, bool), LineError>
-    requires { ⟦<PlacedLine<MemoryLine> as Transport>⟧.place line.old ≡ no_place }
+    requires opening { IsOpening (record SIZES { seats = 1 }) opening.recorders.items
+        opening.clerks.items opening.witness }
+    requires new { ⟦<PlacedLine<MemoryLine> as Transport>⟧.place line.old ≡
+        unbegun opening.witness.name }
 {
-    let served = serve_one(rt, alloc, line, SIZES, clock)?;
+    let served = serve_one(rt, alloc, opening, line, SIZES, clock)?;
     Ok((served.commands, served.broke))
 }
 
@@ -40,8 +60,9 @@ fn serve<R: RandomSource + Wait, C: Clock>(
 fn replies_in_one_write(rt: HostRuntime) -> Result<(), Fail> {
     let input =
         b"set a 7 0 2\r\nhi\r\nget a\r\nstats\r\nset b 0 0 1 noreply\r\nx\r\nmn\r\nquit\r\nmn\r\n";
-    let mut line = PlacedLine::new(MemoryLine::new(rt.alloc(), input.as_slice())?);
-    let served = serve(&rt, rt.alloc(), &mut line, &FixedClock(1000))?;
+    let line = MemoryLine::new(rt.alloc(), input.as_slice())?;
+    let (opening, mut line) = opened(rt.alloc(), line)?;
+    let served = serve(&rt, rt.alloc(), opening, &mut line, &FixedClock(1000))?;
     equal(&rt, served, (6, false));
     let output = b"STORED\r\nVALUE a 7 2\r\nhi\r\nEND\r\nERROR\r\nMN\r\n";
     equal(&rt, line.line.output.as_slice(), output.as_slice());
@@ -77,9 +98,10 @@ impl Clock for RisingClock {
 #[test]
 fn a_moment_for_each_command(rt: HostRuntime) -> Result<(), Fail> {
     let input = b"set a 0 3 1\r\nx\r\nget a\r\nget a\r\nget a\r\nquit\r\n";
-    let mut line = PlacedLine::new(MemoryLine::new(rt.alloc(), input.as_slice())?);
+    let line = MemoryLine::new(rt.alloc(), input.as_slice())?;
+    let (opening, mut line) = opened(rt.alloc(), line)?;
     let clock = RisingClock(Cell::new(1000));
-    serve(&rt, rt.alloc(), &mut line, &clock)?;
+    serve(&rt, rt.alloc(), opening, &mut line, &clock)?;
     let output = b"STORED\r\nVALUE a 0 1\r\nx\r\nEND\r\nVALUE a 0 1\r\nx\r\nEND\r\nEND\r\n";
     equal(&rt, line.line.output.as_slice(), output.as_slice());
     Ok(())
@@ -106,8 +128,8 @@ const OUTPUTS: [&[u8]; 9] = [
 
 #[test]
 fn all_is_done_where_memory_is_ample(rt: HostRuntime) -> Result<(), Fail> {
-    let mut line = PlacedLine::new(MemoryLine::new(rt.alloc(), SCRIPT)?);
-    let served = serve(&rt, rt.alloc(), &mut line, &FixedClock(1000))?;
+    let (opening, mut line) = opened(rt.alloc(), MemoryLine::new(rt.alloc(), SCRIPT)?)?;
+    let served = serve(&rt, rt.alloc(), opening, &mut line, &FixedClock(1000))?;
     equal(&rt, served, (10, false));
     equal(&rt, line.line.output.as_slice(), OUTPUTS[0]);
     Ok(())
@@ -122,8 +144,10 @@ fn a_refused_allocation(rt: HostRuntime) -> Result<(), Fail> {
     let Ok(line) = MemoryLine::new(rt.alloc(), SCRIPT) else {
         return Ok(());
     };
-    let mut line = PlacedLine::new(line);
-    match serve(&rt, rt.alloc(), &mut line, &FixedClock(1000)) {
+    let Ok((opening, mut line)) = opened(rt.alloc(), line) else {
+        return Ok(());
+    };
+    match serve(&rt, rt.alloc(), opening, &mut line, &FixedClock(1000)) {
         Err(LineError::Memory) => equal(&rt, line.line.calls, 0),
         Ok(served) => {
             equal(&rt, served, (10, false));

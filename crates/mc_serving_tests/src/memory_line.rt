@@ -34,22 +34,14 @@ impl MemoryLine {
 }
 
 impl Transport for MemoryLine {
-    ghost use Rattle.std.specs.Prelude.{take};
-    ghost use Rattle.mc_wire.specs.Sink.{Listed};
-    ghost use Rattle.mc_seat.specs.Place.{no_place};
+    ghost use Rattle.mc_ring.specs.Route.{no_history};
+    ghost use Rattle.mc_seat.specs.Place.{unbegun};
 
     type Warrant = ();
 
-    ghost sight = { λ line.
-        record {
-          given = Listed (take line.at line.input.now);
-          ended = line.ended;
-          reads = None;
-          taken = Listed line.output.items;
-          failed = line.failed;
-        } };
+    ghost sight = { ⟦<MemoryLine as Sink>⟧.sight };
 
-    ghost place = { λ line. no_place };
+    ghost place = { λ line. unbegun no_history };
 
     fn begin(&mut self, _seen: ()) {}
 

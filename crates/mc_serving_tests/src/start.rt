@@ -1,12 +1,14 @@
 //! Nothing is read of lines whose threads can't all be started.
 ghost use Rattle.std.specs.Prelude.{◌≡◌, IfOk, length};
 ghost use Rattle.std.specs.List.{AllByRecursion};
-ghost use Rattle.mc_seat.specs.Place.{no_place};
-ghost use Rattle.mc_serve.specs.Placed.{place_by};
+ghost use Rattle.mc_seat.specs.Place.{unbegun};
+ghost use Rattle.mc_record.specs.Opening.{IsOpening};
+ghost use Rattle.mc_serving_tests.specs.declared.sizes.TheConstants.{SMALL};
 
 use crate::asserting::{equal, holds};
 use crate::memory_line::MemoryLine;
 use crate::sizes::SMALL;
+use mc_record::Opening;
 use mc_seat::{Transport, TransportError};
 use mc_serve::{PlacedLine, ServeError, serve_over};
 use mc_server::FixedClock;
@@ -57,21 +59,26 @@ fn counted_line(
     })
 }
 
-/// Two lines, neither of which has begun.
+/// Opens a history for two lines, neither of which has begun.
 fn pair_of<L: Transport<Warrant = ()> + Drop>(
     alloc: Global,
     first: L,
     second: L,
-) -> Result<Vec<PlacedLine<L>>, AllocError>
-    ensures as_many { IfOk result (λ lines. length lines.items ≡ 2) }
-    ensures new { IfOk result (λ lines.
-        AllByRecursion (λ one. place_by one.seen.value (L.sight one.begin.value) ≡ no_place)
-        lines.items) }
+) -> Result<(Opening, Vec<PlacedLine<L>>), AllocError>
+    ensures as_many { IfOk result (λ opened. length opened.1.items ≡ 2) }
+    ensures opening { IfOk result (λ opened.
+        IsOpening SMALL opened.0.recorders.items opened.0.clerks.items opened.0.witness) }
+    ensures new { IfOk result (λ opened.
+        AllByRecursion (λ line.
+        ⟦<PlacedLine<L> as Transport>⟧.place line ≡ unbegun opened.0.witness.name)
+        opened.1.items) }
 {
+    let mut opening = Opening::new(alloc, SMALL)?;
+    let history = opening.show();
     let mut lines = Vec::with_capacity(alloc, 2)?;
-    lines.push(PlacedLine::new(first))?;
-    lines.push(PlacedLine::new(second))?;
-    Ok(lines)
+    lines.push(PlacedLine::new(first, &history))?;
+    lines.push(PlacedLine::new(second, &history))?;
+    Ok((opening, lines))
 }
 
 /// Two lines whose calls are counted together.
@@ -93,10 +100,11 @@ fn a_refused_start(rt: HostRuntime) -> Result<(), Fail> {
     let Ok((first, second)) = two_lines(rt.alloc(), &calls) else {
         return Ok(());
     };
-    let Ok(lines) = pair_of(rt.alloc(), first, second) else {
+    let Ok((opening, lines)) = pair_of(rt.alloc(), first, second) else {
         return Ok(());
     };
-    match serve_over(&rt, rt.alloc(), lines, SMALL, OpenGate, FixedClock(1000)) {
+    let clock = FixedClock(1000);
+    match serve_over(&rt, rt.alloc(), opening, lines, SMALL, OpenGate, clock) {
         Ok(report) => {
             for one in report.lines {
                 let output = if one.broke {

@@ -3,7 +3,7 @@ use crate::asserting::{equal, holds};
 use crate::sizes::SMALL;
 use mc_doors::{Stream, TcpConnection};
 use mc_seat::{Ready, Transport, WriteBuffer};
-use mc_server::{FixedClock, serve_one};
+use mc_server::{FixedClock, open_one, serve_one};
 use mc_sizes::Sizes;
 use mc_watch::Meter;
 use mc_wire::{Sink, write_all};
@@ -94,7 +94,7 @@ impl Stream for Slow {
 #[test]
 fn what_is_written_goes_out_whole_and_once(rt: HostRuntime) -> Result<(), Fail> {
     let mut stream = Slow::new(rt.alloc(), b"");
-    let mut line = TcpConnection::new(&mut stream);
+    let mut line = TcpConnection::new(&mut stream, &());
     let text = b"VALUE a 0 10\r\n0123456789\r\nEND\r\n";
     let mut waiting = WriteBuffer::new(rt.alloc());
     holds(&rt, write_all(&mut waiting, text).is_ok());
@@ -107,7 +107,7 @@ fn what_is_written_goes_out_whole_and_once(rt: HostRuntime) -> Result<(), Fail> 
 #[test]
 fn pieces_that_wait_go_out_whole_and_once(rt: HostRuntime) -> Result<(), Fail> {
     let mut stream = Slow::new(rt.alloc(), b"");
-    let mut line = TcpConnection::new(&mut stream);
+    let mut line = TcpConnection::new(&mut stream, &());
     let mut waiting = WriteBuffer::new(rt.alloc());
     let value = ArcSlice::from_slice(rt.alloc(), b"0123456789")?;
     for _ in 0..3 {
@@ -127,14 +127,16 @@ fn pieces_that_wait_go_out_whole_and_once(rt: HostRuntime) -> Result<(), Fail> {
 fn a_line_is_served_over_it(rt: HostRuntime) -> Result<(), Fail> {
     let input = b"set a 7 0 10\r\n0123456789\r\nget a\r\nmn\r\nquit\r\nmn\r\n";
     let mut stream = Slow::new(rt.alloc(), input);
-    let mut line = TcpConnection::new(&mut stream);
     let sizes = Sizes {
         bytes: 1_024,
         value: 1_024,
         window: 2,
         ..SMALL
     };
-    let served = serve_one(&rt, rt.alloc(), &mut line, sizes, &FixedClock(1000))?;
+    let (opening, history) = open_one(rt.alloc(), sizes)?;
+    let mut line = TcpConnection::new(&mut stream, &history);
+    let clock = FixedClock(1000);
+    let served = serve_one(&rt, rt.alloc(), opening, &mut line, sizes, &clock)?;
     equal(&rt, (served.commands, served.broke), (4, false));
     drop(line);
     let wanted = b"STORED\r\nVALUE a 7 10\r\n0123456789\r\nEND\r\nMN\r\n";
@@ -157,12 +159,7 @@ const LINES: [&[u8]; 3] = [b"get /key\r\n", b"GET a\r\n", b"\x16\x02\r\n"];
 /// without, and the number left.
 fn read_first(alloc: Global, input: &'static [u8], sniff_protocol: bool) -> (Option<usize>, usize) {
     let mut stream = Slow::new(alloc, input);
-    let mut line: TcpConnection<_, ()> = TcpConnection::begin(
-        &mut stream,
-        Meter::unwatched(),
-        true,
-        sniff_protocol,
-    );
+    let mut line = TcpConnection::begin(&mut stream, Meter::unwatched(), true, sniff_protocol, &());
     line.rouse(Ready::Open);
     let mut room = [0; 16];
     let given = line.read_if_ready(&mut room).unwrap_or(None);

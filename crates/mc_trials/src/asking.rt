@@ -117,7 +117,8 @@ impl Asking {
 impl Transport for Asking {
     ghost use Rattle.std.specs.Prelude.{None};
     ghost use Rattle.mc_wire.specs.Sink.{Untold};
-    ghost use Rattle.mc_seat.specs.Place.{no_place};
+    ghost use Rattle.mc_ring.specs.Route.{no_history};
+    ghost use Rattle.mc_seat.specs.Place.{unbegun};
 
     type Warrant = ();
 
@@ -130,7 +131,7 @@ impl Transport for Asking {
           failed = line.failed;
         } };
 
-    ghost place = { λ line. no_place };
+    ghost place = { λ line. unbegun no_history };
 
     fn begin(&mut self, _seen: ()) {}
 

@@ -117,7 +117,8 @@ impl MemoryLine {
 impl Transport for MemoryLine {
     ghost use Rattle.std.specs.Prelude.{take};
     ghost use Rattle.mc_wire.specs.Sink.{Listed};
-    ghost use Rattle.mc_seat.specs.Place.{no_place};
+    ghost use Rattle.mc_ring.specs.Route.{no_history};
+    ghost use Rattle.mc_seat.specs.Place.{unbegun};
 
     type Warrant = ();
 
@@ -130,7 +131,7 @@ impl Transport for MemoryLine {
           failed = line.failed;
         } };
 
-    ghost place = { λ line. no_place };
+    ghost place = { λ line. unbegun no_history };
 
     fn begin(&mut self, _seen: ()) {}
 

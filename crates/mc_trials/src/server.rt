@@ -1,14 +1,16 @@
 //! Serving lines in memory, by threads or by a single thread.
 ghost use Rattle.std.specs.Prelude.{◌≡◌, IfOk, length};
 ghost use Rattle.std.specs.List.{AllByRecursion};
-ghost use Rattle.mc_seat.specs.Place.{no_place};
-ghost use Rattle.mc_serve.specs.Placed.{place_by};
+ghost use Rattle.mc_seat.specs.Place.{unbegun};
+ghost use Rattle.mc_record.specs.Opening.{IsOpening};
 
 use crate::line::MemoryLine;
 use mc_doors::ServedLine;
+use mc_history::Evidence;
+use mc_record::Opening;
 use mc_seat::{Clock, Transport};
 use mc_serve::{PlacedLine, serve_over};
-use mc_server::{FixedClock, serve_one};
+use mc_server::{FixedClock, open_one, serve_one};
 use mc_sizes::Sizes;
 use mc_worker::{Gate, OpenGate};
 use std::alloc::{AllocError, Global};
@@ -49,8 +51,8 @@ impl<R: Threads + Wait + RandomSource + Copy + Send + Drop + 'static> Server<R> 
             ..sizes
         };
         sizes.check().ok()?;
-        let lines = placed(self.alloc, lines).ok()?;
-        match serve_over(&self.rt, self.alloc, lines, sizes, gate, clock) {
+        let (opening, lines) = opened(self.alloc, lines, sizes).ok()?;
+        match serve_over(&self.rt, self.alloc, opening, lines, sizes, gate, clock) {
             Ok(report) => unplaced(self.alloc, report.lines).ok(),
             Err(_refusal) => None,
         }
@@ -60,9 +62,10 @@ impl<R: Threads + Wait + RandomSource + Copy + Send + Drop + 'static> Server<R> 
     /// made.
     pub fn serve_alone(&self, line: MemoryLine, sizes: Sizes) -> Option<ServedLine<MemoryLine>> {
         sizes.check().ok()?;
-        let mut line = PlacedLine::new(line);
+        let (opening, history) = open_one(self.alloc, sizes).ok()?;
+        let mut line = PlacedLine::new(line, &history);
         let clock = FixedClock(MOMENT);
-        let served = serve_one(&self.rt, self.alloc, &mut line, sizes, &clock).ok()?;
+        let served = serve_one(&self.rt, self.alloc, opening, &mut line, sizes, &clock).ok()?;
         Some(ServedLine {
             line: line.into_line(),
             commands: served.commands,
@@ -71,19 +74,41 @@ impl<R: Threads + Wait + RandomSource + Copy + Send + Drop + 'static> Server<R> 
     }
 }
 
-/// The lines, each with room for the connection that it is.
+/// Opens a history for these lines, which are as many as the sizes say.
+fn opened<L: Transport<Warrant = ()> + Drop>(
+    alloc: Global,
+    lines: Vec<L>,
+    sizes: Sizes,
+) -> Result<(Opening, Vec<PlacedLine<L>>), AllocError>
+    ensures as_many { IfOk result (λ opened. length opened.1.items ≡ length lines.items) }
+    ensures opening { IfOk result (λ opened.
+        IsOpening sizes opened.0.recorders.items opened.0.clerks.items opened.0.witness) }
+    ensures new { IfOk result (λ opened.
+        AllByRecursion (λ line.
+        ⟦<PlacedLine<L> as Transport>⟧.place line ≡ unbegun opened.0.witness.name)
+        opened.1.items) }
+{
+    let mut opening = Opening::new(alloc, sizes)?;
+    let history = opening.show();
+    let lines = placed(alloc, lines, &history)?;
+    Ok((opening, lines))
+}
+
+/// The lines, each with room for the connection that it is in this history.
 fn placed<L: Transport<Warrant = ()> + Drop>(
     alloc: Global,
     lines: Vec<L>,
+    history: &Evidence,
 ) -> Result<Vec<PlacedLine<L>>, AllocError>
     ensures as_many { IfOk result (λ placed. length placed.items ≡ length lines.items) }
     ensures new { IfOk result (λ placed.
-        AllByRecursion (λ one. place_by one.seen.value (L.sight one.begin.value) ≡ no_place)
+        AllByRecursion (λ line.
+        ⟦<PlacedLine<L> as Transport>⟧.place line ≡ unbegun history.now.name)
         placed.items) }
 {
     let mut placed = Vec::with_capacity(alloc, lines.len())?;
     for line in lines {
-        placed.push(PlacedLine::new(line))?;
+        placed.push(PlacedLine::new(line, history))?;
     }
     Ok(placed)
 }
