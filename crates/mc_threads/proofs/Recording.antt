@@ -184,6 +184,11 @@ module _ {T C : Type 0} (g : Ghosts C T) where
             (was.came s (omega (arith, below, width))) (grows s)),
       )
 
+  -- A clerk with the same work and the same answers keeps its record of what has passed.
+  pub past_kept : (clerk clerk' : C) (ends : Ends Near) → g.work clerk' ≡ g.work clerk → g.answers clerk'
+      ≡ g.answers clerk → RecordsPast g clerk ends → RecordsPast g clerk' ends
+  past_kept clerk clerk' ends works answers past keeps = rw (works, answers) (past keeps)
+
   -- Where all that is due was sent and answered, the record is of what has passed.
   pub line_ends : (clerk : C) (before ends : Ends Near) (ways : List ℕ) (told : Told) (received : ℕ → List Shown)
       → Carries before ends ways told received → ((shard : ℕ) → sent_to told shard ≡ due told.shards shard told.taken)

@@ -8,7 +8,7 @@ use Rattle.mc_ring.specs.Ends.{AreSameEnds, AtChannel, Ends, Sends}
 use Rattle.mc_ring.specs.EndsLaws.{at_channel-kept, at_channel-longer, at_channel-other}
 use Rattle.mc_threads.specs.Ending.{EndsOne}
 use Rattle.mc_threads.proofs.Carrying.{still_back}
-use Rattle.mc_threads.proofs.Recording.{routes_still}
+use Rattle.mc_threads.proofs.Recording.{past_kept, routes_still}
 use Rattle.mc_threads.proofs.shard_link.ShardLink.end_channel.Goals as goal
 use Rattle.mc_threads.proofs.shard_link.ShardLink.end_channel.Goals.{in-Ok, in-Err}
 
@@ -46,6 +46,11 @@ invariant_of-self g c = record {
   routed =
       λ keeps. routes_still _ _ _ _ c.token-token.ensures.route c.send_with.ensures.same (c.args.self.now.routed keeps);
 }
+
+pub returns-clause-recorded : goal.returns-clause-recorded
+returns-clause-recorded g c ends past =
+    past_kept g.C.Clerk c.args.self.now.clerk c.token-token.new.self ends c.token-token.ensures.work
+    c.token-token.ensures.answers past
 
 pub returns-clause-ended : goal.returns-clause-ended
 returns-clause-ended g c = elim c.match-send_with.branch [
