@@ -81,7 +81,8 @@ answers_grow old events s lawful more =
 pub same_place : (old new : Acting) → new.name ≡ old.name → connection_of new ≡ connection_of old → place_of new
     ≡ place_of old
 same_place old new name number =
-    let put : Name → ℕ → Sight → Place = λ n k begin. record { name = n; number = k; begin = bytes_seen begin } in
+    let put : Name → ℕ → Sight → Place =
+    λ n k begin. record { name = n; begun = true; number = k; begin = bytes_seen begin } in
     ap (λ n. put n (connection_of new)) name ∙ ap (λ k. put old.name k) number
 
 lawful_with : (old new : Acting) → new.name ≡ old.name → IsHistory new.name.sizes new.events

@@ -2,3 +2,4 @@ pub mod Recording
 pub mod Clerking
 pub mod Owing
 pub mod Opened
+pub mod Joining

@@ -50,8 +50,7 @@ impl SeatClerk {
         ensures shown { result ≡ record { name = self.old.name; events = self.old.events } }
         ensures kept { self.new ≡ self.old }
     {
-        let SeatClerk { member } = self;
-        member.show()
+        self.member.show()
     }
 
     /// Sees what the evidence shows.

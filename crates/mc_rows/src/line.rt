@@ -1,6 +1,8 @@
 //! A line in memory that is cut into pieces and may fail.
-ghost use Rattle.std.specs.Prelude.{◌≡◌, None, IsTrue};
-ghost use Rattle.mc_seat.specs.Place.{no_place};
+ghost use Rattle.std.specs.Prelude.{◌≡◌, None, IsTrue, false};
+ghost use Rattle.mc_history.specs.Places.{place_in};
+ghost use Rattle.mc_seat.specs.Place.{place_by, unbegun};
+ghost use Rattle.mc_wire.specs.Sink.{Untold, sight_out};
 
 use mc_history::Evidence;
 use mc_seat::{Transport, TransportError};
@@ -31,16 +33,22 @@ pub struct MemoryLine<'a> {
     failed_reading: bool,
     /// The last read returned the end of input.
     ended: bool,
+    /// The history that it is of. Contracts alone see it.
+    history: Snapshot<Evidence>,
     /// What was shown when it began, if it has. Contracts alone see it.
     begun: Snapshot<Option<Evidence>>,
 }
 
 impl<'a> MemoryLine<'a> {
-    ghost use Rattle.mc_server.specs.Begun.{place_since};
-
-    /// A line that has not begun.
-    pub fn new(alloc: Global, input: &'a [u8], cutting: Cutting) -> MemoryLine<'a>
-        ensures { place_since result.begun.value ≡ no_place }
+    /// A line of the history that is shown, which has not begun.
+    pub fn new(
+        alloc: Global,
+        input: &'a [u8],
+        cutting: Cutting,
+        history: &Evidence,
+    ) -> MemoryLine<'a>
+        ensures { place_by place_in result.history.value.name result.begun.value
+            (sight_out Untold false) ≡ unbegun history.now.name }
     {
         let begun: Option<Evidence> = None;
         MemoryLine {
@@ -52,6 +60,7 @@ impl<'a> MemoryLine<'a> {
             failed: false,
             failed_reading: false,
             ended: false,
+            history: Snapshot::of(history),
             begun: Snapshot::of(&begun),
         }
     }
@@ -87,6 +96,7 @@ impl<'a> MemoryLine<'a> {
         ensures failed { result ≡ self.new.failed }
         ensures stays { IsTrue self.old.failed → IsTrue self.new.failed }
         ensures ended { self.new.ended ≡ self.old.ended }
+        ensures history { self.new.history ≡ self.old.history }
         ensures begun { self.new.begun ≡ self.old.begun }
     {
         if self.calls == self.cutting.fails_at {
@@ -98,8 +108,10 @@ impl<'a> MemoryLine<'a> {
 }
 
 impl Transport for MemoryLine<'_> {
-    ghost use Rattle.mc_wire.specs.Sink.{Untold};
-    ghost use Rattle.mc_server.specs.Begun.{place_since};
+    ghost use Rattle.std.specs.Prelude.{false};
+    ghost use Rattle.mc_history.specs.Places.{place_in};
+    ghost use Rattle.mc_seat.specs.Place.{place_by};
+    ghost use Rattle.mc_wire.specs.Sink.{Untold, sight_out};
 
     type Warrant = Evidence;
 
@@ -112,7 +124,8 @@ impl Transport for MemoryLine<'_> {
           failed = line.failed;
         } };
 
-    ghost place = { λ line. place_since line.begun.value };
+    ghost place = { λ line.
+        place_by place_in line.history.value.name line.begun.value (sight_out Untold false) };
 
     fn begin(&mut self, seen: Evidence) {
         let begun = Some(seen);

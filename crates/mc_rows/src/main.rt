@@ -4,9 +4,6 @@
 //! output, and those whose connection held too many bytes.
 #![tactic(auto)]
 
-ghost use Rattle.std.specs.Prelude.{◌≡◌};
-ghost use Rattle.mc_seat.specs.Place.{no_place};
-
 mod escape;
 mod held;
 mod line;
@@ -15,9 +12,8 @@ mod row;
 use held::{blocks_held, is_bounded};
 use line::{Cutting, MemoryLine};
 use mc_command::Profile;
-use mc_history::Evidence;
-use mc_seat::{Served, Transport};
-use mc_server::{FixedClock, serve_one};
+use mc_seat::Served;
+use mc_server::{FixedClock, open_one, serve_one};
 use mc_sizes::{DEFAULT_RING, MAX_BUDGET, MIN_BUDGET, Sizes};
 use mc_wire::{DEFAULT_LINE_LIMIT, MAX_VALUE_LIMIT};
 use row::{Row, split_at_tab};
@@ -56,17 +52,16 @@ const WIDE: usize = 256;
 /// Number of first reads and writes of a line that fail in turn.
 const FAILURES: usize = 200;
 
-/// Serves a line by new shards, at the row's time and with this window; `None` if the server
-/// refuses.
-fn served<R: Wait + RandomSource, L: Transport<Warrant = Evidence>>(
+/// Serves a line with this input by new shards, at the row's time and with this window. Returns the
+/// line too; `None` if the server refuses.
+fn served<'a, R: Wait + RandomSource>(
     rt: &R,
     alloc: Global,
     row: &Row,
     window: usize,
-    line: &mut L,
-) -> Option<Served>
-    requires { L.place line.old ≡ no_place }
-{
+    input: &'a [u8],
+    cutting: Cutting,
+) -> Option<(Served, MemoryLine<'a>)> {
     let is_budget = row.bytes >= MIN_BUDGET && row.bytes <= MAX_BUDGET;
     if !is_budget || row.value > MAX_VALUE_LIMIT {
         return None;
@@ -82,7 +77,11 @@ fn served<R: Wait + RandomSource, L: Transport<Warrant = Evidence>>(
         window: window.max(1),
         shutdown: false,
     };
-    serve_one(rt, alloc, line, sizes, &FixedClock(row.moment)).ok()
+    let (opening, seen) = open_one(alloc, sizes).ok()?;
+    let mut line = MemoryLine::new(alloc, input, cutting, &seen);
+    let clock = FixedClock(row.moment);
+    let served = serve_one(rt, alloc, opening, &mut line, sizes, &clock).ok()?;
+    Some((served, line))
 }
 
 /// Whether a line that is cut in this way, and doesn't fail, gets this output.
@@ -95,9 +94,8 @@ fn takes<R: Wait + RandomSource>(
     cutting: Cutting,
     output: &[u8],
 ) -> bool {
-    let mut line = MemoryLine::new(alloc, input, cutting);
-    match served(rt, alloc, row, window, &mut line) {
-        Some(served) => !served.broke && line.output() == output,
+    match served(rt, alloc, row, window, input, cutting) {
+        Some((served, line)) => !served.broke && line.output() == output,
         None => false,
     }
 }
@@ -132,8 +130,7 @@ fn is_right_whole<R: Wait + RandomSource>(rt: &R, alloc: Global, row: &Row) -> b
         portion: WHOLE,
         fails_at: NEVER,
     };
-    let mut line = MemoryLine::new(alloc, row.input.as_slice(), cutting);
-    let Some(served) = served(rt, alloc, row, WIDE, &mut line) else {
+    let Some((served, line)) = served(rt, alloc, row, WIDE, row.input.as_slice(), cutting) else {
         return false;
     };
     // One read of the input, one of its end, and one write. A value of 1 KiB or more isn't copied
@@ -177,8 +174,8 @@ fn is_right_failing<R: Wait + RandomSource>(
             portion: 3,
             fails_at,
         };
-        let mut line = MemoryLine::new(alloc, row.input.as_slice(), cutting);
-        let Some(served) = served(rt, alloc, row, window, &mut line) else {
+        let input = row.input.as_slice();
+        let Some((served, line)) = served(rt, alloc, row, window, input, cutting) else {
             return false;
         };
         if !line.has_failed() {

@@ -1,6 +1,6 @@
 -- What the history of one line says, step by step.
 use Rattle.std.proofs.Common.{◌≡◌, ℕ, ◌<◌, inl, inr, List, [], ◌∷◌, ◌++◌, length, map, set, Some, refl, sym, ap, subst}
-use Rattle.std.proofs.Common.{◌∙◌, append-nil, arith}
+use Rattle.std.proofs.Common.{◌∙◌, append-nil, length-append, arith}
 use Rattle.std.specs.List.{AllByRecursion, slice_get}
 use Rattle.std.proofs.lemmas.Bool.Decides.{eqb_tells}
 use Rattle.std.proofs.lemmas.List.{length-map, length-set, map-append}
@@ -29,12 +29,37 @@ use Rattle.mc_model.proofs.Logs.{on_shard-no, on_shard-yes}
 use Rattle.mc_seat.specs.Clerk.{AddsWork}
 use Rattle.mc_seat.specs.Place.{Place}
 use Rattle.mc_worker.specs.Scribe.{Runs}
+use Rattle.mc_history.specs.declared.knowledge.Role.TheVariants.{Seat as of_seat}
 use Rattle.mc_history.specs.Tokens.{Acting}
 use Rattle.mc_record.specs.Clerk.{HasOpened, answers_at, place_of, taken_now, work_at}
+use Rattle.mc_record.specs.Opening.{IsOpening}
 use Rattle.mc_record.specs.Recorder.{log_in, shard_of}
 use Rattle.mc_server.specs.internal.Recording.{CanNoteRun, IsFresh, IsHistoryOf, IsRecorderOf, IsWhole, entry_for}
 use Rattle.mc_server.specs.internal.Recording.{replies_on, route_from, route_to}
 use Rattle.mc_server.proofs.Explaining.{mine_on}
+
+-- The one clerk is that of the first slot.
+pub one_clerk : (recorders clerks rest : List Acting) (witness clerk : Acting)
+    → IsOpening witness.name.sizes recorders clerks witness → witness.name.sizes.seats ≡ 1
+    → clerks ≡ rest ++ clerk ∷ [] → clerk ≡ record { name = witness.name; role = of_seat 0; events = [] }
+one_clerk recorders clerks rest witness clerk opening one is =
+    let last : slice_get clerks (length rest) ≡ Some clerk = ap (λ cs. slice_get cs (length rest)) is
+    ∙ get_last rest clerk in
+    let counted = opening.clerks_are.counted in
+    let first : length rest ≡ 0 = omega (arith, ap length is, length-append rest (clerk ∷ []), counted, one) in
+    opening.clerks_are.each (length rest) clerk last
+    ∙ ap (λ n. record { name = witness.name; role = of_seat n; events = [] }) first
+
+-- Nothing has happened in the history that was opened for one slot.
+pub fresh_opened : (recorders clerks rest : List Acting) (witness clerk : Acting)
+    → IsOpening witness.name.sizes recorders clerks witness → witness.name.sizes.seats ≡ 1
+    → clerks ≡ rest ++ clerk ∷ [] → IsFresh witness.name.sizes clerk recorders
+fresh_opened recorders clerks rest witness clerk opening one is = record {
+  name = witness.name;
+  sizes_are = refl;
+  clerk_is = one_clerk recorders clerks rest witness clerk opening one is;
+  recorders_are = opening.recorders_are;
+}
 
 -- The clerk has opened the line's connection in a history in which nothing has happened.
 pub history_begins : (sizes : Sizes) (place : Place) (begin : Sight) (clerk clerk' : Acting) (recorders : List Acting)

@@ -5,8 +5,9 @@ ghost use Rattle.mc_conn.specs.Conn.{IsConn};
 ghost use Rattle.mc_conn.specs.History.{Taken};
 ghost use Rattle.mc_conn.specs.Told.{Told};
 ghost use Rattle.mc_model.specs.Log.{Entry, reply_to};
+ghost use Rattle.mc_record.specs.Opening.{IsOpening};
 ghost use Rattle.mc_ring.specs.Reply.{shown};
-ghost use Rattle.mc_seat.specs.Place.{Place, no_place};
+ghost use Rattle.mc_seat.specs.Place.{Place, unbegun};
 ghost use Rattle.mc_sizes.specs.declared.sizes.Sizes.{Sizes};
 ghost use Rattle.mc_wire.specs.Sink.{Sight};
 ghost use Rattle.mc_server.specs.internal.Recording.{CanNote, CanNoteRun, IsFresh, IsHistoryOf, IsWhole, entry_for};
@@ -22,8 +23,20 @@ use mc_worker::Scribe;
 use std::alloc::{AllocError, Global};
 use std::snapshot::Snapshot;
 
-/// A history of its own for one line: the clerk of its slot, and the recorder of each shard. Its
-/// events are visible to contracts alone.
+/// Opens the history of one line over shards of these sizes, with one slot. Returns it with evidence
+/// of it, for the line that is made. It fails if memory is refused.
+pub fn open_one(alloc: Global, sizes: Sizes) -> Result<(Opening, Evidence), AllocError>
+    ensures opening { IfOk result (λ opened. IsOpening (record sizes { seats = 1 })
+        opened.0.recorders.items opened.0.clerks.items opened.0.witness) }
+    ensures name { IfOk result (λ opened. opened.1.name ≡ opened.0.witness.name) }
+{
+    let mut opening = Opening::new(alloc, Sizes { seats: 1, ..sizes })?;
+    let seen = opening.show();
+    Ok((opening, seen))
+}
+
+/// The history of one line: the clerk of its slot, and the recorder of each shard. Its events are
+/// visible to contracts alone.
 #[derive(Drop)]
 pub(crate) struct LineHistory {
     pub(crate) clerk: SeatClerk,
@@ -31,26 +44,28 @@ pub(crate) struct LineHistory {
 }
 
 impl LineHistory {
-    /// Opens the history of a line over shards of these sizes, with one slot. Nothing has happened.
-    /// It fails if memory is refused.
-    pub(crate) fn open(alloc: Global, sizes: Sizes) -> Result<LineHistory, AllocError>
-        ensures { IfOk result (λ history. IsFresh (record sizes { seats = 1 }) history.clerk
-            history.recorders.items) }
+    /// The history that was opened for one slot.
+    pub(crate) fn of(opening: Opening) -> LineHistory
+        requires opening { IsOpening opening.witness.name.sizes opening.recorders.items
+            opening.clerks.items opening.witness }
+        requires one { opening.witness.name.sizes.seats ≡ 1 }
+        ensures fresh { IsFresh opening.witness.name.sizes result.clerk result.recorders.items }
+        ensures name { result.clerk.name ≡ opening.witness.name }
     {
         let Opening {
             recorders,
             mut clerks,
-            source: _source,
-        } = Opening::new(alloc, Sizes { seats: 1, ..sizes })?;
+            witness: _witness,
+        } = opening;
         let Some(clerk) = clerks.pop() else {
             unreachable!()
         };
-        Ok(LineHistory { clerk, recorders })
+        LineHistory { clerk, recorders }
     }
 
     /// Records that the line's connection is opened, and shows it to the line.
     pub(crate) fn begin<L: Transport<Warrant = Evidence>>(&mut self, line: &mut L)
-        requires new { L.place line.old ≡ no_place }
+        requires new { L.place line.old ≡ unbegun self.old.clerk.name }
         ensures begins { (sizes : Sizes) → IsFresh sizes self.old.clerk self.old.recorders.items →
             IsHistoryOf sizes (L.place line.new) (L.sight line.old) [] [] self.new.clerk
             self.new.recorders.items }

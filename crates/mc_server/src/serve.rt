@@ -1,14 +1,16 @@
 //! Serves one line over shards of its own, without threads. Each piece runs where it is made
 //! (docs/DECISIONS.md, E7).
 ghost use Rattle.std.specs.Prelude.{◌≡◌, ◌+◌, [], IfOk, OnErr, length};
+ghost use Rattle.mc_record.specs.Opening.{IsOpening};
 ghost use Rattle.mc_sizes.specs.Sizes.{SuitLines, SuitShards};
 ghost use Rattle.mc_seat.specs.Explains.{IsExplained};
-ghost use Rattle.mc_seat.specs.Place.{no_place};
+ghost use Rattle.mc_seat.specs.Place.{unbegun};
 ghost use Rattle.mc_server.specs.internal.Answering.{AnswersAll, Backs, CanAnswer};
 
 use crate::line_history::LineHistory;
 use mc_conn::Conn;
 use mc_history::Evidence;
+use mc_record::Opening;
 use mc_ring::Reply;
 use mc_seat::{BufferPool, BufferedConn, Clerk, Clock, LineStep, Served, Transport};
 use mc_sizes::Sizes;
@@ -72,17 +74,21 @@ fn answer(alloc: Global, conn: &mut Conn, shards: &mut Vec<Shard>, history: &mut
 }
 
 /// Serves one line until its input ends, it quits or it fails. It uses one slot, whatever
-/// `sizes.seats` is. It opens a history of its own, and writes by the evidence of its one clerk.
+/// `sizes.seats` is. The line is of the history that was opened, and is written by the evidence of
+/// its one clerk.
 pub fn serve_one<R: Wait + RandomSource, L: Transport<Warrant = Evidence>, K: Clock>(
     rt: &R,
     alloc: Global,
+    opening: Opening,
     line: &mut L,
     sizes: Sizes,
     clock: &K,
 ) -> Result<Served, LineError>
     requires shards { SuitShards sizes }
     requires lines { SuitLines sizes }
-    requires new { L.place line.old ≡ no_place }
+    requires opening { IsOpening (record sizes { seats = 1 }) opening.recorders.items
+        opening.clerks.items opening.witness }
+    requires new { L.place line.old ≡ unbegun opening.witness.name }
     // One log explains what was read, what was written and what the shards did.
     ensures explained { IfOk result (λ served.
         IsExplained (record sizes { seats = 1 }) (K.may_answer clock.now)
@@ -93,16 +99,16 @@ pub fn serve_one<R: Wait + RandomSource, L: Transport<Warrant = Evidence>, K: Cl
           broke = served.broke;
         })) }
     ensures refused { OnErr result (L.sight line.new ≡ L.sight line.old) }
-    ensures unplaced { OnErr result (L.place line.new ≡ no_place) }
+    ensures unplaced { OnErr result (L.place line.new ≡ L.place line.old) }
 {
-    let (Ok(mut shards), Ok(mut buffered_conn), Ok(mut pool), Ok(mut history)) = (
+    let (Ok(mut shards), Ok(mut buffered_conn), Ok(mut pool)) = (
         make_shards(rt, alloc, sizes),
         BufferedConn::new(alloc, sizes),
         BufferPool::new(alloc),
-        LineHistory::open(alloc, sizes),
     ) else {
         return Err(LineError::Memory);
     };
+    let mut history = LineHistory::of(opening);
     history.begin(line);
     buffered_conn.take_all(clock);
     for _ in rt.forever() {

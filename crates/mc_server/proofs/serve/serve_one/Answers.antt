@@ -1,17 +1,29 @@
 -- Each turn answers all commands that were taken, and continues.
-use Rattle.std.proofs.Common.{sym, subst}
+use Rattle.std.proofs.Common.{sym, ap, subst}
 use Rattle.mc_wire.specs.Sink.{Sight}
 use Rattle.mc_sizes.specs.declared.sizes.Sizes.{Sizes}
 use Rattle.mc_seat.specs.declared.buffered_conn.LineStep.TheVariants.{Did, Waits, Ended}
+use Rattle.mc_record.specs.Opening.{IsOpening}
+use Rattle.mc_server.specs.internal.Recording.{IsFresh}
 use Rattle.mc_server.specs.internal.Turns.{Turns}
 use Rattle.mc_server.proofs.Owing.{owes_all}
 use Rattle.mc_server.proofs.Turning.{answers_stop, turn_ends, turn_said, turns_first, turns_go}
 use Rattle.mc_server.proofs.serve.serve_one.Goals as goal
 use Rattle.mc_server.proofs.serve.serve_one.Goals.{in-Did, in-Waits}
 
+pub of-history-requires : goal.of-history-requires
+of-history-requires g c =
+    let is = c.requires.opening in
+    record {
+      opening =
+          subst (λ (s : Sizes). IsOpening s c.args.opening.recorders.items c.args.opening.clerks.items
+          c.args.opening.witness) (sym is.sizes_are) is;
+      one = ap (λ (s : Sizes). s.seats) is.sizes_are;
+    }
+
 pub loop-init : goal.loop-init
 loop-init g c =
-    let made = c.in-Ok-Ok-Ok-Ok.ensures in
+    let made = c.in-Ok-Ok-Ok.ensures in
     let sizes : Sizes = record c.args.sizes { seats = 1 } in
     let place = g.L.Transport.place c.begin.new.line in
     let begin = g.L.Transport.sight c.args.line.now in
@@ -19,11 +31,14 @@ loop-init g c =
       tt,
       tt,
       subst (λ (now : Sight). Turns sizes (g.K.Clock.may_answer c.args.clock.now) place begin now c.take_all.new.self
-          c.in-Ok-Ok-Ok-Ok.shards.items history.clerk history.recorders.items) (sym c.begin.ensures.sight)
+          c.in-Ok-Ok-Ok.shards.items history.clerk history.recorders.items) (sym c.begin.ensures.sight)
           (turns_first sizes (g.K.Clock.may_answer c.args.clock.now) place begin c.args.sizes.window
-          c.in-Ok-Ok-Ok-Ok.buffered_conn c.take_all.new.self c.in-Ok-Ok-Ok-Ok.shards.items history.clerk
+          c.in-Ok-Ok-Ok.buffered_conn c.take_all.new.self c.in-Ok-Ok-Ok.shards.items history.clerk
           history.recorders.items c.requires.lines.shards made.len made.empty
-          (c.begin.ensures.begins sizes c.in-Ok-Ok-Ok-Ok.ensures''') c.in-Ok-Ok-Ok-Ok.ensures' c.take_all.ensures),
+          (c.begin.ensures.begins sizes
+          (subst (λ (s : Sizes). IsFresh s c.of-history.result.clerk c.of-history.result.recorders.items)
+          c.requires.opening.sizes_are c.of-history.ensures.fresh))
+          c.in-Ok-Ok-Ok.ensures' c.take_all.ensures),
     )
 
 pub note_taken-requires : goal.note_taken-requires

@@ -1,5 +1,5 @@
 -- A connection was opened, and the actor has shown it.
-use Rattle.std.proofs.Common.{ℕ, sym, ap, ◌∙◌}
+use Rattle.std.proofs.Common.{ℕ, true, sym, ap, ◌∙◌}
 use Rattle.mc_seat.specs.Place.{Place, bytes_seen}
 use Rattle.mc_history.specs.Tokens.{Acting}
 use Rattle.mc_record.specs.Clerk.{place_of}
@@ -28,6 +28,7 @@ returns-clause-answers c =
 
 pub returns-clause-place : goal.returns-clause-place
 returns-clause-place c = λ keeps begin.
-    let put : ℕ → Place = λ k. record { name = c.add.new.self.name; number = k; begin = bytes_seen begin } in
+    let put : ℕ → Place =
+    λ k. record { name = c.add.new.self.name; begun = true; number = k; begin = bytes_seen begin } in
     rw c.show.ensures.shown (ap put (opens c.self.inside.member c.add.new.self c.self.invariant c.add.ensures.lawful
     c.add.ensures.adds).number ∙ ap (λ (a : Acting). place_of a begin) (sym c.show.ensures.kept))
