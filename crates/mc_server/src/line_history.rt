@@ -55,6 +55,7 @@ impl LineHistory {
         let Opening {
             recorders,
             mut clerks,
+            source: _source,
             witness: _witness,
         } = opening;
         let Some(clerk) = clerks.pop() else {
