@@ -18,6 +18,11 @@ route_rules g clerk clerk' rules same ruled keeps =
     let sizes_rules : (ℕ → Route) → Rules = λ r. rules_of (r 0).name.sizes in
     ruled keeps ∙ ap sizes_rules (sym same)
 
+-- An equal clerk's record is of the same history.
+pub history_same : {T C : Type 0} (g : Ghosts C T) (clerk clerk' : C) → clerk' ≡ clerk → (g.route clerk' 0).name
+    ≡ (g.route clerk 0).name
+history_same {T} {C} g clerk clerk' same = ap (λ (one : C). (g.route one 0).name) same
+
 module _ {T C : Type 0} {w : Warrants T} {g : Ghosts C T} where
   -- It keeps what it has.
   pub kept_refl : (one : ShardLink T C w g) → KeepsPlace one one
