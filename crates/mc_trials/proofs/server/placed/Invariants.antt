@@ -2,12 +2,13 @@
 use Rattle.std.proofs.Common.{◌≡◌, ◌+◌, length}
 use Rattle.std.specs.List.{AllByRecursion}
 use Rattle.std.specs.Vec.Iter.{into_iter_items}
-use Rattle.mc_seat.specs.Place.{no_place}
-use Rattle.mc_serve.specs.Placed.{place_by}
+use Rattle.mc_seat.specs.Place.{bytes_seen, place_by, unbegun}
+use Rattle.mc_history.specs.Places.{place_in}
 use Rattle.mc_trials.proofs.server.placed.Given as goal
 
 abbrev pub invariant-loop-line : goal.invariant-loop-line
 invariant-loop-line g l = record {
   as_many : length l.placed.items + length (into_iter_items l.line-iterator) ≡ length l.fn.lines.items;
-  new : AllByRecursion (λ one. place_by one.seen.value (g.L.Transport.sight one.begin.value) ≡ no_place) l.placed.items;
+  new : AllByRecursion (λ line. place_by place_in line.history.value.name line.seen.value
+      (bytes_seen (g.L.Transport.sight line.begin.value)) ≡ unbegun l.fn.history.name) l.placed.items;
 }
