@@ -77,7 +77,9 @@ fn served<'a, R: Wait + RandomSource>(
         window: window.max(1),
         shutdown: false,
     };
-    let (opening, seen) = open_one(alloc, sizes).ok()?;
+    let Ok((opening, seen)) = open_one(alloc, sizes) else {
+        return None;
+    };
     let mut line = MemoryLine::new(alloc, input, cutting, &seen);
     let clock = FixedClock(row.moment);
     let served = serve_one(rt, alloc, opening, &mut line, sizes, &clock).ok()?;
