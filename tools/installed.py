@@ -20,7 +20,8 @@ PACKAGES = {
     "php-cli": ["php", "-v"], "php-memcached": ["php", "-r", "new Memcached();"],
     "libcache-memcached-perl": ["perl", "-MCache::Memcached", "-e", "1"],
     "libcache-memcached-fast-perl": ["perl", "-MCache::Memcached::Fast", "-e", "1"],
-    "libmemcached-tools": ["memccapable", "-h"], "nutcracker": ["nutcracker", "--version"], "memcached": ["memcached", "--version"],
+    "netcat-openbsd": ["nc.openbsd", "-h"], "libmemcached-tools": ["memccapable", "-h"],
+    "nutcracker": ["nutcracker", "--version"], "memcached": ["memcached", "--version"],
 }
 
 
