@@ -1,35 +1,37 @@
--- All sources, once all threads are joined and all channels are tied.
-use Rattle.std.proofs.Common.{◌≡◌, ℕ, zero, suc, ◌<◌, ◌+◌, List, [], ◌∷◌, length, map, Some, refl, sym, ap, subst, ◌∙◌}
+-- All sources, once all threads are joined and the history is closed.
+use Rattle.std.proofs.Common.{◌≡◌, ℕ, zero, suc, ◌<◌, List, [], ◌∷◌, length, map, Some, refl, sym, ap, subst, ◌∙◌}
 use Rattle.std.proofs.Common.{arith}
 use Rattle.std.specs.List.{AllByRecursion, slice_get}
 use Rattle.std.proofs.lemmas.List.{length-map}
-use Rattle.std.proofs.lemmas.Option.{same_Some, slice_get_within}
+use Rattle.std.proofs.lemmas.Option.{same_Some}
 use Rattle.mc_sizes.specs.Sizes.{rules_of}
 use Rattle.mc_sizes.specs.declared.sizes.Sizes.{Sizes}
 use Rattle.mc_model.proofs.Lists.{all_from, all_unmap}
 use Rattle.mc_wake.specs.Zips.{Zips}
-use Rattle.mc_ring.specs.Channel.{Near}
-use Rattle.mc_ring.specs.Ends.{AreSameEnds, Ends}
-use Rattle.mc_ring.specs.EndsLaws.{channel_kept, same_ends-trans}
-use Rattle.mc_ring.specs.Made.{AreChannels, AreNewEnds}
-use Rattle.mc_worker.specs.WorkerState.{WorkerState}
-use Rattle.mc_seat.specs.Explains.{LineTold}
-use Rattle.mc_serve.specs.Asking.{AreTied, HasChannels}
-use Rattle.mc_serve.specs.Logs.{together}
-use Rattle.mc_threads.specs.Workers.{IsFresh, ends_of}
-use Rattle.mc_threads.specs.Working.{Finishes}
-use Rattle.mc_serve.proofs.Joined.{IsOwned, lawful, own_all}
-use Rattle.mc_serve.proofs.Channels.{map_map}
-use Rattle.mc_serve.proofs.Served.{IsJoined}
-use Rattle.mc_serve.proofs.Zipped.{all_map, met_at, zips_length}
-use Rattle.mc_serve.proofs.WorkerLogs.{have_logs}
+use Rattle.mc_ring.specs.Channel.{Channel, Near}
+use Rattle.mc_ring.specs.Ends.{AreSameEnds}
+use Rattle.mc_ring.specs.EndsLaws.{same_ends-trans}
+use Rattle.mc_ring.specs.Route.{Name, Route}
+use Rattle.mc_ring.proofs.Lists.{all_at, get_below, get_map}
+use Rattle.mc_history.specs.declared.event.Event.{Event}
+use Rattle.mc_history.specs.declared.knowledge.Role.TheVariants.{Seat}
+use Rattle.mc_history.specs.Lawful.{IsHistory}
+use Rattle.mc_history.specs.Roles.{seat_of}
+use Rattle.mc_history.specs.Tokens.{Acting}
+use Rattle.mc_record.specs.Clerk.{IsSeatActor}
+use Rattle.mc_record.specs.Closing.{IsWholeIn}
+use Rattle.mc_record.specs.Opening.{ActInOrder}
+use Rattle.mc_seat.specs.Explains.{IsLogOfLines, LineTold}
+use Rattle.mc_threads.specs.Routes.{AreOnRoutes}
 use Rattle.mc_doors.specs.Told.{SourceTold}
+use Rattle.mc_serve.specs.Recorded.{IsClerkOf, route_from}
 use Rattle.mc_serve.specs.Seats.{SeatAt, SeatServes}
-use Rattle.mc_serve.specs.Served.{ExplainsSeat, PassEach, ServesSources}
+use Rattle.mc_serve.specs.Served.{ExplainsSeat, PassEach, ServesSources, log_by}
 use Rattle.mc_serve.proofs.Chain.{lines_same}
+use Rattle.mc_serve.proofs.Ran.{lawful_log}
 use Rattle.mc_serve.proofs.Segments.{explains_seat}
+use Rattle.mc_serve.proofs.Zipped.{all_map, map_map, met_at}
 use Rattle.mc_command.specs.declared.rules.Rules.{Rules}
-use Rattle.mc_ring.proofs.Lists.{get_map, all_weaken, all_at}
 
 -- A seat by its number, before and after, and its lines.
 record IsSeatAt (shards : ℕ) (rules : Rules) (may_answer : ℕ → Type 0) (sats roses : List SeatAt) (number : ℕ)
@@ -92,11 +94,15 @@ have_lines shards rules may_answer (sat ∷ sats) (rose ∷ roses) zips =
       at = seat_here shards rules may_answer sat rose sats roses serves rest.seats rest.at;
     }
 
--- The threads were started over new channels: seats by their sources, workers by fresh shards.
-pub record HasBegun (sizes : Sizes) (sats : List SeatAt) (begun : List WorkerState) : Type 0 where
-  pub channels : AreChannels sizes.seats sizes.shards sizes.ring (map (λ (sat : SeatAt). sat.ends) sats)
-      (map (λ (worker_state : WorkerState). worker_state.ends) begun)
-  pub fresh : AllByRecursion (IsFresh sizes) begun
+-- The seats as they began: their clerks are those of a history that was opened, in their order, and fit their ends.
+pub record HaveBegun (sizes : Sizes) (name : Name) (sats : List SeatAt) : Type 0 where
+  pub clerks : ActInOrder Seat name sizes.seats (map (λ (sat : SeatAt). sat.clerk) sats)
+  pub fit : AllByRecursion (λ (sat : SeatAt). IsClerkOf sizes sat.ends sat.clerk) sats
+
+-- The seats as they are once their channels are closed: each clerk knows the routes of its seat's channels.
+pub record HaveEnded (roses : List SeatAt) : Type 0 where
+  pub actors : AllByRecursion (λ (rose : SeatAt). IsSeatActor rose.clerk) roses
+  pub routes : AllByRecursion (λ (rose : SeatAt). AreOnRoutes (route_from rose.clerk) rose.ends) roses
 
 -- the ends are those of the seat before
 seat_same : (shards : ℕ) (rules : Rules) (may_answer : ℕ → Type 0) (sat rose : SeatAt)
@@ -105,107 +111,126 @@ seat_same shards rules may_answer sat rose serves =
     same_ends-trans sat.ends serves.served rose.ends
     (lines_same shards rules may_answer serves.lines sat.ends serves.served serves.lines_are) serves.closed.same
 
--- Each seat has a channel to each worker once they are joined.
-pub channels_joined : (sizes : Sizes) (may_answer : ℕ → Type 0) (sats roses : List SeatAt)
-    (begun ended : List WorkerState) → HasBegun sizes sats begun
-    → Zips (SeatServes sizes.shards (rules_of sizes) may_answer) sats roses → Zips Finishes begun ended
-    → (number : ℕ) (rose : SeatAt) → slice_get roses number ≡ Some rose → HasChannels rose.ends ended
-channels_joined sizes may_answer sats roses begun ended started served finished number rose here shard worker_state
-    there =
-    let sat = met_at (SeatServes sizes.shards (rules_of sizes) may_answer) sats roses number rose served here in
-    let begin = met_at Finishes begun ended shard worker_state finished there in
-    let channel = started.channels.each_channel number shard sat.one.ends begin.one.ends
-    (get_map (λ (one : SeatAt). one.ends) sats number sat.one sat.here)
-    (get_map (λ (one : WorkerState). one.ends) begun shard begin.one begin.here) in
-    channel_kept sat.one.ends rose.ends begin.one.ends worker_state.ends
-    (seat_same sizes.shards (rules_of sizes) may_answer sat.one rose sat.met) begin.met.goes.ends channel
+-- The clerk of a seat is that of its number, in this history.
+record IsClerkAt (name : Name) (number : ℕ) (clerk : Acting) : Type 0 where
+  name_is : clerk.name ≡ name
+  role_is : clerk.role ≡ Seat number
 
--- One log explains the lines of all sources.
-pub serves_sources : (sizes : Sizes) (may_answer : ℕ → Type 0) (sats roses : List SeatAt)
-    (begun ended : List WorkerState) → 0 < sizes.shards → HasBegun sizes sats begun
-    → Zips (SeatServes sizes.shards (rules_of sizes) may_answer) sats roses → Zips Finishes begun ended
-    → AllByRecursion (λ (rose : SeatAt). AreTied rose.ends ended) roses
-    → ServesSources sizes may_answer (map (λ (sat : SeatAt). sat.source) sats)
-    (map (λ (rose : SeatAt). rose.source) roses)
-serves_sources sizes may_answer sats roses begun ended some started served finished tied =
-    let channels = started.channels in
-    let seats : length sats ≡ sizes.seats = sym (length-map sats (λ (sat : SeatAt). sat.ends)) ∙ channels.seat_count in
-    let workers : length begun ≡ sizes.shards =
-    sym (length-map begun (λ (worker_state : WorkerState). worker_state.ends)) ∙ channels.shard_count in
-    let count : length ended ≡ sizes.shards = zips_length Finishes begun ended finished ∙ workers in
-    let have = have_logs sizes 0 sizes.ring begun ended (λ i worker_state here.
-    (let at : i ≡ 0 + i = omega arith in
-    let N : ℕ → Type 0 = λ n. AreNewEnds n sizes.seats sizes.ring worker_state.ends in
-    subst N at (channels.each_shard i worker_state.ends
-    (get_map (λ (one : WorkerState). one.ends) begun i worker_state here)))) started.fresh finished in
-    let known = λ (number : ℕ) (sat rose : SeatAt) (at_sat : slice_get sats number ≡ Some sat)
-    (at_rose : slice_get roses number ≡ Some rose)
-    (serves : SeatServes sizes.shards (rules_of sizes) may_answer sat rose).
-    (let new : AreNewEnds number sizes.shards sizes.ring sat.ends = channels.each_seat number sat.ends
-    (get_map (λ (sat : SeatAt). sat.ends) sats number sat at_sat) in
-    let place : rose.ends.number ≡ number = (seat_same sizes.shards (rules_of sizes) may_answer sat rose serves).number
-    ∙ new.number_is in
-    let below : number < length sats = slice_get_within sats number sat at_sat in
-    let joined : IsJoined sizes rose.ends ended have.logs =
+-- A clerk that knows the routes of a seat's channels is that of the clerk's slot and history that knew them before.
+same_clerk : (sizes : Sizes) (name : Name) (number : ℕ) (sat rose : SeatAt) → 0 < sizes.shards
+    → IsClerkOf sizes sat.ends sat.clerk → sat.clerk ≡ record { name = name; role = Seat number; events = [] }
+    → AreSameEnds sat.ends rose.ends → IsSeatActor rose.clerk → AreOnRoutes (route_from rose.clerk) rose.ends
+    → IsClerkAt name number rose.clerk
+same_clerk sizes name number sat rose some fit is same actor routes =
+    let width : length sat.ends.channels ≡ sizes.shards = sym (fit.routes.shards 0)
+    ∙ ap (λ (s : Sizes). s.shards) fit.sizes_are in
+    let count = same.count in
+    let before = get_below sat.ends.channels 0 (omega (arith, some, width)) in
+    let after = get_below rose.ends.channels 0 (omega (arith, some, width, count)) in
+    let first : before.0.past.channel ≡ after.0.past.channel =
+    same_Some before.0.past.channel after.0.past.channel
+    (sym (get_map (λ (end : Near). end.past.channel) sat.ends.channels 0 before.0 before.1)
+    ∙ (ap (λ channels. slice_get channels 0) (sym same.channels)
+    ∙ get_map (λ (end : Near). end.past.channel) rose.ends.channels 0 after.0 after.1)) in
+    let route : route_from sat.clerk 0 ≡ route_from rose.clerk 0 = sym (fit.routes.each 0 before.0 before.1)
+    ∙ (ap (λ (channel : Channel). channel.route) first ∙ routes.each 0 after.0 after.1) in
     record {
-      some = some;
-      seat = omega (arith, place, below, seats);
-      count = count;
-      are = have.are;
-      tied = all_at (λ (rose : SeatAt). AreTied rose.ends ended) roses number rose tied at_rose;
-    } in
-    let K : ℕ → Type 0 = λ n. ExplainsSeat sizes may_answer (together have.logs) n serves.lines in
-    let is : K number = subst K place
-    (explains_seat sizes sizes.ring number may_answer sat rose ended have.logs serves new joined) in
-    is) in
-    let all = have_lines sizes.shards (rules_of sizes) may_answer sats roses served in
-    let told : length all.seats ≡ sizes.seats = all.count ∙ seats in
-    record {
-      seats = all.seats;
-      back = all.back;
-      log = together have.logs;
-      log_is = record {
-        lawful = lawful sizes ended have.logs count have.are;
-        owned =
-            all_weaken (IsOwned sizes 0 sizes.shards)
-            (λ entry. (entry.shard < sizes.shards) × (entry.asker < length all.seats))
-            (λ entry h. (h.1, (let asked = h.2 in omega (arith, asked, told)))) (together have.logs)
-            (own_all sizes 0 sizes.shards ended have.logs
-            (let at : 0 + length ended ≡ sizes.shards = omega (arith, count) in at) have.are);
-      };
-      each = λ number lines here.
-          let at = all.at number lines here in
-          let E : List LineTold → Type 0 = λ told. ExplainsSeat sizes may_answer (together have.logs) number told in
-          subst E at.lines_are (known number at.sat at.rose at.at_sat at.at_rose at.serves);
+      name_is = sym (ap (λ (r : Route). r.name) route) ∙ ap (λ (a : Acting). a.name) is;
+      role_is = actor.role
+          ∙ ap Seat (sym (ap (λ (r : Route). r.seat) route) ∙ ap (λ (a : Acting). seat_of a.role) is);
     }
 
--- The same, of whatever holds the sources: seats and workers before and after.
-module _ {S W D : Type 0} (sizes : Sizes) (may_answer : ℕ → Type 0) (slot seats : List S) (working workers : List W)
-    (sources back : List D) (at : S → SeatAt) (source_of : S → D) (worker_state_of : W → WorkerState)
-    (told : D → SourceTold) where
+-- All seats, from their beginning to their end.
+module _ (sizes : Sizes) (name : Name) (may_answer : ℕ → Type 0) (sats roses : List SeatAt) (some : 0 < sizes.shards)
+    (begun : HaveBegun sizes name sats) (served : Zips (SeatServes sizes.shards (rules_of sizes) may_answer) sats roses)
+    (ended : HaveEnded roses) where
+  new_at : (number : ℕ) (sat : SeatAt) → slice_get sats number ≡ Some sat
+      → sat.clerk ≡ record { name = name; role = Seat number; events = [] }
+  new_at number sat here =
+      begun.clerks.each number sat.clerk (get_map (λ (sat : SeatAt). sat.clerk) sats number sat here)
+
+  fits_at : (number : ℕ) (sat : SeatAt) → slice_get sats number ≡ Some sat → IsClerkOf sizes sat.ends sat.clerk
+  fits_at number sat here =
+      all_at (λ (sat : SeatAt). IsClerkOf sizes sat.ends sat.clerk) sats number sat begun.fit here
+
+  clerk_at : (number : ℕ) (rose : SeatAt) → slice_get roses number ≡ Some rose → IsClerkAt name number rose.clerk
+  clerk_at number rose here =
+      let sat = met_at (SeatServes sizes.shards (rules_of sizes) may_answer) sats roses number rose served here in
+      same_clerk sizes name number sat.one rose some (fits_at number sat.one sat.here) (new_at number sat.one sat.here)
+      (seat_same sizes.shards (rules_of sizes) may_answer sat.one rose sat.met)
+      (all_at (λ (rose : SeatAt). IsSeatActor rose.clerk) roses number rose ended.actors here)
+      (all_at (λ (rose : SeatAt). AreOnRoutes (route_from rose.clerk) rose.ends) roses number rose ended.routes here)
+
+  -- Each clerk is still of the history that was opened.
+  pub names_kept : AllByRecursion (λ (rose : SeatAt). rose.clerk.name ≡ name) roses
+  names_kept =
+      all_from (λ (rose : SeatAt). rose.clerk.name ≡ name) roses (λ number rose here. (clerk_at number rose here).name_is)
+
+  -- A history that has all that the clerks recorded explains the lines of all sources.
+  pub serves_sources : name.sizes ≡ sizes → (events : List Event) → IsHistory sizes events
+      → AllByRecursion (λ (rose : SeatAt). IsWholeIn events rose.clerk) roses
+      → ServesSources sizes may_answer (map (λ (sat : SeatAt). sat.source) sats)
+      (map (λ (rose : SeatAt). rose.source) roses)
+  serves_sources sizes_are events lawful whole =
+      let all = have_lines sizes.shards (rules_of sizes) may_answer sats roses served in
+      let seats : length all.seats ≡ sizes.seats = all.count
+      ∙ (sym (length-map sats (λ (sat : SeatAt). sat.clerk)) ∙ begun.clerks.counted) in
+      let L : ℕ → Type 0 = λ n. IsLogOfLines sizes n (log_by events) in
+      record {
+        seats = all.seats;
+        back = all.back;
+        log = log_by events;
+        log_is = subst L (sym seats) (lawful_log sizes events lawful);
+        history = record { events = events; lawful = lawful; log_is = refl };
+        each = λ number lines here.
+            let at = all.at number lines here in
+            let clerk = clerk_at number at.rose at.at_rose in
+            let E : List LineTold → Type 0 = λ lines. ExplainsSeat sizes may_answer (log_by events) number lines in
+            subst E at.lines_are
+            (explains_seat sizes number may_answer at.sat at.rose events at.serves
+            (record {
+              clerk = fits_at number at.sat at.at_sat;
+              none = ap (λ (a : Acting). a.events) (new_at number at.sat at.at_sat);
+            }) (ap (λ (n : Name). n.sizes) clerk.name_is ∙ sizes_are) clerk.role_is lawful
+            (all_at (λ (rose : SeatAt). IsWholeIn events rose.clerk) roses number at.rose whole at.at_rose));
+      }
+
+-- What is known of the seats is so of whatever holds the sources: seats before and after.
+module _ {S D : Type 0} (sizes : Sizes) (name : Name) (may_answer : ℕ → Type 0) (before after : List S)
+    (sources : List D) (at : S → SeatAt) (source_of : S → D) (told : D → SourceTold) where
   -- what is known once all are started and joined
   pub record AreJoined : Type 0 where
     pub seen : (seat : S) → told (source_of seat) ≡ (at seat).source
-    pub sources_are : map source_of slot ≡ sources
-    pub channels : AreChannels sizes.seats sizes.shards sizes.ring (map (λ seat. (at seat).ends) slot)
-        (map ends_of (map worker_state_of working))
-    pub fresh : AllByRecursion (IsFresh sizes) (map worker_state_of working)
-    pub served : Zips (SeatServes sizes.shards (rules_of sizes) may_answer) (map at slot) (map at seats)
-    pub finished : Zips Finishes (map worker_state_of working) (map worker_state_of workers)
+    pub sources_are : map source_of before ≡ sources
+    pub clerks : ActInOrder Seat name sizes.seats (map (λ seat. (at seat).clerk) before)
+    pub fit : AllByRecursion (λ seat. IsClerkOf sizes (at seat).ends (at seat).clerk) before
+    pub served : Zips (SeatServes sizes.shards (rules_of sizes) may_answer) (map at before) (map at after)
+    pub actors : AllByRecursion (λ seat. IsSeatActor (at seat).clerk) after
+    pub routes : AllByRecursion (λ seat. AreOnRoutes (route_from (at seat).clerk) (at seat).ends) after
 
-  has_begun : AreJoined → HasBegun sizes (map at slot) (map worker_state_of working)
-  has_begun known =
-      let A : List (Ends Near) → Type 0 =
-      λ near. AreChannels sizes.seats sizes.shards sizes.ring near (map ends_of (map worker_state_of working)) in
-      record { channels = subst A (map_map at (λ (sat : SeatAt). sat.ends) slot) known.channels; fresh = known.fresh }
+  have_begun : AreJoined → HaveBegun sizes name (map at before)
+  have_begun known =
+      record {
+        clerks =
+            subst (ActInOrder Seat name sizes.seats) (map_map at (λ (sat : SeatAt). sat.clerk) before) known.clerks;
+        fit = all_map (λ (sat : SeatAt). IsClerkOf sizes sat.ends sat.clerk) at before known.fit;
+      }
 
-  -- Each seat has a channel to each worker.
-  pub channels_are : AreJoined → AllByRecursion (λ seat. HasChannels (at seat).ends (map worker_state_of workers)) seats
-  channels_are known =
-      all_unmap (λ (rose : SeatAt). HasChannels rose.ends (map worker_state_of workers)) at seats
-      (all_from (λ (rose : SeatAt). HasChannels rose.ends (map worker_state_of workers)) (map at seats)
-      (channels_joined sizes may_answer (map at slot) (map at seats) (map worker_state_of working)
-      (map worker_state_of workers) (has_begun known) known.served known.finished))
+  have_ended : AreJoined → HaveEnded (map at after)
+  have_ended known =
+      record {
+        actors = all_map (λ (rose : SeatAt). IsSeatActor rose.clerk) at after known.actors;
+        routes = all_map (λ (rose : SeatAt). AreOnRoutes (route_from rose.clerk) rose.ends) at after known.routes;
+      }
+
+  -- The clerks are of the history that was opened.
+  pub names_are : 0 < sizes.shards → AreJoined
+      → AllByRecursion (λ (clerk : Acting). clerk.name ≡ name) (map (λ seat. (at seat).clerk) after)
+  names_are some known =
+      all_map (λ (clerk : Acting). clerk.name ≡ name) (λ seat. (at seat).clerk) after
+      (all_unmap (λ (rose : SeatAt). rose.clerk.name ≡ name) at after
+      (names_kept sizes name may_answer (map at before) (map at after) some (have_begun known) known.served
+      (have_ended known)))
 
   seen_all : AreJoined → (seats : List S) → map (λ (seat : SeatAt). seat.source) (map at seats)
       ≡ map told (map source_of seats)
@@ -214,18 +239,21 @@ module _ {S W D : Type 0} (sizes : Sizes) (may_answer : ℕ → Type 0) (slot se
       ap (λ d. d ∷ map (λ (s : SeatAt). s.source) (map at seats)) (sym (known.seen seat))
       ∙ ap (λ ds. told (source_of seat) ∷ ds) (seen_all known seats)
 
-  -- All sources are served where each seat served its own, its ends are tied to the workers, and the sources came back.
-  pub all_sources : 0 < sizes.shards → AreJoined
-      → AllByRecursion (λ seat. AreTied (at seat).ends (map worker_state_of workers)) seats → back ≡ map source_of seats
+  -- All sources are served where each seat served its own, a history has all that the clerks recorded, and the sources
+  -- came back.
+  pub all_sources : 0 < sizes.shards → name.sizes ≡ sizes → AreJoined → (events : List Event) → IsHistory sizes events
+      → AllByRecursion (λ (clerk : Acting). IsWholeIn events clerk) (map (λ seat. (at seat).clerk) after)
+      → (back : List D) → back ≡ map source_of after
       → ServesSources sizes may_answer (map told sources) (map told back)
-  all_sources some known tied reported =
-      let before : map (λ (sat : SeatAt). sat.source) (map at slot) ≡ map told sources = seen_all known slot
+  all_sources some sizes_are known events lawful whole back reported =
+      let first : map (λ (sat : SeatAt). sat.source) (map at before) ≡ map told sources = seen_all known before
       ∙ ap (map told) known.sources_are in
-      let after : map (λ (rose : SeatAt). rose.source) (map at seats) ≡ map told back = seen_all known seats
+      let last : map (λ (rose : SeatAt). rose.source) (map at after) ≡ map told back = seen_all known after
       ∙ ap (map told) (sym reported) in
       let P : List SourceTold → List SourceTold → Type 0 = λ ds es. ServesSources sizes may_answer ds es in
-      let all = serves_sources sizes may_answer (map at slot) (map at seats) (map worker_state_of working)
-      (map worker_state_of workers) some (has_begun known) known.served known.finished
-      (all_map (λ (rose : SeatAt). AreTied rose.ends (map worker_state_of workers)) at seats tied) in
-      subst (λ es. P (map told sources) es) after
-      (subst (λ ds. P ds (map (λ (rose : SeatAt). rose.source) (map at seats))) before all)
+      let all = serves_sources sizes name may_answer (map at before) (map at after) some (have_begun known) known.served
+      (have_ended known) sizes_are events lawful
+      (all_map (λ (rose : SeatAt). IsWholeIn events rose.clerk) at after
+      (all_unmap (λ (clerk : Acting). IsWholeIn events clerk) (λ seat. (at seat).clerk) after whole)) in
+      subst (λ es. P (map told sources) es) last
+      (subst (λ ds. P ds (map (λ (rose : SeatAt). rose.source) (map at after))) first all)

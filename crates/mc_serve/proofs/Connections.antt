@@ -1,4 +1,4 @@
--- Connections over streams, by what is told of the sources that let them in.
+-- Connections over streams, by the histories of the sources that accepted them.
 use Rattle.std.proofs.Common.{◌≡◌, ℕ, suc, ◌+◌, ◌-◌, ◌^◌, ◌≤◌, min, Bool, true, false, List, [], ◌∷◌, ◌++◌, length, map}
 use Rattle.std.proofs.Common.{Option, Some, None, refl, sym, ap, subst, ◌∙◌, append_assoc, append-nil, arith}
 use Rattle.std.specs.List.{AllByRecursion, slice_get}
@@ -23,7 +23,7 @@ use Rattle.mc_serve.specs.Connections.{AreServed, ServesConnections, how_many, s
 use Rattle.mc_serve.specs.declared.outcome.Outcome.{Outcome}
 use Rattle.mc_model.proofs.Lists.{all_from}
 use Rattle.mc_threads.proofs.Orders.{map_one}
-use Rattle.mc_serve.proofs.Channels.{map_map}
+use Rattle.mc_serve.proofs.Zipped.{map_map}
 
 -- bytes that a trace lists
 of_trace : Trace → Option (List ℕ)
@@ -36,7 +36,7 @@ unfolding of_trace
 of_trace-of None = refl
 of_trace-of (Some bytes) = refl
 
--- Bytes of which the same is told are the same.
+-- Bytes of which the trace is the same are the same.
 bytes_same : (these those : Option (List ℕ)) → trace_of these ≡ trace_of those → these ≡ those
 bytes_same these those same = sym (of_trace-of these) ∙ (ap of_trace same ∙ of_trace-of those)
 
@@ -93,7 +93,7 @@ rest_of : List Sight → List Sight
 rest_of [] = []
 rest_of (line ∷ lines) = lines
 
--- The same of all streams of a seat.
+-- All streams of a seat were served so.
 all_served : {S T : Type 0} {g : Ghosts S} (streams : List S) (gone : List (ClosedConnection S T g × Unit {0}))
     → map (λ stream. new_line (g.remaining stream) (g.contents stream)) streams
     ≡ map (λ line. line.begin) (gone_lines gone) → AllByRecursion KeepsNotes (gone_lines gone)
@@ -255,6 +255,7 @@ module _ {S A D : Type 0} {g : Ghosts S} (coming : A → Option (List S)) (comin
           whole = own_seats (seats_of served);
           log = serves.log;
           log_is = subst L (ap length lines ∙ length-map (seats_of served) gone_lines) serves.log_is;
+          history = serves.history;
           each =
               λ seat these here. serves.each seat (gone_lines these)
               (ap (λ all. slice_get all seat) lines ∙ get_map gone_lines (seats_of served) seat these here);
@@ -262,7 +263,7 @@ module _ {S A D : Type 0} {g : Ghosts S} (coming : A → Option (List S)) (comin
         streams = subst Z (sym are) (seats.served kept);
       }
 
-  -- The same, by what is known of the sources.
+  -- All connections are served and explained, by what is known of the sources.
   pub joined : (sizes : Sizes) (may_answer : ℕ → Type 0) (arrivals : List A) (sources back : List D)
       (served : Outcome S g) → map told sources ≡ map fresh arrivals
       → ServesSources (record sizes { seats = length sources }) may_answer (map told sources) (map told back)

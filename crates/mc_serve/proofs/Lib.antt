@@ -1,10 +1,7 @@
 pub mod Zipped
-pub mod Tying
-pub mod Joined
 pub mod Line
-pub mod Channels
+pub mod Ran
 pub mod Served
-pub mod WorkerLogs
 pub mod Recording
 pub mod Chain
 pub mod Steps

@@ -10,8 +10,7 @@ use Rattle.mc_model.specs.Log.{Entry, of_asker, on_shard}
 use Rattle.mc_wake.specs.Zips.{Zips}
 use Rattle.mc_seat.specs.Explains.{ExplainsLine, IsLogOfLines, LineTold, log_of}
 use Rattle.mc_serve.specs.Over.{CameBack, ServesAll, lines_told}
-use Rattle.mc_serve.proofs.Channels.{map_map}
-use Rattle.mc_serve.proofs.Zipped.{zips_seen}
+use Rattle.mc_serve.proofs.Zipped.{map_map, zips_seen}
 use Rattle.mc_doors.specs.Told.{SourceTold, IsFree, TellsLines, closed}
 use Rattle.mc_serve.specs.Served.{ExplainsHistory, PassEach, PassesAll, ServesSources}
 use Rattle.mc_doors.specs.One.{IsBack, waits}
@@ -102,9 +101,16 @@ serves_one sizes may_answer lines sources backs serves zips =
             let seat = serves.each number (line ∷ []) there in
             one_history sizes may_answer serves.log number line seat.histories seat.each seat.ran;
       };
+      history = serves.history;
     }
 
--- The same, of whatever holds the lines.
+-- There are as many sources as lines.
+pub same_count : {A C : Type 0} (told : A → SourceTold) (sight : C → Sight) (sources : List A) (lines : List C)
+    → map told sources ≡ map (λ line. waits (sight line)) lines → length sources ≡ length lines
+same_count told sight sources lines same =
+    sym (length-map sources told) ∙ (ap length same ∙ length-map lines (λ line. waits (sight line)))
+
+-- What is known of the sources is so of whatever holds the lines.
 pub over_all : {A B C : Type 0} (sizes_at : ℕ → Sizes) (may_answer : ℕ → Type 0) (told : A → SourceTold)
     (came : B → CameBack) (sight : C → Sight) (lines : List C) (sources back : List A) (report : List B)
     → map told sources ≡ map (λ line. waits (sight line)) lines
@@ -112,8 +118,7 @@ pub over_all : {A B C : Type 0} (sizes_at : ℕ → Sizes) (may_answer : ℕ →
     → Zips (λ source one. IsBack (told source) (came one).line (came one).commands (came one).broke) back report
     → ServesAll (sizes_at (length lines)) may_answer (map sight lines) (map came report)
 over_all sizes_at may_answer told came sight lines sources back report same serves zips =
-    let count : length sources ≡ length lines = sym (length-map sources told)
-    ∙ (ap length same ∙ length-map lines (λ line. waits (sight line))) in
+    let count = same_count told sight sources lines same in
     let before : map told sources ≡ map waits (map sight lines) = same ∙ map_map sight waits lines in
     let P : ℕ → List SourceTold → Type 0 = λ n ds. ServesSources (sizes_at n) may_answer ds (map told back) in
     serves_one (sizes_at (length lines)) may_answer (map sight lines) (map told back) (map came report)

@@ -1,49 +1,50 @@
--- The seats and the workers of one thread, and of all threads.
+-- The seats of one thread, and of all threads.
 use Rattle.std.proofs.Common.{◌≡◌, ◌≤◌, ◌+◌, ℕ, List, [], ◌∷◌, ◌++◌, length, map, take, Some, refl, sym, ap, subst, ◌∙◌}
-use Rattle.std.proofs.Common.{append_assoc, append-nil, slice_set}
+use Rattle.std.proofs.Common.{append_assoc, append-nil}
 use Rattle.std.specs.List.{AllByRecursion, flat_map, slice_get}
 use Rattle.std.proofs.lemmas.List.{take_all}
 use Rattle.mc_sizes.specs.Sizes.{rules_of}
 use Rattle.mc_sizes.specs.declared.sizes.Sizes.{Sizes}
 use Rattle.mc_model.proofs.Lists.{take_next}
 use Rattle.mc_wire.specs.Sink.{Sight}
-use Rattle.mc_ring.specs.Made.{AreChannels}
+use Rattle.mc_ring.specs.Route.{Name}
+use Rattle.mc_history.specs.declared.knowledge.Role.TheVariants.{Seat}
+use Rattle.mc_history.specs.Tokens.{Acting}
+use Rattle.mc_record.specs.Clerk.{IsSeatActor}
+use Rattle.mc_record.specs.Opening.{ActInOrder}
 use Rattle.mc_seat.specs.declared.clerk.Clerk.{Ghosts}
 use Rattle.mc_seat.specs.declared.warrant.Warrant.{Ghosts as Warrants}
 use Rattle.mc_seat.specs.Place.{Place}
-use Rattle.mc_worker.specs.WorkerState.{WorkerState, Goes}
-use Rattle.mc_worker.specs.WorkerStateLaws.{goes_refl, goes_trans}
 use Rattle.mc_wake.specs.Zips.{Zips}
 use Rattle.mc_threads.specs.declared.session.Session.{Session}
-use Rattle.mc_threads.specs.Workers.{IsFresh, ends_of}
-use Rattle.mc_threads.specs.Working.{Finishes}
+use Rattle.mc_threads.specs.Routes.{AreOnRoutes}
 use Rattle.mc_doors.specs.Told.{SourceTold}
 use Rattle.mc_serve.specs.declared.connection_slot.SlotState.{SlotState}
 use Rattle.mc_serve.specs.declared.connection_slot.SlotState.TheVariants as slot_state
 use Rattle.mc_serve.specs.Seats.{CanStep, HasSatDown, SeatAt, SeatServes, SeatStands, seat_at}
-use Rattle.mc_serve.proofs.Channels.{map-slice_set}
+use Rattle.mc_serve.specs.Recorded.{IsClerkOf, route_from}
 use Rattle.mc_serve.proofs.Steps.{can_step, sits_first}
-use Rattle.mc_serve.proofs.Zipped.{met_at, zips_append, zips_each, zips_set}
+use Rattle.mc_serve.proofs.Zipped.{met_at, zips_append}
 use Rattle.mc_serve.proofs.AtSources.{AreJoined}
 use Rattle.mc_command.specs.declared.rules.Rules.{Rules}
-use Rattle.mc_threads.specs.Session.{seat_ends}
-use Rattle.mc_ring.proofs.Lists.{get_map, all_append}
+use Rattle.mc_threads.specs.Session.{seat_clerk, seat_ends}
+use Rattle.mc_ring.proofs.Lists.{all_append}
 
--- A seat stands, and how it is seen: by what is told of its source, its session and its phase.
-abbrev pub Stands : {S L : Type 0} {T C : Type 0} {w : Warrants T} {g : Ghosts C T} → (L → Place) → (L → Sight)
-    → (S → SourceTold)
-    → (S → Session T C w g) → (S → SlotState L) → ℕ → Rules → (ℕ → Type 0) → SeatAt → S → Type 0
+-- The state of a seat, by the history of its source, its session and its phase.
+abbrev pub Stands : {S L : Type 0} {T : Type 0} {w : Warrants T} {g : Ghosts Acting T} → (L → Place) → (L → Sight)
+    → (S → SourceTold) → (S → Session T Acting w g) → (S → SlotState L) → ℕ → Rules → (ℕ → Type 0) → SeatAt → S
+    → Type 0
 Stands place sight told session now shards rules may_answer sat one =
     SeatStands place sight shards rules may_answer sat (told one) (session one) (now one)
 
-abbrev pub at : {S : Type 0} {T C : Type 0} {w : Warrants T} {g : Ghosts C T} → (S → SourceTold)
-    → (S → Session T C w g) → S → SeatAt
-at told session one = seat_at (told one) (seat_ends (session one))
+abbrev pub at : {S : Type 0} {T : Type 0} {w : Warrants T} {g : Ghosts Acting T} → (S → SourceTold)
+    → (S → Session T Acting w g) → S → SeatAt
+at told session one = seat_at (told one) (seat_ends (session one)) (seat_clerk (session one))
 
--- The seats of a thread have sat down, so they stand as they began.
-pub seats_begin : {S L : Type 0} {T C : Type 0} {w : Warrants T} {g : Ghosts C T} (seats : List S) (place : L → Place)
+-- The seats of a thread are before their first step, so they are as they began.
+pub seats_begin : {S L : Type 0} {T : Type 0} {w : Warrants T} {g : Ghosts Acting T} (seats : List S) (place : L → Place)
     (sight : L → Sight)
-    (told : S → SourceTold) (session : S → Session T C w g) (now : S → SlotState L) (shards : ℕ) (rules : Rules)
+    (told : S → SourceTold) (session : S → Session T Acting w g) (now : S → SlotState L) (shards : ℕ) (rules : Rules)
     (may_answer : ℕ → Type 0)
     → AllByRecursion (λ one. HasSatDown shards rules (told one) (session one) (now one)) seats
     → Zips (Stands place sight told session now shards rules may_answer) (map (at told session) seats) seats
@@ -59,8 +60,8 @@ seats_begin {S} {L} (one ∷ seats) place sight told session now shards rules ma
     )
 
 -- All channels were closed, so they have served.
-pub seats_over : {S L : Type 0} {T C : Type 0} {w : Warrants T} {g : Ghosts C T} (seats : List S) (sats : List SeatAt)
-    (place : L → Place) (sight : L → Sight) (told : S → SourceTold) (session : S → Session T C w g)
+pub seats_over : {S L : Type 0} {T : Type 0} {w : Warrants T} {g : Ghosts Acting T} (seats : List S) (sats : List SeatAt)
+    (place : L → Place) (sight : L → Sight) (told : S → SourceTold) (session : S → Session T Acting w g)
     (now : S → SlotState L) (shards : ℕ)
     (rules : Rules) (may_answer : ℕ → Type 0)
     → AllByRecursion (λ one. now one ≡ slot_state.Over) seats
@@ -74,9 +75,9 @@ seats_over {S} {L} (one ∷ seats) (sat ∷ sats) place sight told session now s
     (subst P all.0 zips.0, seats_over seats sats place sight told session now shards rules may_answer all.1 zips.1)
 
 -- The seat at a place may be stepped, once it is what it became.
-pub seat_steps : {S L : Type 0} {T C : Type 0} {w : Warrants T} {g : Ghosts C T} (seats : List S) (sats : List SeatAt)
+pub seat_steps : {S L : Type 0} {T : Type 0} {w : Warrants T} {g : Ghosts Acting T} (seats : List S) (sats : List SeatAt)
     (number : ℕ)
-    (one next : S) (place : L → Place) (sight : L → Sight) (told : S → SourceTold) (session : S → Session T C w g)
+    (one next : S) (place : L → Place) (sight : L → Sight) (told : S → SourceTold) (session : S → Session T Acting w g)
     (now : S → SlotState L)
     (shards : ℕ) (rules : Rules) (may_answer : ℕ → Type 0)
     → slice_get seats number ≡ Some one
@@ -87,33 +88,6 @@ pub seat_steps : {S L : Type 0} {T C : Type 0} {w : Warrants T} {g : Ghosts C T}
 seat_steps seats sats number one next place sight told session now shards rules may_answer here became zips =
     let met = met_at (Stands place sight told session now shards rules may_answer) sats seats number one zips here in
     can_step shards rules may_answer place sight met.one (told next) (session next) (now next) (became met.one met.met)
-
--- The workers of a thread are before their first turn.
-pub workers_begin : {W : Type 0} (workers : List W) (worker_state : W → WorkerState)
-    → Zips Goes (map worker_state workers) (map worker_state workers)
-workers_begin [] worker_state = tt
-workers_begin (one ∷ workers) worker_state = (goes_refl (worker_state one), workers_begin workers worker_state)
-
--- The worker at a place had a turn.
-pub worker_turned : {W : Type 0} (workers : List W) (worker_state : W → WorkerState) (begun : List WorkerState)
-    (place : ℕ) (old new : W) → slice_get workers place ≡ Some old → Goes (worker_state old) (worker_state new)
-    → Zips Goes begun (map worker_state workers) → Zips Goes begun (map worker_state (slice_set workers place new))
-worker_turned workers worker_state begun place old new here goes zips =
-    let Z : List WorkerState → Type 0 = λ worker_states. Zips Goes begun worker_states in
-    subst Z (sym (map-slice_set worker_state workers place new))
-    (zips_set Goes begun (map worker_state workers) place (worker_state old) (worker_state new)
-    (get_map worker_state workers place old here)
-    (λ first was. goes_trans first (worker_state old) (worker_state new) was goes) zips)
-
--- All have ended.
-pub workers_end : {W : Type 0} (workers : List W) (worker_state : W → WorkerState) (begun : List WorkerState)
-    → AllByRecursion (λ one. (first : WorkerState) → Goes first (worker_state one) → Finishes first (worker_state one))
-    workers → Zips Goes begun (map worker_state workers) → Zips Finishes begun (map worker_state workers)
-workers_end [] worker_state [] all zips = tt
-workers_end (one ∷ workers) worker_state [] all zips = absurd zips
-workers_end [] worker_state (first ∷ begun) all zips = absurd zips
-workers_end (one ∷ workers) worker_state (first ∷ begun) all zips =
-    (all.0 first zips.0, workers_end workers worker_state begun all.1 zips.1)
 
 -- One more of them was looked at.
 pub all_next : {A : Type 0} (xs : List A) (P : A → Type 0) (place : ℕ) (x : A) → slice_get xs place ≡ Some x → P x
@@ -199,42 +173,27 @@ zips_flat {P} {A} {B} (part ∷ parts) (part' ∷ parts') own f R zips =
     (zips_append R (map f (own part)) (map f (own part')) (map f (flat_map own parts)) (map f (flat_map own parts'))
     zips.0 (zips_flat parts parts' own f R zips.1)))
 
--- The parts of all threads are joined, and what they serve was taken apart.
-pub parts_joined : {P S W D : Type 0} (thread_group parts : List P) (seats : List S) (workers : List W)
-    (sources back : List D) (own : P → List S) (working : P → List W) (at : S → SeatAt) (source_of : S → D)
-    (worker_state_of : W → WorkerState) (told : D → SourceTold) (sizes : Sizes) (may_answer : ℕ → Type 0)
+-- The parts of all threads are joined.
+pub parts_joined : {P S D : Type 0} (thread_group parts : List P) (sources : List D) (own : P → List S)
+    (at : S → SeatAt) (source_of : S → D) (told : D → SourceTold) (sizes : Sizes) (name : Name)
+    (may_answer : ℕ → Type 0)
     → ((seat : S) → told (source_of seat) ≡ (at seat).source)
     → map source_of (flat_map own thread_group) ≡ sources
-    → AreChannels sizes.seats sizes.shards sizes.ring (map (λ seat. (at seat).ends) (flat_map own thread_group))
-    (map ends_of (map worker_state_of (flat_map working thread_group)))
-    → AllByRecursion (IsFresh sizes) (map worker_state_of (flat_map working thread_group))
+    → ActInOrder Seat name sizes.seats (map (λ seat. (at seat).clerk) (flat_map own thread_group))
+    → AllByRecursion (λ seat. IsClerkOf sizes (at seat).ends (at seat).clerk) (flat_map own thread_group)
     → Zips (λ part part'. Zips (SeatServes sizes.shards (rules_of sizes) may_answer) (map at (own part))
-    (map at (own part')) × Zips Finishes (map worker_state_of (working part)) (map worker_state_of (working part')))
-    thread_group parts
-    → seats ≡ flat_map own parts → workers ≡ flat_map working parts
-    → AreJoined sizes may_answer (flat_map own thread_group) seats (flat_map working thread_group) workers sources back
-    at source_of worker_state_of told
-parts_joined {P} {S} {W} {D} thread_group parts seats workers sources back own working at source_of worker_state_of told
-    sizes may_answer seen sources_are channels fresh done seats_are workers_are =
-    let Rise : P → P → Type 0 =
-    λ part part'. Zips (SeatServes sizes.shards (rules_of sizes) may_answer) (map at (own part)) (map at (own part')) in
-    let End : P → P → Type 0 =
-    λ part part'. Zips Finishes (map worker_state_of (working part)) (map worker_state_of (working part')) in
-    let Q : List S → Type 0 =
-    λ xs. Zips (SeatServes sizes.shards (rules_of sizes) may_answer) (map at (flat_map own thread_group)) (map at xs) in
-    let F : List W → Type 0 =
-    λ xs. Zips Finishes (map worker_state_of (flat_map working thread_group)) (map worker_state_of xs) in
+    (map at (own part'))) thread_group parts
+    → AllByRecursion (λ seat. IsSeatActor (at seat).clerk) (flat_map own parts)
+    → AllByRecursion (λ seat. AreOnRoutes (route_from (at seat).clerk) (at seat).ends) (flat_map own parts)
+    → AreJoined sizes name may_answer (flat_map own thread_group) (flat_map own parts) sources at source_of told
+parts_joined thread_group parts sources own at source_of told sizes name may_answer seen sources_are clerks fit done
+    actors routes =
     record {
       seen = seen;
       sources_are = sources_are;
-      channels = channels;
-      fresh = fresh;
-      served =
-          subst Q (sym seats_are) (zips_flat thread_group parts own
-          at (SeatServes sizes.shards (rules_of sizes) may_answer)
-          (zips_each _ Rise thread_group parts done (λ i x y here there met. met.0)));
-      finished =
-          subst F (sym workers_are)
-          (zips_flat thread_group parts working worker_state_of Finishes
-          (zips_each _ End thread_group parts done (λ i x y here there met. met.1)));
+      clerks = clerks;
+      fit = fit;
+      served = zips_flat thread_group parts own at (SeatServes sizes.shards (rules_of sizes) may_answer) done;
+      actors = actors;
+      routes = routes;
     }

@@ -1,6 +1,6 @@
 -- The clerks and the recorders of an opened history are those of channels whose tokens are of it.
 use Rattle.std.proofs.Common.{◌≡◌, ℕ, ◌<◌, List, [], ◌++◌, length, Some, refl, sym, ap, subst, ◌∙◌, arith}
-use Rattle.std.specs.List.{slice_get}
+use Rattle.std.specs.List.{AllByRecursion, slice_get}
 use Rattle.std.proofs.lemmas.Option.{same_Some, slice_get_within}
 use Rattle.mc_sizes.specs.declared.sizes.Sizes.{Sizes}
 use Rattle.mc_ring.specs.Channel.{Channel, Far, Near}
@@ -8,7 +8,7 @@ use Rattle.mc_ring.specs.Ends.{Ends, channels_of}
 use Rattle.mc_ring.specs.Made.{AreChannels, AreRouted}
 use Rattle.mc_ring.specs.Reply.{Shown}
 use Rattle.mc_ring.specs.Route.{Name}
-use Rattle.mc_ring.proofs.Lists.{get_below, get_map}
+use Rattle.mc_ring.proofs.Lists.{all_at, get_below, get_map}
 use Rattle.mc_model.specs.Sized.{empty_shard}
 use Rattle.mc_history.specs.declared.knowledge.Role.TheVariants.{Seat, Shard}
 use Rattle.mc_history.specs.Tokens.{Acting}
@@ -111,3 +111,14 @@ module _ (sizes : Sizes) (name : Name) (capacity : ℕ) (near : List (Ends Near)
       (λ number shard recorder here there.
       subst (λ (one : Acting). IsRecorderOf sizes shard one) (sym (act.each number recorder there))
       (recorder_fits number shard here))
+
+-- Each source is of the history that its seat's clerk is of.
+pub histories_fit : {D : Type 0} (history : D → Name) (name : Name) (count : ℕ) (sources : List D)
+    (clerks : List Acting) → length sources ≡ count → ActInOrder Seat name count clerks
+    → AllByRecursion (λ source. history source ≡ name) sources
+    → Zips (λ source clerk. history source ≡ clerk.name) sources clerks
+histories_fit history name count sources clerks counted act all =
+    zips_from (λ source (clerk : Acting). history source ≡ clerk.name) sources clerks (act.counted ∙ sym counted)
+    (λ number source clerk here there.
+    all_at (λ source. history source ≡ name) sources number source all here
+    ∙ sym (ap (λ (one : Acting). one.name) (act.each number clerk there)))

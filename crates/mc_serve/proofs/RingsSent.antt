@@ -52,6 +52,8 @@ use Rattle.mc_record.specs.contracts.recorder.RecorderScribeEvidence.TheImpl.{gh
 use Rattle.mc_record.proofs.recorder.Recorder.TheSendSync as recorder_sent
 use Rattle.mc_seat.proofs.buffer_pool.BufferPool.TheSendSync as pool
 use Rattle.mc_wake.proofs.poller.Poller.TheSendSync as poller
+use Rattle.mc_doors.specs.declared.connection_source.ConnectionSource.{Ghosts as SourceGhosts}
+use Rattle.mc_seat.specs.declared.transport.Transport.{Ghosts as TransportGhosts}
 use Rattle.mc_threads.specs.contracts.shard_link.ShardLink as shard_link
 use Rattle.mc_threads.specs.contracts.session.Session as session
 use Rattle.mc_threads.specs.contracts.working.Working as working
@@ -168,29 +170,35 @@ module _ (T S : RattleType) (tokens : TokenGhosts T.Denot) (scribe : ScribeGhost
         ),
       )
 
-slot_send : (D L T : RattleType) → IsSend D → IsSend L → IsSend (slot.the_row D L T)
-slot_send D L T source line =
-    declared_send (slot.the_type D L T) (
-      session_send evidence.the_row clerk.the_row tokens warrants keeps_seat evidence_sent.the_send clerk_sent.the_send,
-      (slot_state.the_send L line, (as_row_send (row_field D) source, tt)),
-    )
+-- A slot, a table of slots and what one thread serves, where their sources and lines may go. The sources' bounds come
+-- with their types.
+module _ (D L T : RattleType) (sources : SourceGhosts D.Denot L.Denot T.Denot)
+    (lines : TransportGhosts L.Denot T.Denot) (warrant : WarrantGhosts T.Denot) (tokens' : TokenGhosts T.Denot)
+    (source : IsSend D) (line : IsSend L) where
+  slot_send : IsSend (slot.the_row D L T sources lines warrant tokens')
+  slot_send =
+      declared_send (slot.the_type D L T sources lines warrant tokens') (
+        session_send evidence.the_row clerk.the_row tokens warrants keeps_seat evidence_sent.the_send
+            clerk_sent.the_send,
+        (slot_state.the_send L line, (as_row_send (row_field D) source, tt)),
+      )
 
-seats_send : (D L T : RattleType) → IsSend D → IsSend L → IsSend (seats.the_row D L T)
-seats_send D L T source line =
-    declared_send (seats.the_type D L T)
-    (vec_send (slot.the_row D L T) (slot_send D L T source line), (search sendable, tt))
+  seats_send : IsSend (seats.the_row D L T sources lines warrant tokens')
+  seats_send =
+      declared_send (seats.the_type D L T sources lines warrant tokens')
+      (vec_send (slot.the_row D L T sources lines warrant tokens') slot_send, (search sendable, tt))
 
--- What one thread serves may go to it where its sources, their lines, the clock and the gate may, and the gate may be
--- shared.
-pub part_send : (D G K L T : RattleType) → IsSend D → IsSend G → IsSync G → IsSend K → IsSend L
-    → IsSend (part.the_row D G K L T)
-part_send D G K L T source gate shared clock line =
-    declared_send (part.the_type D G K L T) (
-      seats_send D L T source line,
-      (
-        vec_send (working.the_row G evidence.the_row recorder.the_row keeps_shard tokens)
-            (working_send evidence.the_row recorder.the_row tokens keeps_shard evidence_sent.the_send
-            recorder_sent.the_send G gate shared),
-        (poller.the_send, (pool.the_send, (sizes_send, (as_row_send (row_field K) clock, tt)))),
-      ),
-    )
+  -- What one thread serves may go to it where its sources, their lines, the clock and the gate may, and the gate may be
+  -- shared.
+  pub part_send : (G K : RattleType) → IsSend G → IsSync G → IsSend K
+      → IsSend (part.the_row D G K L T sources lines warrant tokens')
+  part_send G K gate shared clock =
+      declared_send (part.the_type D G K L T sources lines warrant tokens') (
+        seats_send,
+        (
+          vec_send (working.the_row G evidence.the_row recorder.the_row keeps_shard tokens)
+              (working_send evidence.the_row recorder.the_row tokens keeps_shard evidence_sent.the_send
+              recorder_sent.the_send G gate shared),
+          (poller.the_send, (pool.the_send, (sizes_send, (as_row_send (row_field K) clock, tt)))),
+        ),
+      )

@@ -1,4 +1,4 @@
--- No answer tells of connections that it doesn't list, nor leaves out one that it lists.
+-- No outcome counts connections that it doesn't list, nor leaves out one that it lists.
 use Rattle.std.proofs.Common.{◌≡◌, ℕ, arith}
 use Rattle.mc_sizes.specs.declared.sizes.Sizes.{Sizes}
 use Rattle.mc_doors.specs.declared.stream.Stream.{Ghosts}

@@ -1,5 +1,5 @@
--- What a worker ran for a seat is cut into the lines of the seat, one after another.
-use Rattle.std.proofs.Common.{◌≡◌, ℕ, zero, suc, ◌<◌, ◌+◌, ◌==◌, List, [], ◌∷◌, ◌++◌, length, map, take, drop}
+-- What the shards ran for a seat is cut into the lines of the seat, one after another.
+use Rattle.std.proofs.Common.{◌≡◌, ℕ, zero, suc, ◌<◌, ◌==◌, List, [], ◌∷◌, ◌++◌, length, map, take, drop}
 use Rattle.std.proofs.Common.{refl, sym, ap, subst, ◌∙◌, arith, append_assoc, append-nil, length-append}
 use Rattle.std.specs.List.{AllByRecursion, flat_map}
 use Rattle.std.proofs.lemmas.List.{length-map, map-append, take_all, take-append-drop}
@@ -9,7 +9,6 @@ use Rattle.mc_ring.specs.declared.request.Request.TheVariants as request
 use Rattle.mc_ring.specs.Channel.{Near}
 use Rattle.mc_ring.specs.Ends.{AreSameEnds, Ends, received_on, sent_on}
 use Rattle.mc_ring.specs.EndsLaws.{same_ends-refl, same_ends-trans}
-use Rattle.mc_ring.specs.Made.{AreNewEnds}
 use Rattle.mc_ring.specs.Reply.{Shown}
 use Rattle.mc_split.specs.declared.plan.Piece.{Piece}
 use Rattle.mc_conn.specs.History.{AnsweredCommand, IsAnswered, Taken, entries_of, taken_of, text_done}
@@ -19,25 +18,29 @@ use Rattle.mc_conn.specs.Fits.{KeysFit, Serves, Tells, reply_of}
 use Rattle.mc_conn.specs.Told.{Told, all_texts, commands_of}
 use Rattle.mc_conn.proofs.Telling.{ran_on-same, tells}
 use Rattle.mc_model.specs.Log.{Entry, of_asker, on_shard, pieces_in, replies_in}
-use Rattle.mc_worker.specs.WorkerState.{WorkerState, end_come}
+use Rattle.mc_history.specs.declared.event.Event.{Event}
+use Rattle.mc_history.specs.declared.knowledge.Role.TheVariants.{Seat}
+use Rattle.mc_history.specs.Lawful.{IsHistory}
+use Rattle.mc_history.specs.Roles.{seat_of}
+use Rattle.mc_history.specs.Worlds.{work_on}
+use Rattle.mc_record.specs.Closing.{IsWholeIn}
 use Rattle.mc_wake.specs.Zips.{Zips}
 use Rattle.mc_seat.specs.LineServed.{Exchanges}
 use Rattle.mc_seat.specs.Reads.{ReadsOwingNothing}
 use Rattle.mc_seat.specs.Story.{Story}
 use Rattle.mc_seat.specs.Explains.{LineTold, log_of}
-use Rattle.mc_serve.specs.Asking.{IsTied}
-use Rattle.mc_serve.specs.Logs.{IsLogOf, together}
-use Rattle.mc_serve.proofs.Joined.{worker_at}
 use Rattle.mc_serve.proofs.Line.{asked_by, entry_for, filter_keeps, map_on_shard, ran_shards, same_asker, shard_of}
-use Rattle.mc_serve.proofs.Served.{IsJoined, all_come, entries_same, moments_of, none_read}
-use Rattle.mc_serve.proofs.Tying.{as_many_replies, same_pieces, same_replies, to_end}
+use Rattle.mc_serve.proofs.Ran.{AreRun, channel_run}
+use Rattle.mc_serve.proofs.Served.{all_come, entries_same, moments_of}
+use Rattle.mc_serve.proofs.Zipped.{empty_when}
+use Rattle.mc_serve.specs.Recorded.{IsClerkOf}
 use Rattle.mc_serve.specs.Seats.{SeatAt, SeatServes, ServesSourceLine, ServesLines}
-use Rattle.mc_serve.specs.Served.{ExplainsHistory, ExplainsSeat}
+use Rattle.mc_serve.specs.Served.{ExplainsHistory, ExplainsSeat, log_by}
 use Rattle.mc_command.specs.declared.rules.Rules.{Rules}
 use Rattle.mc_ring.proofs.Lists.{all_take}
 use Rattle.mc_model.proofs.Alone.{ran_of, pieces_of_ran, replies_of_ran}
 
--- What is known of a line that was served, by what its connection was told.
+-- What is known of a line that was served, by what its connection took.
 pub record Core (may_answer : ℕ → Type 0) (line : LineTold) (before after : Ends Near) (told : Told)
     (received : ℕ → List Shown) : Type 0 where
   pub exchanges : Exchanges before after told received
@@ -65,7 +68,7 @@ core_of shards rules may_answer line before after serves =
       complete = served.complete serves.fits;
     }
 
--- told under these sizes
+-- what a connection took, under these sizes
 abbrev pub sized : ℕ → Rules → Told → Told
 sized shards rules told = record told { shards = shards; rules = rules }
 
@@ -156,35 +159,6 @@ module _ (shards : ℕ) (rules : Rules) (may_answer : ℕ → Type 0) where
       let asked = length-append (due.due shards shard chain.1.told.taken) (all_due lines chain.0 after chain.2 shard) in
       omega (arith, one, rest, got, asked)
 
--- The pieces asked are those that were run, and the replies are theirs.
-pub record AreRun (asked : List Piece) (got : List Shown) (log : List Entry) : Type 0 where
-  pub pieces : asked ≡ pieces_in log
-  pub replies : got ≡ replies_in log
-
--- A channel that is tied: what was asked there and then End.
-channel_run : (sizes : Sizes) (shard : ℕ) (ends : Ends Near) (worker_state : WorkerState) (asked : List Piece)
-    (got : List Shown) (log : List Entry)
-    → ends.number < sizes.seats → sent_on ends shard ≡ to_end asked → received_on ends shard ≡ got → length got
-    ≡ length asked → IsLogOf sizes shard worker_state log → IsTied ends worker_state.ends
-    → AreRun asked got (of_asker ends.number log)
-channel_run sizes shard ends worker_state asked got log here sent came many ran tied =
-    let seat = ends.number in
-    let mine = of_asker seat log in
-    let popped : received_on worker_state.ends seat ≡ to_end (pieces_in mine) =
-    ran.ran.taken seat ∙ ap (λ live. map request.Piece (pieces_in mine) ++ end_come live) (ran.ended seat here) in
-    let pieces : pieces_in mine ≡ asked =
-    same_pieces (pieces_in mine) asked tied.requests
-    (ap (λ ps. ps ++ tied.requests) (sym popped) ∙ (tied.requests_wait ∙ (ap (λ n. sent_on ends n) ran.number ∙ sent)))
-    in
-    let gave : replies_in mine ≡ sent_on worker_state.ends seat = (rw ran.given at ran.ran.given seat)
-    ∙ append-nil (sent_on worker_state.ends seat) in
-    let waits : got ++ tied.replies ≡ replies_in mine =
-    ap (λ rs. rs ++ tied.replies) (sym (ap (λ n. received_on ends n) ran.number ∙ came))
-    ∙ (tied.replies_wait ∙ sym gave) in
-    let whole : length got ≡ length (replies_in mine) = many
-    ∙ (ap (λ ps. length ps) (sym pieces) ∙ sym (as_many_replies mine)) in
-    record { pieces = sym pieces; replies = same_replies got (replies_in mine) tied.replies waits whole }
-
 -- What was asked and got first was run first.
 record IsCut (xs ys : List Piece) (gs hs : List Shown) (log : List Entry) : Type 0 where
   first : AreRun xs gs (take (length xs) log)
@@ -241,7 +215,7 @@ all_mine : (shard seat : ℕ) (log : List Entry) → AllByRecursion (λ entry. e
 all_mine shard seat [] shards askers = tt
 all_mine shard seat (e ∷ log) shards askers = ((shards.0, askers.0), all_mine shard seat log shards.1 askers.1)
 
--- What a shard ran for a line is what the line's history tells.
+-- What a shard ran for a line is what the line's history has.
 run_told : (shards shard seat : ℕ) (taken : List Taken) (got : List Shown) (mine : List Entry)
     (history : List AnsweredCommand) → AreRun (due.due shards shard taken) got mine
     → AllByRecursion (IsMine shard seat) mine
@@ -358,55 +332,60 @@ seat_ran sizes may_answer seat (line ∷ lines) before after mine chain runs own
           ∙ ap (λ es. on_shard s (log_of sizes.shards seat one.history) ++ es) (rest.ran s below));
     }
 
--- The workers' logs explain the lines of the seat.
-pub explains_seat : (sizes : Sizes) (capacity number : ℕ) (may_answer : ℕ → Type 0) (sat rose : SeatAt)
-    (worker_states : List WorkerState) (logs : List (List Entry))
-    → (serves : SeatServes sizes.shards (rules_of sizes) may_answer sat rose)
-    → AreNewEnds number sizes.shards capacity sat.ends → IsJoined sizes rose.ends worker_states logs
-    → ExplainsSeat sizes may_answer (together logs) rose.ends.number serves.lines
-explains_seat sizes capacity number may_answer sat rose worker_states logs serves new joined =
+-- A seat before its first line: its clerk is that of its ends, and has seen nothing.
+pub record IsNewSeat (sizes : Sizes) (sat : SeatAt) : Type 0 where
+  pub clerk : IsClerkOf sizes sat.ends sat.clerk
+  pub none : sat.clerk.events ≡ []
+
+seat_width : (sizes : Sizes) (sat : SeatAt) → IsNewSeat sizes sat → length sat.ends.channels ≡ sizes.shards
+seat_width sizes sat new = sym (new.clerk.routes.shards 0) ∙ ap (λ (s : Sizes). s.shards) new.clerk.sizes_are
+
+-- Nothing was sent or received on its ends.
+none_sent : (sizes : Sizes) (sat : SeatAt) (shard : ℕ) → IsNewSeat sizes sat → shard < sizes.shards
+    → sent_on sat.ends shard ≡ []
+none_sent sizes sat shard new below =
+    let width = seat_width sizes sat new in
+    sym (new.clerk.past.work_is shard (omega (arith, below, width)))
+    ∙ ap (λ (events : List Event). map request.Piece (map (λ (one : ℕ × Piece). one.1)
+    (work_on sat.clerk.name.sizes.shards (seat_of sat.clerk.role) shard events))) new.none
+
+none_received : (sizes : Sizes) (sat : SeatAt) (shard : ℕ) → IsNewSeat sizes sat → shard < sizes.shards
+    → received_on sat.ends shard ≡ []
+none_received sizes sat shard new below =
+    let width = seat_width sizes sat new in
+    empty_when (received_on sat.ends shard)
+    (new.clerk.past.settled shard (omega (arith, below, width)) ∙ ap length (none_sent sizes sat shard new below))
+
+-- A history that has all that the seat's clerk recorded explains the lines of the seat.
+pub explains_seat : (sizes : Sizes) (seat : ℕ) (may_answer : ℕ → Type 0) (sat rose : SeatAt) (events : List Event)
+    → (serves : SeatServes sizes.shards (rules_of sizes) may_answer sat rose) → IsNewSeat sizes sat
+    → rose.clerk.name.sizes ≡ sizes → rose.clerk.role ≡ Seat seat → IsHistory sizes events
+    → IsWholeIn events rose.clerk → ExplainsSeat sizes may_answer (log_by events) seat serves.lines
+explains_seat sizes seat may_answer sat rose events serves new sizes_are role lawful whole =
     let shards = sizes.shards in
     let rules = rules_of sizes in
-    let seat = rose.ends.number in
     let chain = chain_of shards rules may_answer serves.lines sat.ends serves.served serves.lines_are in
     let same = chain_same shards rules may_answer serves.lines sat.ends serves.served chain in
     let asked : ℕ → List Piece = all_due shards rules may_answer serves.lines sat.ends serves.served chain in
     let got : ℕ → List Shown = all_got shards rules may_answer serves.lines sat.ends serves.served chain in
-    let mine : ℕ → List Entry = λ s. of_asker seat (on_shard s (together logs)) in
-    let sent = λ (s : ℕ) (below : s < shards).
-    (let none : sent_on sat.ends s
-    ≡ [] = none_read (λ (near : Near). near.past.sent) (λ near unused. unused.sent) sat.ends.channels s new.unused in
-    let there : s < length serves.served.channels =
-    (let count = same.count in let counted = new.counted in omega (arith, below, count, counted)) in
-    let all : sent_on rose.ends s ≡ to_end (asked s) = serves.closed.sent s there
-    ∙ ap (λ ps. ps ++ request.End ∷ [])
-    (chain_sent shards rules may_answer serves.lines sat.ends serves.served chain s below
-    ∙ ap (λ ps. ps ++ map request.Piece (asked s)) none) in
-    all) in
-    let came = λ (s : ℕ) (below : s < shards).
-    (let none : received_on sat.ends s
-    ≡ [] =
-    none_read (λ (near : Near). near.past.received) (λ near unused. unused.received) sat.ends.channels s new.unused in
-    let all : received_on rose.ends s ≡ got s = serves.closed.received s
-    ∙ (chain_came shards rules may_answer serves.lines sat.ends serves.served chain s below
-    ∙ ap (λ rs. rs ++ got s) none) in
-    all) in
+    let log = log_by events in
+    let mine : ℕ → List Entry = λ s. of_asker seat (on_shard s log) in
     let runs = λ (s : ℕ) (below : s < shards).
-    (let count = joined.count in
-    let worker = worker_at sizes 0 s worker_states logs joined.are (omega (arith, below, count)) in
-    let at : 0 + s ≡ s = omega arith in
-    let is : IsLogOf sizes s worker.worker_state worker.log = rw at at worker.is in
-    let its : on_shard s (together logs) ≡ worker.log = rw at at worker.its in
-    let P : List Entry → Type 0 = λ log. AreRun (asked s) (got s) (of_asker seat log) in
-    let run : P (on_shard s (together logs)) =
-    subst P (sym its) (channel_run sizes s rose.ends worker.worker_state (asked s) (got s) worker.log
-    joined.seat (sent s below) (came s below)
-    (chain_many shards rules may_answer serves.lines sat.ends serves.served chain s) is
-    (joined.tied s worker.worker_state worker.here)) in
+    (let there : s < length serves.served.channels =
+    (let count = same.count in let width = seat_width sizes sat new in omega (arith, below, count, width)) in
+    let sent : sent_on serves.served s ≡ map request.Piece (asked s) =
+    chain_sent shards rules may_answer serves.lines sat.ends serves.served chain s below
+    ∙ ap (λ ps. ps ++ map request.Piece (asked s)) (none_sent sizes sat s new below) in
+    let came : received_on serves.served s ≡ got s =
+    chain_came shards rules may_answer serves.lines sat.ends serves.served chain s below
+    ∙ ap (λ rs. rs ++ got s) (none_received sizes sat s new below) in
+    let run : AreRun (asked s) (got s) (mine s) =
+    channel_run sizes seat rose.clerk events sizes_are role lawful whole serves.served s (asked s) (got s) there
+    serves.recorded sent came in
     run) in
     let owned = λ (s : ℕ) (below : s < shards).
     all_mine s seat (mine s)
-    (filter_keeps (λ entry. entry.shard ≡ s) (λ entry. entry.asker == seat) (on_shard s (together logs))
-    (shard_of s (together logs))) (asked_by seat (on_shard s (together logs))) in
+    (filter_keeps (λ entry. entry.shard ≡ s) (λ entry. entry.asker == seat) (on_shard s log) (shard_of s log))
+    (asked_by seat (on_shard s log)) in
     let ran = seat_ran sizes may_answer seat serves.lines sat.ends serves.served mine chain runs owned in
     record { histories = ran.histories; each = ran.each; ran = ran.ran }

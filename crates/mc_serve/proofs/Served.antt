@@ -1,20 +1,15 @@
 -- What is known of a seat that is joined, before its lines are looked at one by one.
-use Rattle.std.proofs.Common.{◌≡◌, ℕ, zero, suc, ◌<◌, List, [], ◌∷◌, length, map, take, refl, ap, arith}
+use Rattle.std.proofs.Common.{◌≡◌, ℕ, zero, suc, List, [], ◌∷◌, length, map, take, refl, ap, arith}
 use Rattle.std.specs.List.{AllByRecursion}
 use Rattle.std.proofs.lemmas.List.{take_all}
-use Rattle.mc_sizes.specs.declared.sizes.Sizes.{Sizes}
 use Rattle.mc_ring.specs.Channel.{Near}
-use Rattle.mc_ring.specs.Ends.{Ends, list_at}
+use Rattle.mc_ring.specs.Ends.{list_at}
 use Rattle.mc_ring.specs.Made.{IsUnused}
 use Rattle.mc_ring.specs.Reply.{Shown}
 use Rattle.mc_conn.specs.History.{AnsweredCommand, Taken, entries_of, taken_of}
 use Rattle.mc_conn.specs.Due as due
 use Rattle.mc_conn.specs.Fits.{HasCome, counts}
 use Rattle.mc_conn.specs.Told.{commands_of}
-use Rattle.mc_model.specs.Log.{Entry}
-use Rattle.mc_worker.specs.WorkerState.{WorkerState}
-use Rattle.mc_serve.specs.Asking.{AreTied}
-use Rattle.mc_serve.specs.Logs.{AreLogsFrom}
 
 -- Nothing was sent nor received on ends that are unused.
 pub none_read : {A : Type 0} (read : Near → List A) → ((near : Near) → IsUnused near → read near ≡ [])
@@ -33,7 +28,7 @@ all_come shards taken received answered shard =
     let these = answered shard in
     omega (arith, whole, these)
 
--- What holds of the moments at which commands were taken holds of those that stand in their history.
+-- What holds of the moments at which commands were taken holds of those in their history.
 pub moments_of : (may_answer : ℕ → Type 0) (history : List AnsweredCommand)
     → AllByRecursion (λ (one : Taken). may_answer one.moment) (map taken_of history)
     → AllByRecursion (λ (done : AnsweredCommand). may_answer done.moment) history
@@ -44,12 +39,3 @@ moments_of may_answer (done ∷ history) all = (all.0, moments_of may_answer his
 pub entries_same : (history : List AnsweredCommand) → commands_of (map taken_of history) ≡ entries_of history
 entries_same [] = refl
 entries_same (done ∷ history) = ap (λ es. done.entry ∷ es) (entries_same history)
-
--- what is known once the workers and the seat are joined, and tied
-pub record IsJoined (sizes : Sizes) (ends : Ends Near) (worker_states : List WorkerState) (logs : List (List Entry)) :
-    Type 0 where
-  pub some : 0 < sizes.shards
-  pub seat : ends.number < sizes.seats
-  pub count : length worker_states ≡ sizes.shards
-  pub are : AreLogsFrom sizes 0 worker_states logs
-  pub tied : AreTied ends worker_states

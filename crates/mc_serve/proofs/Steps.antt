@@ -1,17 +1,20 @@
 -- A seat's steps, one by one.
 use Rattle.std.proofs.Common.{◌≡◌, ℕ, Bool, true, false, [], length, Some, Ok, Err, OnErr, OnOk, Result, refl, sym}
-use Rattle.std.proofs.Common.{subst, ◌∙◌}
+use Rattle.std.proofs.Common.{ap, subst, ◌∙◌}
 use Rattle.std.specs.Prelude.{◌↔◌, IsTrue}
 use Rattle.std.specs.Result.{is_ok}
 use Rattle.mc_wire.specs.Sink.{Sight}
 use Rattle.mc_ring.specs.Channel.{Near}
 use Rattle.mc_ring.specs.Ends.{Ends}
+use Rattle.mc_ring.specs.Route.{Name}
+use Rattle.mc_sizes.specs.Sizes.{rules_of}
+use Rattle.mc_history.specs.Tokens.{Acting}
 use Rattle.mc_conn.specs.declared.conn.Conn.{Conn}
 use Rattle.mc_conn.specs.Conn.{IsConn}
 use Rattle.mc_conn.specs.Told.{IsAtRest, IsOver, Told}
 use Rattle.mc_seat.specs.declared.clerk.Clerk.{Ghosts}
 use Rattle.mc_seat.specs.declared.warrant.Warrant.{Ghosts as Warrants}
-use Rattle.mc_seat.specs.Place.{Place, no_place}
+use Rattle.mc_seat.specs.Place.{Place, unbegun}
 use Rattle.mc_seat.specs.LineServed.{LineServed}
 use Rattle.mc_seat.specs.Explains.{LineTold}
 use Rattle.mc_seat.specs.declared.buffered_conn.BufferedConn.{BufferedConn}
@@ -20,23 +23,30 @@ use Rattle.mc_threads.specs.Serving.{IsIdle}
 use Rattle.mc_threads.specs.Ending.{EndsFirst}
 use Rattle.mc_threads.specs.Records.{RecordsPastOf}
 use Rattle.mc_threads.specs.Service.{WasServedBy}
-use Rattle.mc_threads.specs.Session.{HasServed, IsLineAt, IsRuled, IsServingLine, IsVacant, seat_ends}
+use Rattle.mc_threads.specs.Session.{HasServed, IsLineAt, IsRuled, IsServingLine, IsVacant, seat_clerk, seat_ends}
+use Rattle.mc_threads.specs.Session.{session_history}
 use Rattle.mc_threads.proofs.Ending.{ends_none}
 use Rattle.mc_threads.proofs.Sessions.{SomeAnd, may_serve, some_and}
 use Rattle.mc_doors.specs.Told.{SourceTold, IsDone, IsFree, IsNext, closed, let_in, took_back}
 use Rattle.mc_serve.specs.declared.connection_slot.SlotState.{SlotState}
 use Rattle.mc_serve.specs.declared.connection_slot.SlotState.TheVariants as slot_state
-use Rattle.mc_serve.specs.Seats.{CanStep, ClosesOn, SeatAt, SeatStands, ServesSourceLine, SitsBeginning, SitsClosing}
-use Rattle.mc_serve.specs.Seats.{SitsFree, SitsServing, seat_at}
+use Rattle.mc_serve.specs.Seats.{CanStep, ClosesOn, HasRecorded, SeatAt, SeatStands, ServesSourceLine, SitsBeginning}
+use Rattle.mc_serve.specs.Seats.{SitsClosing, SitsFree, SitsServing, seat_at}
 use Rattle.mc_serve.proofs.Chain.{OneMore, one_more, passes_none}
 use Rattle.mc_command.specs.declared.rules.Rules.{Rules}
 
+-- A session of the same history is for a server by the same rules.
+same_rules : {T C : Type 0} {w : Warrants T} {g : Ghosts C T} (rules : Rules) (old new : Session T C w g)
+    → session_history new ≡ session_history old → IsRuled rules old → IsRuled rules new
+same_rules rules old new same ruled keeps = ruled keeps ∙ ap (λ (name : Name). rules_of name.sizes) (sym same)
+
 module _ (shards : ℕ) (rules : Rules) (may_answer : ℕ → Type 0) where
   -- A seat that has just sat down.
-  pub sits_first : {T C : Type 0} {w : Warrants T} {g : Ghosts C T} (source : SourceTold) (session : Session T C w g)
-      (window : ℕ)
+  pub sits_first : {T : Type 0} {w : Warrants T} {g : Ghosts Acting T} (source : SourceTold)
+      (session : Session T Acting w g) (window : ℕ)
       → IsFree source → length (seat_ends session).channels ≡ shards → IsVacant rules window session
-      → IsRuled rules session → SitsFree shards rules may_answer (seat_at source (seat_ends session)) source session
+      → IsRuled rules session
+      → SitsFree shards rules may_answer (seat_at source (seat_ends session) (seat_clerk session)) source session
   sits_first source session window free width vacant ruled =
       record {
         free = free;
@@ -58,7 +68,8 @@ module _ (shards : ℕ) (rules : Rules) (may_answer : ℕ → Type 0) where
 
   -- A line came in.
   pub comes_in : {T C : Type 0} {w : Warrants T} {g : Ghosts C T} (sat : SeatAt) (source source' : SourceTold)
-      (place : Place) (begin : Sight) (session : Session T C w g) → place ≡ no_place → IsNext begin source
+      (place : Place) (begin : Sight) (session : Session T C w g) → place ≡ unbegun (session_history session)
+      → IsNext begin source
       → source' ≡ let_in begin source → SitsFree shards rules may_answer sat source session
       → SitsBeginning shards rules may_answer sat source' place begin session
   comes_in sat source source' place begin session new next came sits =
@@ -99,9 +110,9 @@ module _ (shards : ℕ) (rules : Rules) (may_answer : ℕ → Type 0) where
       λ s. SitsBeginning shards rules may_answer sat source place begin s in subst S (sym same) came
 
   -- The line begins to be served where there was memory for it; else it waits, with its output ended.
-  pub begins_where : {L E : Type 0} {T C : Type 0} {w : Warrants T} {g : Ghosts C T} (place : L → Place)
+  pub begins_where : {L E : Type 0} {T : Type 0} {w : Warrants T} {g : Ghosts Acting T} (place : L → Place)
       (sight : L → Sight) (sat : SeatAt) (source source' : SourceTold) (line begun line' : L)
-      (session session' : Session T C w g) (tried : Result (Unit {0}) E)
+      (session session' : Session T Acting w g) (tried : Result (Unit {0}) E)
       → OnOk tried ((rules : Rules) (window : ℕ) (begin : Sight) → IsVacant rules window session
       → IsServingLine (length (seat_ends session).channels) rules may_answer begin begin (seat_ends session) session')
       → OnOk tried ((rules : Rules) → IsRuled rules session → IsLineAt rules (place begun) (sight line) session')
@@ -127,8 +138,9 @@ module _ (shards : ℕ) (rules : Rules) (may_answer : ℕ → Type 0) where
       (still_begins sat source (place line) (sight line) session session' same came)))
 
   -- The line that is out is looked at again, with nothing read or written meanwhile.
-  pub stands_out : {L : Type 0} {T C : Type 0} {w : Warrants T} {g : Ghosts C T} (place : L → Place) (sight : L → Sight)
-      (sat : SeatAt) (source : SourceTold) (session : Session T C w g) (now : SlotState L) (line line' : L)
+  pub stands_out : {L : Type 0} {T : Type 0} {w : Warrants T} {g : Ghosts Acting T} (place : L → Place)
+      (sight : L → Sight) (sat : SeatAt) (source : SourceTold) (session : Session T Acting w g) (now : SlotState L)
+      (line line' : L)
       (begun : Bool) → now ≡ slot_state.Out line begun → place line' ≡ place line → sight line' ≡ sight line
       → SeatStands place sight shards rules may_answer sat source session now
       → SeatStands place sight shards rules may_answer sat source session (slot_state.Out line' begun)
@@ -144,11 +156,12 @@ module _ (shards : ℕ) (rules : Rules) (may_answer : ℕ → Type 0) where
       subst S (sym same) (subst A (sym placed) (subst P is stands))
 
   -- No line comes any more.
-  pub comes_none : {T C : Type 0} {w : Warrants T} {g : Ghosts C T} (sat : SeatAt) (source source' : SourceTold)
-      (session : Session T C w g) → source' ≡ closed source → IsDone source
+  pub comes_none : {T : Type 0} {w : Warrants T} {g : Ghosts Acting T} (sat : SeatAt) (source source' : SourceTold)
+      (session : Session T Acting w g) → source' ≡ closed source → IsDone source
+      → (RecordsPastOf session.shard_link (seat_ends session) → HasRecorded (seat_clerk session) (seat_ends session))
       → SitsFree shards rules may_answer sat source session
-      → SitsClosing shards rules may_answer 0 sat source' (seat_ends session)
-  comes_none sat source source' session now done sits = record {
+      → SitsClosing shards rules may_answer 0 sat source' (seat_ends session) (seat_clerk session)
+  comes_none sat source source' session now done reads sits = record {
     served = seat_ends session;
     serves =
         record {
@@ -158,6 +171,7 @@ module _ (shards : ℕ) (rules : Rules) (may_answer : ℕ → Type 0) where
           lines_are = sits.lines_are;
           over = record { done = done; now = now };
         };
+    recorded = reads sits.vacant.recorded;
     closed = ends_none (seat_ends session);
   }
 
@@ -218,15 +232,15 @@ module _ (shards : ℕ) (rules : Rules) (may_answer : ℕ → Type 0) where
     pub ends : seat_ends new ≡ seat_ends old
 
   -- The line that was out was served and went back. Each reply was the answer to its piece, so the session is renewed.
-  module _ {T C : Type 0} {w : Warrants T} {g : Ghosts C T} (sat : SeatAt) (source source' : SourceTold)
+  module _ {T : Type 0} {w : Warrants T} {g : Ghosts Acting T} (sat : SeatAt) (source source' : SourceTold)
       (place place' : Place) (now now' : Sight) (commands : ℕ) (broke another : Bool)
-      (session session' last : Session T C w g) (keeps : g.keeps)
+      (session session' last : Session T Acting w g) (keeps : g.keeps)
       (goes : (begin : Sight) (before : Ends Near) → IsServingLine shards rules may_answer begin now before session
       → HasServed shards rules may_answer begin now' before session' commands broke)
       (back : source' ≡ took_back now' commands broke source) (renews : Renews another session' last)
       (stays : (rules : Rules) (begin : Sight) → IsLineAt rules place begin session
       → IsLineAt rules place' begin session')
-      (kept : (rules : Rules) → IsRuled rules session' → IsRuled rules last)
+      (same : session_history last ≡ session_history session')
       (sits : SitsServing shards rules may_answer sat source place now session) where
     -- what the line was served by
     abbrev by : SomeAnd session'.buffered_conn
@@ -250,10 +264,10 @@ module _ (shards : ℕ) (rules : Rules) (may_answer : ℕ → Type 0) where
           fits = by.holds.fits keeps;
         }
 
-    abbrev more : OneMore shards rules may_answer sat (seat_at source' (seat_ends last))
+    abbrev more : OneMore shards rules may_answer sat (seat_at source' (seat_ends last) (seat_clerk last))
     more =
-        one_more shards rules may_answer sat (seat_at source' (seat_ends last)) sits.lines line sits.before source
-        sits.ends sits.free sits.passed sits.next sits.came back sits.lines_are this
+        one_more shards rules may_answer sat (seat_at source' (seat_ends last) (seat_clerk last)) sits.lines line
+        sits.before source sits.ends sits.free sits.passed sits.next sits.came back sits.lines_are this
 
     wide : length (seat_ends session').channels ≡ shards
     wide = by.holds.served.exchanges.same.count ∙ sits.width
@@ -279,22 +293,37 @@ module _ (shards : ℕ) (rules : Rules) (may_answer : ℕ → Type 0) where
               subst V served.rules_are
               (renews.vacant another_comes by.some served.told by.is served.conn_is (served.shards_is ∙ sym wide)
               by.holds.idle by.holds.recorded);
-          ruled = kept rules (stays rules sits.begin sits.line).ruled;
+          ruled = same_rules rules session' last same (stays rules sits.begin sits.line).ruled;
         }
 
   -- One channel more was closed.
-  pub closes_on : {L : Type 0} {T C : Type 0} {w : Warrants T} {g : Ghosts C T} (place : L → Place)
+  pub closes_on : {L : Type 0} {T : Type 0} {w : Warrants T} {g : Ghosts Acting T} (place : L → Place)
       (sight : L → Sight) (sat : SeatAt) (count : ℕ)
-      (source : SourceTold) (old new : Session T C w g) (now : SlotState L)
+      (source : SourceTold) (old new : Session T Acting w g) (now : SlotState L)
       → ((served : Ends Near) → EndsFirst count served (seat_ends old) → ClosesOn served now (seat_ends new))
-      → SitsClosing shards rules may_answer count sat source (seat_ends old)
+      → ((served : Ends Near) → HasRecorded (seat_clerk old) served → HasRecorded (seat_clerk new) served)
+      → SitsClosing shards rules may_answer count sat source (seat_ends old) (seat_clerk old)
       → SeatStands place sight shards rules may_answer sat source new now
-  closes_on place sight sat count source old new slot_state.Free closes sits = absurd (closes sits.served sits.closed)
-  closes_on place sight sat count source old new (slot_state.Out line begun) closes sits =
+  closes_on place sight sat count source old new slot_state.Free closes keeps sits =
       absurd (closes sits.served sits.closed)
-  closes_on place sight sat count source old new (slot_state.Closing more) closes sits =
-      record { served = sits.served; serves = sits.serves; closed = closes sits.served sits.closed }
-  closes_on place sight sat count source old new slot_state.Over closes sits =
+  closes_on place sight sat count source old new (slot_state.Out out begun) closes keeps sits =
+      absurd (closes sits.served sits.closed)
+  closes_on place sight sat count source old new (slot_state.Closing next) closes keeps sits =
+      let serves = sits.serves in
+      record {
+        served = sits.served;
+        serves =
+            record {
+              lines = serves.lines;
+              passed = serves.passed;
+              source = serves.source;
+              lines_are = serves.lines_are;
+              over = serves.over;
+            };
+        recorded = keeps sits.served sits.recorded;
+        closed = closes sits.served sits.closed;
+      }
+  closes_on place sight sat count source old new slot_state.Over closes keeps sits =
       let serves = sits.serves in
       record {
         lines = serves.lines;
@@ -302,20 +331,20 @@ module _ (shards : ℕ) (rules : Rules) (may_answer : ℕ → Type 0) where
         source = serves.source;
         served = sits.served;
         lines_are = serves.lines_are;
+        recorded = keeps sits.served sits.recorded;
         over = serves.over;
         closed = closes sits.served sits.closed;
       }
 
-  -- A seat that stands may go a step further.
-  pub can_step : {L : Type 0} {T C : Type 0} {w : Warrants T} {g : Ghosts C T} (place : L → Place) (sight : L → Sight)
-      (sat : SeatAt) (source : SourceTold)
-      (session : Session T C w g) (now : SlotState L)
+  -- A seat between two steps may make the next one.
+  pub can_step : {L : Type 0} {T : Type 0} {w : Warrants T} {g : Ghosts Acting T} (place : L → Place)
+      (sight : L → Sight) (sat : SeatAt) (source : SourceTold) (session : Session T Acting w g) (now : SlotState L)
       → SeatStands place sight shards rules may_answer sat source session now
       → CanStep place sight may_answer now session
   can_step place sight sat source session slot_state.Free stands = tt
-  can_step place sight sat source session (slot_state.Out line false) stands = stands.new
-  can_step place sight sat source session (slot_state.Out line true) stands =
-      may_serve shards rules may_answer stands.begin (sight line) stands.ends session.shard_link (place line)
+  can_step place sight sat source session (slot_state.Out out false) stands = stands.new
+  can_step place sight sat source session (slot_state.Out out true) stands =
+      may_serve shards rules may_answer stands.begin (sight out) stands.ends session.shard_link (place out)
       session.buffered_conn stands.serving stands.line
   can_step place sight sat source session (slot_state.Closing count) stands = tt
   can_step place sight sat source session slot_state.Over stands = tt

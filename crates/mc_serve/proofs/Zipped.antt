@@ -1,4 +1,4 @@
--- Two lists, element by element, and what stands at a place; lists and results by themselves.
+-- Two lists, element by element, and what is at an index; lists and results by themselves.
 use Rattle.std.proofs.Common.{◌≡◌, ℕ, zero, suc, List, [], ◌∷◌, ◌++◌, length, map, Some, refl, sym, ap, subst}
 use Rattle.std.proofs.Common.{slice_set, arith}
 use Rattle.std.specs.List.{AllByRecursion, slice_get}
@@ -81,7 +81,7 @@ pub all_map : {A B : Type 0} (P : B → Type 0) (f : A → B) (xs : List A) → 
 all_map P f [] all = tt
 all_map P f (x ∷ xs) all = (all.0, all_map P f xs all.1)
 
--- One element has changed, and is as before to what stands in its place.
+-- One element has changed, and is as before to what is at its index.
 pub zips_set : {A B : Type 0} (R : A → B → Type 0) (xs : List A) (ys : List B) (i : ℕ) (old new : B) → slice_get ys i
     ≡ Some old → ((x : A) → R x old → R x new) → Zips R xs ys → Zips R xs (slice_set ys i new)
 zips_set R xs [] i old new here keeps zips = zips
@@ -126,3 +126,8 @@ empty_when (x ∷ xs) none = absurd (omega arith)
 pub zips_are : {A B : Type 0} (R : A → B → Type 0) (xs ys : List A) (zs : List B) → xs ≡ ys → Zips R xs zs
     → Zips R ys zs
 zips_are R xs ys zs same zips = let P : List _ → Type 0 = λ ws. Zips R ws zs in subst P same zips
+
+-- To apply two functions to each element in one pass is to apply the one to the whole list, and then the other.
+pub map_map : {A B C : Type 0} (f : A → B) (g : B → C) (xs : List A) → map (λ x. g (f x)) xs ≡ map g (map f xs)
+map_map f g [] = refl
+map_map f g (x ∷ xs) = ap (λ ys. g (f x) ∷ ys) (map_map f g xs)

@@ -1,4 +1,4 @@
--- What is told of all connections once their threads are joined.
+-- What is known of all connections once their threads are joined.
 use Rattle.std.specs.Prelude.{ℕ, ◌≡◌, ◌+◌, ◌-◌, ◌^◌, min, List, [], ◌∷◌, Option, Some, None, length, map}
 use Rattle.std.specs.List.{AllByRecursion, slice_get}
 use Rattle.mc_sizes.specs.declared.sizes.Sizes.{Sizes}
@@ -9,7 +9,7 @@ use Rattle.mc_seat.specs.Explains.{IsLogOfLines}
 use Rattle.mc_doors.specs.declared.stream.Stream.{Ghosts}
 use Rattle.mc_doors.specs.declared.stream_source.ClosedConnection.{ClosedConnection}
 use Rattle.mc_doors.specs.Tcp.{IsServed, gone_lines}
-use Rattle.mc_serve.specs.Served.{ExplainsSeat}
+use Rattle.mc_serve.specs.Served.{ExplainsSeat, IsOfHistory}
 use Rattle.mc_serve.specs.declared.outcome.Outcome.{Outcome}
 
 -- the connections of each seat, one after another
@@ -29,8 +29,8 @@ AreServed None gone = AllByRecursion (λ one. IsServed one.0.line.value.tap.begi
 AreServed (Some streams) gone = Zips (λ stream one. IsServed stream one.0) streams gone
 
 -- As many connections have ended as is said, and are listed, each served by one of the seats from the first byte of its
--- stream on, and one log explains what was read of them, what was written to them and what the shards did. The count
--- stays at its greatest value.
+-- stream on, and one log, of one history, explains what was read of them, what was written to them and what the shards
+-- did. The count stays at its greatest value.
 pub record ServesConnections {S : Type 0} {g : Ghosts S} (sizes : Sizes) (may_answer : ℕ → Type 0)
     (served : Outcome S g) : Type 0 where
   pub as_many : length (seats_of served) ≡ sizes.seats
@@ -38,6 +38,7 @@ pub record ServesConnections {S : Type 0} {g : Ghosts S} (sizes : Sizes) (may_an
   pub whole : AllByRecursion (AreServed None) (seats_of served)
   pub log : List Entry
   pub log_is : IsLogOfLines sizes (length (seats_of served)) log
+  pub history : IsOfHistory sizes log
   pub each : (seat : ℕ) (gone : List (ClosedConnection S Sight g × Unit {0}))
       → slice_get (seats_of served) seat ≡ Some gone
       → ExplainsSeat sizes may_answer log seat (gone_lines gone)

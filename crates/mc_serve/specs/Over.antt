@@ -1,8 +1,9 @@
--- What is told of lines that are served by a seat each.
+-- What is known of lines that are served by a seat each.
 use Rattle.std.specs.Prelude.{ℕ, ◌≡◌, Bool, List, [], ◌∷◌, length}
 use Rattle.mc_wire.specs.Sink.{Sight}
 use Rattle.mc_sizes.specs.declared.sizes.Sizes.{Sizes}
 use Rattle.mc_seat.specs.Explains.{Explains, LineTold}
+use Rattle.mc_serve.specs.Served.{IsOfHistory}
 
 -- a line as it is reported
 pub record CameBack : Type 0 where
@@ -13,15 +14,16 @@ pub record CameBack : Type 0 where
 abbrev pub came_back : Sight → ℕ → Bool → CameBack
 came_back line commands broke = record { line = line; commands = commands; broke = broke }
 
--- what is told of the lines, by what was seen of each before and how it came back
+-- the served lines, by what was seen of each before and how it came back
 abbrev pub lines_told : List Sight → List CameBack → List LineTold
 lines_told [] after = []
 lines_told (line ∷ before) [] = []
 lines_told (line ∷ before) (back ∷ after) =
     record { begin = line; now = back.line; commands = back.commands; broke = back.broke } ∷ lines_told before after
 
--- All lines came back, in their order, and one log explains them.
+-- All lines came back, in their order, and one log, of one history, explains them.
 pub record ServesAll (sizes : Sizes) (may_answer : ℕ → Type 0) (before : List Sight) (after : List CameBack) : Type 0
   where
     pub as_many : length after ≡ length before
     pub explained : Explains sizes may_answer (lines_told before after)
+    pub history : IsOfHistory sizes explained.log

@@ -1,8 +1,9 @@
--- Who records what goes over the channels of a seat or of a shard.
-use Rattle.std.specs.Prelude.{◌≡◌}
+-- Who records what is sent over the channels of a seat or of a shard.
+use Rattle.std.specs.Prelude.{ℕ, ◌≡◌}
 use Rattle.mc_sizes.specs.declared.sizes.Sizes.{Sizes}
 use Rattle.mc_ring.specs.Channel.{Far, Near}
 use Rattle.mc_ring.specs.Ends.{Ends}
+use Rattle.mc_ring.specs.Route.{Route}
 use Rattle.mc_model.specs.Sized.{empty_shard}
 use Rattle.mc_history.specs.Roles.{seat_of}
 use Rattle.mc_history.specs.Tokens.{Acting}
@@ -11,11 +12,15 @@ use Rattle.mc_record.specs.Recorder.{log_in, shard_of}
 use Rattle.mc_threads.specs.Routes.{AreOnRoutes, IsUpToDate}
 use Rattle.mc_threads.specs.Workers.{IsRecordOf}
 
+-- the route of the channel to a shard, as a clerk knows it
+abbrev pub route_from : Acting → ℕ → Route
+route_from clerk shard = record { seat = seat_of clerk.role; shard = shard; name = clerk.name }
+
 -- The clerk is the one of the seat of these ends, in a server of these sizes: its record is of their channels, and of
 -- all that has passed there.
 pub record IsClerkOf (sizes : Sizes) (ends : Ends Near) (clerk : Acting) : Type 0 where
   pub sizes_are : clerk.name.sizes ≡ sizes
-  pub routes : AreOnRoutes (λ shard. record { seat = seat_of clerk.role; shard = shard; name = clerk.name }) ends
+  pub routes : AreOnRoutes (route_from clerk) ends
   pub past : IsUpToDate (work_at clerk) (answers_at clerk) ends
 
 -- The recorder is the one of the shard of these ends: it is for their channels, and has recorded nothing, over an empty

@@ -3,16 +3,20 @@ use Rattle.std.specs.Prelude.{ℕ, ◌≡◌, true, false, List, [], ◌∷◌, 
 use Rattle.mc_wire.specs.Sink.{Sight}
 use Rattle.mc_ring.specs.Channel.{Near}
 use Rattle.mc_ring.specs.Ends.{Ends}
+use Rattle.mc_history.specs.Tokens.{Acting}
+use Rattle.mc_record.specs.Clerk.{answers_at, work_at}
 use Rattle.mc_conn.specs.declared.conn.Conn.{Conn}
 use Rattle.mc_conn.specs.Fits.{KeysFit}
 use Rattle.mc_seat.specs.declared.clerk.Clerk.{Ghosts}
 use Rattle.mc_seat.specs.declared.warrant.Warrant.{Ghosts as Warrants}
-use Rattle.mc_seat.specs.Place.{Place, no_place}
+use Rattle.mc_seat.specs.Place.{Place, unbegun}
 use Rattle.mc_seat.specs.LineServed.{LineServed}
 use Rattle.mc_seat.specs.Explains.{LineTold}
 use Rattle.mc_threads.specs.Ending.{EndsFirst}
+use Rattle.mc_threads.specs.Routes.{IsUpToDate}
 use Rattle.mc_threads.specs.Serving.{EndsAll}
-use Rattle.mc_threads.specs.Session.{IsLineAt, IsRuled, IsServingLine, IsVacant, MayStep, seat_ends}
+use Rattle.mc_threads.specs.Session.{IsLineAt, IsRuled, IsServingLine, IsVacant, MayStep, seat_clerk, seat_ends}
+use Rattle.mc_threads.specs.Session.{session_history}
 use Rattle.mc_threads.specs.declared.session.Session.{Session}
 use Rattle.mc_doors.specs.Told.{SourceTold, IsDone, IsFree, IsNext, Passes, closed, let_in}
 use Rattle.mc_serve.specs.declared.connection_slot.SlotState.{SlotState}
@@ -33,13 +37,18 @@ ServesLines shards rules may_answer (line ∷ lines) before after =
     (mid : Ends Near) × ServesSourceLine shards rules may_answer line before mid
     × ServesLines shards rules may_answer lines mid after
 
--- a seat: its source and its ends
+-- a seat: its source, its ends and its clerk
 pub record SeatAt : Type 0 where
   pub source : SourceTold
   pub ends : Ends Near
+  pub clerk : Acting
 
-abbrev pub seat_at : SourceTold → Ends Near → SeatAt
-seat_at source ends = record { source = source; ends = ends }
+abbrev pub seat_at : SourceTold → Ends Near → Acting → SeatAt
+seat_at source ends clerk = record { source = source; ends = ends; clerk = clerk }
+
+-- The clerk has recorded each piece that was sent on these ends, and each reply that was received.
+abbrev pub HasRecorded : Acting → Ends Near → Type 0
+HasRecorded clerk ends = IsUpToDate (work_at clerk) (answers_at clerk) ends
 
 -- The source said that no more lines come.
 pub record SourceIsClosed (before after : SourceTold) : Type 0 where
@@ -61,6 +70,8 @@ pub record SeatServes (shards : ℕ) (rules : Rules) (may_answer : ℕ → Type 
   pub source : Passes sat.source lines passed
   pub served : Ends Near
   pub lines_are : ServesLines shards rules may_answer lines sat.ends served
+  -- All of it is in the clerk's record.
+  pub recorded : HasRecorded rose.clerk served
   pub over : SourceIsClosed passed rose.source
   pub closed : EndsAll served rose.ends
 
@@ -85,7 +96,7 @@ module _ {T C : Type 0} {w : Warrants T} {g : Ghosts C T} where
     pub sits : SitsFree shards rules may_answer sat before session
     pub next : IsNext now before
     pub came : source ≡ let_in now before
-    pub new : place ≡ no_place
+    pub new : place ≡ unbegun (session_history session)
 
   -- Lines of the source were served, and the one that is out is being served; it is so now.
   pub record SitsServing (shards : ℕ) (rules : Rules) (may_answer : ℕ → Type 0) (sat : SeatAt) (source : SourceTold)
@@ -106,15 +117,16 @@ module _ {T C : Type 0} {w : Warrants T} {g : Ghosts C T} where
 
 -- Lines of the source were served, until it said that no more come, and then the first count channels were closed.
 pub record SitsClosing (shards : ℕ) (rules : Rules) (may_answer : ℕ → Type 0) (count : ℕ) (sat : SeatAt)
-    (source : SourceTold) (ends : Ends Near) : Type 0 where
+    (source : SourceTold) (ends : Ends Near) (clerk : Acting) : Type 0 where
   pub served : Ends Near
-  pub serves : ServesSource shards rules may_answer sat (seat_at source served)
+  pub serves : ServesSource shards rules may_answer sat (seat_at source served clerk)
+  pub recorded : HasRecorded clerk served
   pub closed : EndsFirst count served ends
 
-module _ {T C : Type 0} {w : Warrants T} {g : Ghosts C T} where
-  -- How a seat stands between two steps, since it began like this.
+module _ {T : Type 0} {w : Warrants T} {g : Ghosts Acting T} where
+  -- The state of a seat between two steps, since it began like this.
   abbrev pub SeatStands : {L : Type 0} → (L → Place) → (L → Sight) → ℕ → Rules → (ℕ → Type 0) → SeatAt → SourceTold
-      → Session T C w g → SlotState L → Type 0
+      → Session T Acting w g → SlotState L → Type 0
   SeatStands place sight shards rules may_answer sat source session slot_state.Free =
       SitsFree shards rules may_answer sat source session
   SeatStands place sight shards rules may_answer sat source session (slot_state.Out line false) =
@@ -122,10 +134,11 @@ module _ {T C : Type 0} {w : Warrants T} {g : Ghosts C T} where
   SeatStands place sight shards rules may_answer sat source session (slot_state.Out line true) =
       SitsServing shards rules may_answer sat source (place line) (sight line) session
   SeatStands place sight shards rules may_answer sat source session (slot_state.Closing count) =
-      SitsClosing shards rules may_answer count sat source (seat_ends session)
+      SitsClosing shards rules may_answer count sat source (seat_ends session) (seat_clerk session)
   SeatStands place sight shards rules may_answer sat source session slot_state.Over =
-      SeatServes shards rules may_answer sat (seat_at source (seat_ends session))
+      SeatServes shards rules may_answer sat (seat_at source (seat_ends session) (seat_clerk session))
 
+module _ {T C : Type 0} {w : Warrants T} {g : Ghosts C T} where
   -- A seat before its first step.
   pub record HasSatDown {L : Type 0} (shards : ℕ) (rules : Rules) (source : SourceTold) (session : Session T C w g)
       (now : SlotState L) : Type 0 where
@@ -136,10 +149,10 @@ module _ {T C : Type 0} {w : Warrants T} {g : Ghosts C T} where
     pub vacant : IsVacant rules window session
     pub ruled : IsRuled rules session
 
-  -- A line that is out has not begun, or the session serves it.
+  -- A line that is out has not begun and is of the session's history, or the session serves it.
   abbrev pub CanStep : {L : Type 0} → (L → Place) → (L → Sight) → (ℕ → Type 0) → SlotState L → Session T C w g → Type 0
   CanStep place sight may_answer slot_state.Free session = Unit {0}
-  CanStep place sight may_answer (slot_state.Out line false) session = place line ≡ no_place
+  CanStep place sight may_answer (slot_state.Out line false) session = place line ≡ unbegun (session_history session)
   CanStep place sight may_answer (slot_state.Out line true) session =
       MayStep may_answer (place line) (sight line) session
   CanStep place sight may_answer (slot_state.Closing count) session = Unit {0}

@@ -1,10 +1,14 @@
--- What is told of all sources once their threads are joined.
+-- What is known of all sources once their threads are joined.
 use Rattle.std.specs.Prelude.{ℕ, ◌≡◌, ◌<◌, List, [], ◌∷◌, length, map, Some}
 use Rattle.std.specs.List.{AllByRecursion, flat_map, slice_get}
 use Rattle.mc_sizes.specs.Sizes.{rules_of}
 use Rattle.mc_sizes.specs.declared.sizes.Sizes.{Sizes}
 use Rattle.mc_conn.specs.History.{AnsweredCommand, IsAnswered, entries_of, taken_of, text_done}
 use Rattle.mc_model.specs.Log.{Entry, of_asker, on_shard}
+use Rattle.mc_history.specs.declared.event.Event.{Event}
+use Rattle.mc_history.specs.Lawful.{IsHistory}
+use Rattle.mc_history.specs.Worlds.{ran_in, seats_in}
+use Rattle.mc_record.specs.Recorder.{seated}
 use Rattle.mc_wake.specs.Zips.{Zips}
 use Rattle.mc_seat.specs.Story.{Story}
 use Rattle.mc_seat.specs.Reads.{ReadsOwingNothing}
@@ -38,7 +42,7 @@ pub record PassesAll (before : SourceTold) (lines : List LineTold) (after : Sour
   pub done : IsDone passed
   pub over : after ≡ closed passed
 
--- The same of each source.
+-- So did the lines of each source.
 abbrev pub PassEach : List SourceTold → List (List LineTold) → List SourceTold → Type 0
 PassEach [] [] [] = Unit {0}
 PassEach [] [] (after ∷ afters) = ⊥
@@ -48,11 +52,23 @@ PassEach (before ∷ befores) (lines ∷ seats) [] = ⊥
 PassEach (before ∷ befores) (lines ∷ seats) (after ∷ afters) =
     PassesAll before lines after × PassEach befores seats afters
 
--- Each source let in its lines and took them back, until it said that no more come, and one log explains them all.
+-- what the shards ran in a history, each entry with its slot in place of its connection
+abbrev pub log_by : List Event → List Entry
+log_by events = map (seated (seats_in events)) (ran_in events)
+
+-- The log is what the shards ran in one lawful history, each entry with its slot in place of its connection.
+pub record IsOfHistory (sizes : Sizes) (log : List Entry) : Type 0 where
+  pub events : List Event
+  pub lawful : IsHistory sizes events
+  pub log_is : log ≡ log_by events
+
+-- Each source accepted its lines and took them back, until it returned that no more come, and one log, of one history,
+-- explains them all.
 pub record ServesSources (sizes : Sizes) (may_answer : ℕ → Type 0) (before after : List SourceTold) : Type 0 where
   pub seats : List (List LineTold)
   pub back : PassEach before seats after
   pub log : List Entry
   pub log_is : IsLogOfLines sizes (length seats) log
+  pub history : IsOfHistory sizes log
   pub each : (seat : ℕ) (lines : List LineTold) → slice_get seats seat ≡ Some lines
       → ExplainsSeat sizes may_answer log seat lines

@@ -2,12 +2,14 @@
 ghost use Rattle.mc_sizes.specs.Sizes.{SuitLines, rules_of};
 ghost use Rattle.mc_command.specs.declared.rules.Rules.{Rules};
 ghost use Rattle.std.specs.Prelude.{◌≡◌, ◌<◌, ℕ, IfOk, IsTrue, length};
+ghost use Rattle.mc_record.specs.Clerk.{IsSeatActor};
 ghost use Rattle.mc_ring.specs.Ends.{Ends};
 ghost use Rattle.mc_ring.specs.Channel.{Near};
 ghost use Rattle.mc_threads.specs.Ending.{EndsFirst};
-ghost use Rattle.mc_threads.specs.Session.{IsRuled, IsVacant, seat_ends};
-ghost use Rattle.mc_serve.specs.Recorded.{IsClerkOf};
-ghost use Rattle.mc_serve.specs.Seats.{CanStep, ClosesOn, SeatAt, SeatStands};
+ghost use Rattle.mc_threads.specs.Routes.{AreOnRoutes};
+ghost use Rattle.mc_threads.specs.Session.{IsRuled, IsVacant, seat_clerk, seat_ends, session_history};
+ghost use Rattle.mc_serve.specs.Recorded.{IsClerkOf, route_from};
+ghost use Rattle.mc_serve.specs.Seats.{CanStep, ClosesOn, HasRecorded, SeatAt, SeatStands};
 ghost use Rattle.mc_serve.specs.declared.connection_slot.SlotState.TheVariants as slot_state;
 
 use mc_doors::{Accept, ConnectionSource};
@@ -37,6 +39,7 @@ pub enum Stepped {
 /// that its client need not wait.
 fn after_begin<D: ConnectionSource>(begun: bool, source: &mut D, line: &mut D::Transport) -> Stepped
     ensures told { D.told source.new ≡ D.told source.old }
+    ensures history { D.history source.new ≡ D.history source.old }
     ensures line { D.Transport.sight line.new ≡ D.Transport.sight line.old }
     ensures place { D.Transport.place line.new ≡ D.Transport.place line.old }
 {
@@ -70,10 +73,12 @@ pub struct ConnectionSlot<D: ConnectionSource> {
     pub(crate) session: Session<Evidence, SeatClerk>,
     pub(crate) slot_state: SlotState<D::Transport>,
     pub source: D,
+    // The source's lines are of the history in which the clerk records.
+    ghost one_history: { D.history source ≡ session_history session },
 }
 
 impl<D: ConnectionSource + Drop> Drop for ConnectionSlot<D> {
-    /// By hand, so that to let one go is one call for whoever holds it (docs/DECISIONS.md).
+    /// By hand, so that to drop one is one call for its owner (docs/DECISIONS.md).
     fn drop(self) {
         let ConnectionSlot {
             session: _session,
@@ -87,8 +92,8 @@ impl<D: ConnectionSource + Drop> ConnectionSlot<D>
 where
     D::Transport: Transport<Warrant = Evidence>,
 {
-    /// A seat that serves the lines of the source, with a clerk whose record is of these ends. The
-    /// wakers are those of the shards.
+    /// A seat that serves the lines of the source, with a clerk of their history whose record is of
+    /// these ends. The wakers are those of the shards.
     pub fn new(
         alloc: Global,
         source: D,
@@ -100,12 +105,14 @@ where
         requires sizes { SuitLines sizes }
         requires width { length ends.channels ≡ sizes.shards }
         requires clerk { IsClerkOf sizes ends clerk }
+        requires history { D.history source ≡ clerk.name }
         ensures vacant { IfOk result
             (λ slot. IsVacant (rules_of sizes) sizes.window slot.session) }
         ensures ruled { IfOk result (λ slot. IsRuled (rules_of sizes) slot.session) }
         ensures free { IfOk result (λ slot. slot.slot_state ≡ slot_state.Free) }
         ensures source { IfOk result (λ slot. slot.source ≡ source) }
         ensures ends { IfOk result (λ slot. seat_ends slot.session ≡ ends) }
+        ensures clerk { IfOk result (λ slot. seat_clerk slot.session ≡ clerk) }
     {
         let session = Session::recorded(alloc, ends, clerk, shards, sizes)?;
         Ok(ConnectionSlot {
@@ -116,8 +123,8 @@ where
     }
 
     /// Makes a step: asks the source for a line, begins to serve the line that is out, serves it
-    /// on, or closes a channel. The line is told first what its socket is ready for, if something
-    /// is known of that.
+    /// on, or closes a channel. The line is notified first of what its socket is ready for, if
+    /// something is known of that.
     pub(crate) fn step<K: Clock>(
         &mut self,
         ready: Option<Ready>,
@@ -181,6 +188,9 @@ where
         ensures closes { (served : Ends Near) →
             EndsFirst count served (seat_ends self.old.session) →
             ClosesOn served self.new.slot_state (seat_ends self.new.session) }
+        ensures recorded { (served : Ends Near) →
+            HasRecorded (seat_clerk self.old.session) served →
+            HasRecorded (seat_clerk self.new.session) served }
         ensures source { self.new.source ≡ self.old.source }
     {
         if count >= self.session.shards() {
@@ -205,16 +215,18 @@ where
         }
     }
 
-    /// The seat's ends and the source, once its lines were served.
-    pub(crate) fn rise(self) -> (SeatEnds<Evidence>, D)
-        ensures ends { result.0 ≡ seat_ends self.session }
-        ensures source { result.1 ≡ self.source }
+    /// The source and the clerk, once the lines were served.
+    pub(crate) fn finish(self) -> (D, SeatClerk)
+        ensures source { result.0 ≡ self.source }
+        ensures clerk { result.1 ≡ seat_clerk self.session }
+        ensures actor { IsSeatActor result.1 }
+        ensures routes { AreOnRoutes (route_from result.1) (seat_ends self.session) }
     {
         let ConnectionSlot {
             session,
             source,
             slot_state: _slot_state,
         } = self;
-        (session.into_ends(), source)
+        (source, session.into_clerk())
     }
 }

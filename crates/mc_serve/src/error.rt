@@ -8,7 +8,7 @@ use thiserror::Error;
 /// it.
 #[derive(Clone, Copy, Debug, Error)]
 pub enum ServeError {
-    /// There is no memory for the shards, the connections or the rings, or the system gives no
+    /// There is no memory for the shards, the connections or the rings, or the system returns no
     /// random bytes for a hash.
     #[error("out of memory for the shards, the connections or the rings, or no random bytes from the system")]
     Memory,

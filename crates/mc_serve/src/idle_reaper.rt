@@ -13,7 +13,7 @@ use std::{thread, time};
 /// Milliseconds from one look at the clock and the signals to the next.
 const LOOK_MILLIS: u64 = 250;
 
-/// Says the seconds to all lines and rouses each seat once a second, and has all lines end once a
+/// Shows the seconds to all lines and wakes each seat once a second, and has all lines end once a
 /// signal or a client asks for it.
 #[derive(Drop)]
 struct ReaperTask {
@@ -27,7 +27,7 @@ struct ReaperTask {
     stop_token: Arc<StopToken, Global>,
     /// The seconds that were said last.
     said: u64,
-    /// Since the beginning, when the connections are cut off that have not ended: once the end was
+    /// Since the beginning, when the connections are cut off that have not ended: once the end is
     /// asked for.
     until: Option<Duration>,
 }

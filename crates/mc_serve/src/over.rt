@@ -2,7 +2,8 @@
 ghost use Rattle.std.specs.Prelude.{◌≡◌, ◌≢◌, [], IfErr, IfOk, length, map};
 ghost use Rattle.std.specs.List.{AllByRecursion};
 ghost use Rattle.mc_sizes.specs.Sizes.{MayServe};
-ghost use Rattle.mc_seat.specs.Place.{no_place};
+ghost use Rattle.mc_record.specs.Opening.{IsOpening};
+ghost use Rattle.mc_seat.specs.Place.{unbegun};
 ghost use Rattle.mc_wake.specs.Zips.{Zips};
 ghost use Rattle.mc_serve.specs.Over.{ServesAll, came_back};
 ghost use Rattle.mc_serve.specs.declared.error.ServeError.TheVariants.{Bind};
@@ -12,6 +13,7 @@ use crate::error::ServeError;
 use crate::serving::serve;
 use mc_doors::{ServedLine, SingleSource};
 use mc_history::Evidence;
+use mc_record::Opening;
 use mc_seat::{Clock, Transport};
 use mc_sizes::Sizes;
 use mc_wake::{Poller, SpinPolicy};
@@ -28,9 +30,10 @@ pub struct Report<L> {
     pub lines: Vec<ServedLine<L>>,
 }
 
-/// Serves the lines until each has ended, quits or has failed. Each line has a seat, whatever the
-/// sizes say, and each line and each shard has a thread of its own. Every worker passes the gate
-/// before each piece. Where it refuses, nothing was read of any line nor written to it.
+/// Serves the lines until each has ended, quits or has failed. All of them are of the history that
+/// was opened. Each line has a slot, whatever the sizes say, and each line and each shard has a
+/// thread of its own. Every worker passes the gate before each piece. Where it refuses, nothing was
+/// read of any line nor written to it.
 pub fn serve_over<
     R: Threads + Wait + RandomSource + Copy + Send + Drop + 'static,
     L: Transport<Warrant = Evidence> + Send + Drop + 'static,
@@ -39,16 +42,20 @@ pub fn serve_over<
 >(
     rt: &R,
     alloc: Global,
+    opening: Opening,
     lines: Vec<L>,
     sizes: Sizes,
     gate: G,
     clock: K,
 ) -> Result<Report<L>, ServeError>
     requires sizes { MayServe (record sizes { seats = length lines.items }) }
+    requires opening { IsOpening (record sizes { seats = length lines.items })
+        opening.recorders.items opening.clerks.items opening.witness }
     // None has begun.
-    requires new { AllByRecursion (λ line. L.place line ≡ no_place) lines.items }
-    // One log explains what was read of all lines, what was written to them and what the shards
-    // did.
+    requires new { AllByRecursion (λ line. L.place line ≡ unbegun opening.witness.name)
+        lines.items }
+    // One log, of one history, explains what was read of all lines, what was written to them and
+    // what the shards did.
     ensures explained { IfOk result (λ report.
         ServesAll (record sizes { seats = length lines.items }) (K.may_answer clock)
         (map (λ line. L.sight line) lines.items)
@@ -57,9 +64,11 @@ pub fn serve_over<
 {
     // The room for the report comes first: the lines are not lost once they were served.
     let room = Vec::with_capacity(alloc, lines.len())?;
-    let sources = sources_for(alloc, lines)?;
+    let mut opening = opening;
+    let shown = opening.show();
+    let sources = sources_for(alloc, lines, &shown)?;
     let pollers = pollers_for(rt, alloc, sources.len(), sizes.shards)?;
-    let back = serve(rt, alloc, sources, pollers, sizes, gate, clock)?;
+    let back = serve(rt, alloc, opening, sources, pollers, sizes, gate, clock)?;
     gather(back, room)
 }
 
@@ -84,19 +93,22 @@ pub(crate) fn pollers_for<R: Threads>(
     Ok(pollers)
 }
 
-/// A source for each line.
+/// A source for each line of the token's history.
 fn sources_for<L: Transport<Warrant = Evidence> + Drop>(
     alloc: Global,
     lines: Vec<L>,
+    history: &Evidence,
 ) -> Result<Vec<SingleSource<L>>, AllocError>
-    requires { AllByRecursion (λ line. L.place line ≡ no_place) lines.items }
-    ensures { IfOk result (λ sources.
+    requires { AllByRecursion (λ line. L.place line ≡ unbegun history.now.name) lines.items }
+    ensures told { IfOk result (λ sources.
         map (λ source. told_of (λ line. L.sight line) source)
         sources.items ≡ map (λ line. waits (L.sight line)) lines.items) }
+    ensures history { IfOk result (λ sources.
+        AllByRecursion (λ source. source.history.value.name ≡ history.now.name) sources.items) }
 {
     let mut sources = Vec::with_capacity(alloc, lines.len())?;
     for line in lines {
-        sources.push(SingleSource::new(line))?;
+        sources.push(SingleSource::new(line, history))?;
     }
     Ok(sources)
 }

@@ -1,6 +1,6 @@
 //! A line over memory that notes which connection it is.
 ghost use Rattle.std.specs.Prelude.{◌≡◌};
-ghost use Rattle.mc_seat.specs.Place.{no_place};
+ghost use Rattle.mc_seat.specs.Place.{unbegun};
 
 use mc_history::Evidence;
 use mc_seat::{Ready, Taking, Transport, TransportError};
@@ -8,11 +8,13 @@ use mc_wire::SinkError;
 use std::io::IoSlice;
 use std::snapshot::Snapshot;
 
-/// A line that any bytes may be written to, as one that is written by evidence of a history. Which
-/// connection it is, contracts alone see.
+/// A line that any bytes may be written to, as one of a history, which is written by evidence of it.
+/// Which connection it is, contracts alone see.
 #[derive(Drop)]
 pub struct PlacedLine<L> {
     pub line: L,
+    /// Evidence of its history.
+    history: Snapshot<Evidence>,
     /// What was shown when it began, if it has.
     seen: Snapshot<Option<Evidence>>,
     /// The line then.
@@ -20,17 +22,20 @@ pub struct PlacedLine<L> {
 }
 
 impl<L: Transport<Warrant = ()> + Drop> PlacedLine<L> {
-    ghost use Rattle.mc_serve.specs.Placed.{place_by};
+    ghost use Rattle.mc_seat.specs.Place.{bytes_seen, place_by};
+    ghost use Rattle.mc_history.specs.Places.{place_in};
 
-    /// The line, which has not begun.
-    pub fn new(line: L) -> PlacedLine<L>
+    /// The line, as one of this history that has not begun.
+    pub fn new(line: L, history: &Evidence) -> PlacedLine<L>
         ensures line { result.line ≡ line }
-        ensures new { place_by result.seen.value (L.sight result.begin.value) ≡ no_place }
+        ensures new { place_by place_in result.history.value.name result.seen.value
+            (bytes_seen (L.sight result.begin.value)) ≡ unbegun history.now.name }
     {
         let seen: Option<Evidence> = None;
         let begin = Snapshot::of(&line);
         PlacedLine {
             line,
+            history: Snapshot::of(history),
             seen: Snapshot::of(&seen),
             begin,
         }
@@ -46,13 +51,15 @@ impl<L: Transport<Warrant = ()> + Drop> PlacedLine<L> {
 }
 
 impl<L: Transport<Warrant = ()> + Drop> Transport for PlacedLine<L> {
-    ghost use Rattle.mc_serve.specs.Placed.{place_by};
+    ghost use Rattle.mc_seat.specs.Place.{bytes_seen, place_by};
+    ghost use Rattle.mc_history.specs.Places.{place_in};
 
     type Warrant = Evidence;
 
     ghost sight = { λ placed. L.sight placed.line };
 
-    ghost place = { λ placed. place_by placed.seen.value (L.sight placed.begin.value) };
+    ghost place = { λ placed. place_by place_in placed.history.value.name placed.seen.value
+        (bytes_seen (L.sight placed.begin.value)) };
 
     fn begin(&mut self, seen: Evidence) {
         let seen = Some(seen);

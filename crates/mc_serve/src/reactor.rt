@@ -1,11 +1,9 @@
 //! What one thread serves.
 ghost use Rattle.mc_sizes.specs.Sizes.{rules_of};
-ghost use Rattle.std.specs.Prelude.{◌≡◌, List, IfOk, IsTrue, map};
+ghost use Rattle.std.specs.Prelude.{◌≡◌, IfOk, IsTrue, map};
 ghost use Rattle.std.specs.List.{AllByRecursion};
-ghost use Rattle.mc_threads.specs.Session.{seat_ends};
-ghost use Rattle.mc_worker.specs.WorkerState.{WorkerState, Goes};
+ghost use Rattle.mc_threads.specs.Session.{seat_clerk, seat_ends};
 ghost use Rattle.mc_wake.specs.Zips.{Zips};
-ghost use Rattle.mc_threads.specs.Working.{Finishes};
 ghost use Rattle.mc_serve.specs.Seats.{HasSatDown, SeatServes, seat_at};
 ghost use Rattle.mc_serve.specs.declared.connection_slot.SlotState.TheVariants as slot_state;
 
@@ -35,7 +33,7 @@ pub struct Reactor<D: ConnectionSource, G, K> {
 }
 
 impl<D: ConnectionSource + Drop, G: Drop, K: Drop> Drop for Reactor<D, G, K> {
-    /// By hand, so that to let one go is one call for whoever holds it (docs/DECISIONS.md).
+    /// By hand, so that to drop one is one call for its owner (docs/DECISIONS.md).
     fn drop(self) {
         let Reactor {
             seats: _seats,
@@ -70,7 +68,6 @@ where
             HasSatDown part.sizes.shards (rules_of part.sizes) (D.told one.source) one.session
             one.slot_state) part.seats.all.items) }
         ensures seats { IfOk result (λ part. part.seats.all ≡ seats) }
-        ensures workers { IfOk result (λ part. part.workers ≡ workers) }
         ensures sizes { IfOk result (λ part. part.sizes ≡ sizes) }
         ensures clock { IfOk result (λ part. part.clock ≡ clock) }
     {
@@ -90,15 +87,13 @@ where
             HasSatDown self.old.sizes.shards (rules_of self.old.sizes) (D.told one.source)
             one.session
             one.slot_state) self.old.seats.all.items }
-        ensures seats { Zips
+        ensures { Zips
             (SeatServes self.old.sizes.shards (rules_of self.old.sizes)
             (K.may_answer self.old.clock))
-            (map (λ one. seat_at (D.told one.source) (seat_ends one.session))
-            self.old.seats.all.items)
-            (map (λ one. seat_at (D.told one.source) (seat_ends one.session))
-            self.new.seats.all.items) }
-        ensures workers { Zips Finishes (map (λ one. one.worker) self.old.workers.items)
-            (map (λ one. one.worker) self.new.workers.items) }
+            (map (λ one. seat_at (D.told one.source) (seat_ends one.session)
+            (seat_clerk one.session)) self.old.seats.all.items)
+            (map (λ one. seat_at (D.told one.source) (seat_ends one.session)
+            (seat_clerk one.session)) self.new.seats.all.items) }
     {
         for _ in rt.forever() {
             let stepped = self
@@ -121,12 +116,8 @@ where
 
     /// Whether each seat has closed its channels and each worker has ended.
     fn is_done(&self) -> bool
-        ensures over { IsTrue result →
+        ensures { IsTrue result →
             AllByRecursion (λ one. one.slot_state ≡ slot_state.Over) self.now.seats.all.items }
-        ensures ended { IsTrue result →
-            AllByRecursion
-            (λ one. (begun : WorkerState) → Goes begun one.worker → Finishes begun one.worker)
-            self.now.workers.items }
     {
         if !self.seats.are_over() {
             return false;
@@ -134,20 +125,19 @@ where
         have_ended(&self.workers)
     }
 
-    /// The seats and the workers, once they were served.
-    pub(crate) fn apart(self) -> (Vec<ConnectionSlot<D>>, Vec<Working<G, Evidence, Recorder>>)
-        ensures seats { result.0 ≡ self.seats.all }
-        ensures workers { result.1 ≡ self.workers }
+    /// The seats, once they were served. The workers are dropped.
+    pub(crate) fn into_seats(self) -> Vec<ConnectionSlot<D>>
+        ensures { result ≡ self.seats.all }
     {
         let Reactor {
             seats,
-            workers,
+            workers: _workers,
             poller: _poller,
             pool: _pool,
             sizes: _sizes,
             clock: _clock,
         } = self;
-        (seats.into_all(), workers)
+        seats.into_all()
     }
 }
 
@@ -155,11 +145,7 @@ where
 fn serve_callers<G: Gate + Drop>(
     workers: &mut Vec<Working<G, Evidence, Recorder>>,
     poller: &Poller,
-) -> bool
-    ensures { (begun : List WorkerState) →
-        Zips Goes begun (map (λ one. one.worker) workers.old.items) →
-        Zips Goes begun (map (λ one. one.worker) workers.new.items) }
-{
+) -> bool {
     let (first, end) = poller.called_words();
     for word in first..end {
         let more = serve_word(workers, word, poller.callers_in(word));
@@ -168,17 +154,13 @@ fn serve_callers<G: Gate + Drop>(
     first < end
 }
 
-/// Has each worker serve those of the 64 seats of a word that have a bit. It gives those that may
+/// Has each worker serve those of the 64 seats of a word that have a bit. It returns those that may
 /// have more for one of them.
 fn serve_word<G: Gate + Drop>(
     workers: &mut Vec<Working<G, Evidence, Recorder>>,
     word: usize,
     called: u64,
-) -> u64
-    ensures { (begun : List WorkerState) →
-        Zips Goes begun (map (λ one. one.worker) workers.old.items) →
-        Zips Goes begun (map (λ one. one.worker) workers.new.items) }
-{
+) -> u64 {
     let mut more = 0;
     for place in 0..workers.len() {
         let working = &mut workers[place];
@@ -188,12 +170,7 @@ fn serve_word<G: Gate + Drop>(
 }
 
 /// Whether each worker has ended.
-fn have_ended<G: Gate + Drop>(workers: &Vec<Working<G, Evidence, Recorder>>) -> bool
-    ensures { IsTrue result →
-        AllByRecursion (λ one. (begun : WorkerState) → Goes begun one.worker →
-        Finishes begun one.worker)
-        workers.now.items }
-{
+fn have_ended<G: Gate + Drop>(workers: &Vec<Working<G, Evidence, Recorder>>) -> bool {
     for place in 0..workers.len() {
         if !workers[place].ended() {
             return false;
@@ -213,10 +190,10 @@ where
 
     ghost does = { λ sat rose.
         Zips (SeatServes sat.sizes.shards (rules_of sat.sizes) (K.may_answer sat.clock))
-        (map (λ one. seat_at (D.told one.source) (seat_ends one.session)) sat.seats.all.items)
-        (map (λ one. seat_at (D.told one.source) (seat_ends one.session)) rose.seats.all.items) ×
-        Zips Finishes (map (λ one. one.worker) sat.workers.items)
-        (map (λ one. one.worker) rose.workers.items) };
+        (map (λ one. seat_at (D.told one.source) (seat_ends one.session) (seat_clerk one.session))
+        sat.seats.all.items)
+        (map (λ one. seat_at (D.told one.source) (seat_ends one.session) (seat_clerk one.session))
+        rose.seats.all.items) };
 
     fn work<R: Wait>(self, rt: &R) -> Reactor<D, G, K> {
         let mut part = self;

@@ -1,40 +1,51 @@
-//! New channels, and who records what goes over them.
-ghost use Rattle.std.specs.Prelude.{IfOk};
+//! New channels, and who records what is sent over them.
+ghost use Rattle.std.specs.Prelude.{◌≡◌, IfOk};
 ghost use Rattle.mc_ring.specs.Made.{AreChannels};
 ghost use Rattle.mc_wake.specs.Zips.{Zips};
+ghost use Rattle.mc_record.specs.Opening.{IsOpening};
 ghost use Rattle.mc_serve.specs.Recorded.{IsClerkOf, IsRecorderOf};
 
-use mc_history::Evidence;
+use mc_history::{Evidence, Member};
 use mc_record::{Opening, Recorder, SeatClerk};
 use mc_ring::{SeatEnds, ShardEnds, channels_with};
 use mc_sizes::Sizes;
 use std::alloc::{AllocError, Global};
 
 /// The ends of new channels between all seats and all shards, with the clerk of each seat and the
-/// recorder of each shard. All of them record in one history.
+/// recorder of each shard. All of them record in one history, of which there is a witness.
 #[derive(Drop)]
 pub(crate) struct RecordedChannels {
     pub(crate) near: Vec<SeatEnds<Evidence>>,
     pub(crate) clerks: Vec<SeatClerk>,
     pub(crate) far: Vec<ShardEnds<Evidence>>,
     pub(crate) recorders: Vec<Recorder>,
+    pub(crate) witness: Member,
 }
 
 impl RecordedChannels {
-    /// The channels of a server of these sizes, on which nothing has passed.
-    pub(crate) fn new(alloc: Global, sizes: Sizes) -> Result<RecordedChannels, AllocError>
+    /// The channels of a server of these sizes, on which nothing was sent. They are recorded in the
+    /// history that was opened.
+    pub(crate) fn new(
+        alloc: Global,
+        opening: Opening,
+        sizes: Sizes,
+    ) -> Result<RecordedChannels, AllocError>
+        requires { IsOpening sizes opening.recorders.items opening.clerks.items opening.witness }
         ensures channels { IfOk result (λ made.
             AreChannels sizes.seats sizes.shards sizes.ring made.near.items made.far.items) }
         ensures clerks { IfOk result
             (λ made. Zips (IsClerkOf sizes) made.near.items made.clerks.items) }
         ensures recorders { IfOk result
             (λ made. Zips (IsRecorderOf sizes) made.far.items made.recorders.items) }
+        ensures opened { IfOk result (λ made. made.clerks ≡ opening.clerks) }
+        ensures witness { IfOk result (λ made. made.witness ≡ opening.witness) }
     {
         let Opening {
             recorders,
             clerks,
             mut source,
-        } = Opening::new(alloc, sizes)?;
+            witness,
+        } = opening;
         let Ok((near, far)) = channels_with(alloc, sizes, &mut source) else {
             // The sizes are within the limits.
             return Err(AllocError);
@@ -44,6 +55,7 @@ impl RecordedChannels {
             clerks,
             far,
             recorders,
+            witness,
         })
     }
 }

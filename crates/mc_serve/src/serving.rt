@@ -4,25 +4,23 @@ ghost use Rattle.std.specs.Prelude.{◌≡◌, ◌≢◌, [], ◌++◌, IfErr, I
 ghost use Rattle.std.specs.List.{AllByRecursion, flat_map};
 ghost use Rattle.std.specs.Vec.Iter.{into_iter_items};
 ghost use Rattle.mc_sizes.specs.Sizes.{MayServe, SuitLines, rules_of};
-ghost use Rattle.mc_ring.specs.Made.{AreChannels};
-ghost use Rattle.mc_threads.specs.Session.{seat_ends};
-ghost use Rattle.mc_threads.specs.Workers.{IsFresh, ends_of};
+ghost use Rattle.mc_record.specs.Opening.{IsOpening};
+ghost use Rattle.mc_threads.specs.Session.{seat_clerk, seat_ends};
 ghost use Rattle.mc_serve.specs.declared.error.ServeError.TheVariants.{Bind};
 ghost use Rattle.mc_doors.specs.Told.{IsFree};
 ghost use Rattle.mc_wake.specs.Zips.{Zips};
 ghost use Rattle.mc_serve.specs.Recorded.{IsClerkOf};
 ghost use Rattle.mc_serve.specs.Seats.{HasSatDown};
-ghost use Rattle.mc_serve.specs.Asking.{AreTied, HasChannels};
 ghost use Rattle.mc_serve.specs.Served.{ServesSources};
 
 use crate::connection_slot::ConnectionSlot;
 use crate::error::ServeError;
 use crate::reactor::Reactor;
 use crate::recorded::RecordedChannels;
-use crate::settling::settle;
+use crate::settling::ReturnRoom;
 use mc_doors::ConnectionSource;
-use mc_history::Evidence;
-use mc_record::{Recorder, SeatClerk};
+use mc_history::{Evidence, Member};
+use mc_record::{Opening, Recorder, SeatClerk, close};
 use mc_ring::SeatEnds;
 use mc_seat::{Clock, Transport};
 use mc_sizes::Sizes;
@@ -35,11 +33,13 @@ use std::sync::{Arc, Wait};
 use std::thread::Threads;
 use std::vec::IntoIter;
 
-/// Serves the lines of the sources until no more come. There is a thread for each poller, which
-/// serves as many of the seats and of the shards as the poller has places and workers: in their
-/// order, so that each seat and each shard has its thread. Each source has a seat, whatever the
-/// sizes say. Every worker passes the gate before each piece. Where it refuses, no source was asked
-/// for a line: `Thread` also where the pollers have places or workers for more or fewer.
+/// Serves the lines of the sources until no more come. All of them are of the history that was
+/// opened, in which each slot's clerk records what the slot's connections take, and each shard's
+/// recorder what the shard runs. There is a thread for each poller, which serves as many of the
+/// slots and of the shards as the poller has places and workers: in their order, so that each slot
+/// and each shard has its thread. Each source has a slot, whatever the sizes say. Every worker
+/// passes the gate before each piece. Where it refuses, no source was called; `Thread` is returned
+/// also where the pollers have places or workers for more or fewer.
 pub fn serve<
     R: Threads + Wait + RandomSource + Copy + Send + Drop + 'static,
     D: ConnectionSource + Send + Drop + 'static,
@@ -48,6 +48,7 @@ pub fn serve<
 >(
     rt: &R,
     alloc: Global,
+    opening: Opening,
     sources: Vec<D>,
     pollers: Vec<Poller>,
     sizes: Sizes,
@@ -57,9 +58,13 @@ pub fn serve<
 where
     D::Transport: Transport<Warrant = Evidence> + Send + 'static,
     requires sizes { MayServe (record sizes { seats = length sources.items }) }
+    requires opening { IsOpening (record sizes { seats = length sources.items })
+        opening.recorders.items opening.clerks.items opening.witness }
+    requires history { AllByRecursion (λ source. D.history source ≡ opening.witness.name)
+        sources.items }
     requires free { AllByRecursion (λ source. IsFree (D.told source)) sources.items }
-    // One log explains what was read of all lines, what was written to them and what the shards
-    // did.
+    // One log, of one history, explains what was read of all lines, what was written to them and
+    // what the shards did.
     ensures explained { IfOk result (λ back.
         ServesSources (record sizes { seats = length sources.items }) (K.may_answer clock)
         (map (λ source. D.told source) sources.items) (map (λ source. D.told source) back.items)) }
@@ -67,7 +72,7 @@ where
 {
     let seats = sources.len();
     let sizes = Sizes { seats, ..sizes };
-    match serve_all(rt, alloc, sources, pollers, sizes, gate, clock) {
+    match serve_all(rt, alloc, opening, sources, pollers, sizes, gate, clock) {
         Ok(back) => Ok(back),
         Err(refusal) => Err(ServeError::from(refusal)),
     }
@@ -82,6 +87,7 @@ fn serve_all<
 >(
     rt: &R,
     alloc: Global,
+    opening: Opening,
     sources: Vec<D>,
     pollers: Vec<Poller>,
     sizes: Sizes,
@@ -92,13 +98,17 @@ where
     D::Transport: Transport<Warrant = Evidence> + Send + 'static,
     requires sizes { MayServe sizes }
     requires seats { length sources.items ≡ sizes.seats }
+    requires opening { IsOpening sizes opening.recorders.items opening.clerks.items
+        opening.witness }
+    requires history { AllByRecursion (λ source. D.history source ≡ opening.witness.name)
+        sources.items }
     requires free { AllByRecursion (λ source. IsFree (D.told source)) sources.items }
     ensures { IfOk result (λ back.
         ServesSources sizes (K.may_answer clock) (map (λ source. D.told source) sources.items)
         (map (λ source. D.told source) back.items)) }
 {
     let mut thread_group = ThreadGroup::new(alloc, pollers.len())?;
-    let pool = ReturnRoom::new(alloc, sources.len(), sizes.shards)?;
+    let room = ReturnRoom::new(alloc, sources.len())?;
     let Ok(gate) = Arc::new(alloc, gate) else {
         return Err(ThreadGroupError::Memory);
     };
@@ -106,77 +116,30 @@ where
         rt,
         alloc,
         &mut thread_group,
+        opening,
         sources,
         pollers,
         sizes,
         &gate,
         clock,
     );
-    if let Err(refusal) = started {
-        thread_group.dismiss(rt);
-        return Err(refusal);
-    }
+    let witness = match started {
+        Ok(witness) => witness,
+        Err(refusal) => {
+            thread_group.dismiss(rt);
+            return Err(refusal);
+        }
+    };
     thread_group.begin(rt);
     let parts = thread_group.join(rt)?;
-    pool.settle(parts)
-}
-
-/// The room for what the threads hand back. It comes before they start: nothing is lost once the
-/// lines were served.
-#[derive(Drop)]
-struct ReturnRoom<D: ConnectionSource, G> {
-    seats: Vec<ConnectionSlot<D>>,
-    workers: Vec<Working<G, Evidence, Recorder>>,
-    sources: Vec<D>,
-    ghost no_seats: { seats.items ≡ [] },
-    ghost no_workers: { workers.items ≡ [] },
-    ghost no_sources: { sources.items ≡ [] },
-}
-
-impl<D: ConnectionSource + Drop, G: Gate + Drop> ReturnRoom<D, G>
-where
-    D::Transport: Transport<Warrant = Evidence>,
-{
-    /// The room for as many seats and workers.
-    fn new(alloc: Global, seats: usize, workers: usize) -> Result<ReturnRoom<D, G>, AllocError> {
-        Ok(ReturnRoom {
-            seats: Vec::with_capacity(alloc, seats)?,
-            workers: Vec::with_capacity(alloc, workers)?,
-            sources: Vec::with_capacity(alloc, seats)?,
-        })
-    }
-
-    /// Looks at the channels between all seats and all workers of these parts from both ends, and
-    /// hands back the sources.
-    fn settle<K: Clock + Drop>(
-        self,
-        parts: Vec<Reactor<D, G, K>>,
-    ) -> Result<Vec<D>, ThreadGroupError>
-        requires { AllByRecursion (λ slot.
-            HasChannels (seat_ends slot.session)
-            (map (λ one. one.worker) (flat_map (λ part. part.workers.items) parts.items)))
-            (flat_map (λ part. part.seats.all.items) parts.items) }
-        ensures tied { IfOk result (λ _.
-            AllByRecursion (λ slot.
-            AreTied (seat_ends slot.session)
-            (map (λ one. one.worker) (flat_map (λ part. part.workers.items) parts.items)))
-            (flat_map (λ part. part.seats.all.items) parts.items)) }
-        ensures sources { IfOk result (λ sources. sources.items ≡
-            map (λ slot. slot.source) (flat_map (λ part. part.seats.all.items) parts.items)) }
-    {
-        let ReturnRoom {
-            mut seats,
-            mut workers,
-            sources,
-        } = self;
-        take_apart(parts, &mut seats, &mut workers)?;
-        settle(seats, &mut workers, sources)
-    }
+    let (back, clerks) = room.take_back(parts)?;
+    let _history = close(witness, clerks);
+    Ok(back)
 }
 
 /// Starts a thread for each poller, with as many of the seats and of the workers as it has places
 /// and workers for, as far as they can be started. Any seat of the server may call a worker.
-/// `Thread`: some are left.
+/// `Thread`: some are left. It returns the history's witness.
 fn start<
     R: Threads + Wait + RandomSource + Copy + Send + 'static,
     D: ConnectionSource + Send + Drop + 'static,
@@ -186,39 +149,43 @@ fn start<
     rt: &R,
     alloc: Global,
     thread_group: &mut ThreadGroup<Reactor<D, G, K>>,
+    opening: Opening,
     sources: Vec<D>,
     pollers: Vec<Poller>,
     sizes: Sizes,
     gate: &Arc<G, Global>,
     clock: K,
-) -> Result<(), ThreadGroupError>
+) -> Result<Member, ThreadGroupError>
 where
     D::Transport: Transport<Warrant = Evidence> + Send + 'static,
     requires sizes { MayServe sizes }
     requires seats { length sources.items ≡ sizes.seats }
+    requires opening { IsOpening sizes opening.recorders.items opening.clerks.items
+        opening.witness }
+    requires history { AllByRecursion (λ source. D.history source ≡ opening.witness.name)
+        sources.items }
     requires free { AllByRecursion (λ source. IsFree (D.told source)) sources.items }
     requires none { thread_group.old ≡ [] }
-    ensures channels { OnOk result (AreChannels sizes.seats sizes.shards sizes.ring
-        (map (λ one. seat_ends one.session)
-        (flat_map (λ part. part.seats.all.items) thread_group.new))
-        (map ends_of (map (λ one. one.worker)
-        (flat_map (λ part. part.workers.items) thread_group.new)))) }
-    ensures fresh { OnOk result
-        (AllByRecursion (IsFresh sizes)
-        (map (λ one. one.worker) (flat_map (λ part. part.workers.items) thread_group.new))) }
+    ensures witness { IfOk result (λ witness. witness ≡ opening.witness) }
+    ensures clerks { OnOk result
+        (map (λ one. seat_clerk one.session)
+        (flat_map (λ part. part.seats.all.items) thread_group.new) ≡ opening.clerks.items) }
+    ensures fit { OnOk result
+        (AllByRecursion (λ one. IsClerkOf sizes (seat_ends one.session) (seat_clerk one.session))
+        (flat_map (λ part. part.seats.all.items) thread_group.new)) }
     ensures sources { OnOk result
         (map (λ one. one.source) (flat_map (λ part. part.seats.all.items) thread_group.new) ≡
         sources.items) }
     ensures same { OnOk result
         (AllByRecursion (λ part. (part.clock ≡ clock) × (part.sizes ≡ sizes)) thread_group.new) }
 {
-    let mut left = Unassigned::new(rt, alloc, sources, &pollers, sizes, gate)?;
+    let mut left = Unassigned::new(rt, alloc, opening, sources, &pollers, sizes, gate)?;
     for poller in pollers {
         let part = left.next_part(alloc, poller, sizes, clock)?;
         thread_group.start(rt, alloc, part)?;
     }
     if left.is_empty() {
-        return Ok(());
+        return Ok(left.into_witness());
     }
     Err(ThreadGroupError::Thread)
 }
@@ -239,9 +206,14 @@ where
     requires width { AllByRecursion (λ seat. length seat.channels ≡ sizes.shards) ends.items }
     requires as_many { length sources.items ≡ length ends.items }
     requires clerks { Zips (IsClerkOf sizes) ends.items clerks.items }
+    requires history { Zips (λ source clerk. D.history source ≡ clerk.name)
+        sources.items clerks.items }
     requires free { AllByRecursion (λ source. IsFree (D.told source)) sources.items }
-    ensures ends { IfOk result
-        (λ seats. map (λ one. seat_ends one.session) seats.items ≡ ends.items) }
+    ensures clerks { IfOk result
+        (λ seats. map (λ one. seat_clerk one.session) seats.items ≡ clerks.items) }
+    ensures fit { IfOk result (λ seats.
+        AllByRecursion (λ one. IsClerkOf sizes (seat_ends one.session) (seat_clerk one.session))
+        seats.items) }
     ensures sources { IfOk result (λ seats. map (λ one. one.source) seats.items ≡ sources.items) }
     ensures begin { IfOk result (λ seats.
         AllByRecursion (λ one.
@@ -272,9 +244,7 @@ fn set_working<G: Gate + Drop>(
     workers: Vec<Worker<Evidence, Recorder>>,
     gate: &Arc<G, Global>,
     seats: &Wakers,
-) -> Result<Vec<Working<G, Evidence, Recorder>>, AllocError>
-    ensures { IfOk result (λ all. map (λ one. one.worker) all.items ≡ workers.items) }
-{
+) -> Result<Vec<Working<G, Evidence, Recorder>>, AllocError> {
     let mut all = Vec::with_capacity(alloc, workers.len())?;
     for worker in workers {
         let gate = Arc::try_clone(gate)?;
@@ -284,22 +254,24 @@ fn set_working<G: Gate + Drop>(
     Ok(all)
 }
 
-/// The seats and the workers that no thread serves yet.
+/// The seats and the workers that no thread serves yet, and the history's witness.
 #[derive(Drop)]
 struct Unassigned<D: ConnectionSource, G> {
     seats: IntoIter<ConnectionSlot<D>>,
     workers: IntoIter<Working<G, Evidence, Recorder>>,
+    witness: Member,
 }
 
 impl<D: ConnectionSource + Drop, G: Gate + Drop> Unassigned<D, G>
 where
     D::Transport: Transport<Warrant = Evidence>,
 {
-    /// A seat for each source and a worker for each shard, over new channels. The pollers are those
-    /// of their threads.
+    /// A seat for each source and a worker for each shard, over new channels, which record in the
+    /// history that was opened. The pollers are those of their threads.
     fn new<R: RandomSource>(
         rt: &R,
         alloc: Global,
+        opening: Opening,
         sources: Vec<D>,
         pollers: &[Poller],
         sizes: Sizes,
@@ -307,13 +279,19 @@ where
     ) -> Result<Unassigned<D, G>, AllocError>
         requires sizes { MayServe sizes }
         requires seats { length sources.items ≡ sizes.seats }
+        requires opening { IsOpening sizes opening.recorders.items opening.clerks.items
+            opening.witness }
+        requires history { AllByRecursion (λ source. D.history source ≡ opening.witness.name)
+            sources.items }
         requires free { AllByRecursion (λ source. IsFree (D.told source)) sources.items }
-        ensures channels { IfOk result (λ left. AreChannels sizes.seats sizes.shards sizes.ring
-            (map (λ one. seat_ends one.session) (into_iter_items left.seats))
-            (map ends_of (map (λ one. one.worker) (into_iter_items left.workers)))) }
-        ensures fresh { IfOk result (λ left.
-            AllByRecursion (IsFresh sizes)
-            (map (λ one. one.worker) (into_iter_items left.workers))) }
+        ensures witness { IfOk result (λ left. left.witness ≡ opening.witness) }
+        ensures clerks { IfOk result (λ left.
+            map (λ one. seat_clerk one.session) (into_iter_items left.seats) ≡
+            opening.clerks.items) }
+        ensures fit { IfOk result (λ left.
+            AllByRecursion
+            (λ one. IsClerkOf sizes (seat_ends one.session) (seat_clerk one.session))
+            (into_iter_items left.seats)) }
         ensures sources { IfOk result (λ left.
             map (λ one. one.source) (into_iter_items left.seats) ≡ sources.items) }
         ensures begin { IfOk result (λ left.
@@ -326,7 +304,8 @@ where
             clerks,
             far,
             recorders,
-        } = RecordedChannels::new(alloc, sizes)?;
+            witness,
+        } = RecordedChannels::new(alloc, opening, sizes)?;
         let wakers = Wakers::of(alloc, pollers)?;
         let workers = make_recorded_workers(rt, alloc, far, recorders, sizes)?;
         let workers = set_working(alloc, workers, gate, &wakers)?;
@@ -334,6 +313,7 @@ where
         Ok(Unassigned {
             seats: seats.into_iter(),
             workers: workers.into_iter(),
+            witness,
         })
     }
 
@@ -356,11 +336,9 @@ where
         ensures seats { IfOk result (λ part.
             part.seats.all.items ++ into_iter_items self.new.seats ≡
             into_iter_items self.old.seats) }
-        ensures workers { IfOk result (λ part.
-            part.workers.items ++ into_iter_items self.new.workers ≡
-            into_iter_items self.old.workers) }
         ensures sizes { IfOk result (λ part. part.sizes ≡ sizes) }
         ensures clock { IfOk result (λ part. part.clock ≡ clock) }
+        ensures witness { self.new.witness ≡ self.old.witness }
     {
         let seats = take_some(alloc, &mut self.seats, poller.places())?;
         let workers = take_some(alloc, &mut self.workers, poller.workers())?;
@@ -369,10 +347,17 @@ where
 
     /// Whether there are none.
     fn is_empty(&self) -> bool
-        ensures seats { IsTrue result → length (into_iter_items self.now.seats) ≡ 0 }
-        ensures workers { IsTrue result → length (into_iter_items self.now.workers) ≡ 0 }
+        ensures { IsTrue result → length (into_iter_items self.now.seats) ≡ 0 }
     {
         self.seats.len() == 0 && self.workers.len() == 0
+    }
+
+    /// The history's witness.
+    fn into_witness(self) -> Member
+        ensures { result ≡ self.witness }
+    {
+        let Unassigned { witness, .. } = self;
+        witness
     }
 }
 
@@ -393,27 +378,4 @@ fn take_some<T: Drop>(
         some.push(one)?;
     }
     Ok(some)
-}
-
-/// Hands the seats and the workers of all parts over, in their order.
-fn take_apart<D: ConnectionSource + Drop, G: Gate + Drop, K: Clock + Drop>(
-    parts: Vec<Reactor<D, G, K>>,
-    seats: &mut Vec<ConnectionSlot<D>>,
-    workers: &mut Vec<Working<G, Evidence, Recorder>>,
-) -> Result<(), AllocError>
-where
-    D::Transport: Transport<Warrant = Evidence>,
-    requires no_seats { seats.old.items ≡ [] }
-    requires no_workers { workers.old.items ≡ [] }
-    ensures seats { OnOk result
-        (seats.new.items ≡ flat_map (λ part. part.seats.all.items) parts.items) }
-    ensures workers { OnOk result
-        (workers.new.items ≡ flat_map (λ part. part.workers.items) parts.items) }
-{
-    for part in parts {
-        let (mut own, mut working) = part.apart();
-        seats.append(&mut own)?;
-        workers.append(&mut working)?;
-    }
-    Ok(())
 }

@@ -1,62 +1,118 @@
-//! What is known of all channels once their threads are joined.
-ghost use Rattle.std.specs.Prelude.{◌≡◌, [], IfOk, map};
-ghost use Rattle.std.specs.List.{AllByRecursion};
-ghost use Rattle.mc_threads.specs.Session.{seat_ends};
-ghost use Rattle.mc_serve.specs.Asking.{AreTied, HasChannels, passed_by};
+//! What the threads return once they are joined.
+ghost use Rattle.std.specs.Prelude.{◌≡◌, [], IfOk, OnOk, map};
+ghost use Rattle.std.specs.List.{AllByRecursion, flat_map};
+ghost use Rattle.mc_record.specs.Clerk.{IsSeatActor};
+ghost use Rattle.mc_threads.specs.Routes.{AreOnRoutes};
+ghost use Rattle.mc_threads.specs.Session.{seat_clerk, seat_ends};
+ghost use Rattle.mc_serve.specs.Recorded.{route_from};
 
 use crate::connection_slot::ConnectionSlot;
+use crate::reactor::Reactor;
 use mc_doors::ConnectionSource;
 use mc_history::Evidence;
-use mc_record::Recorder;
-use mc_ring::SeatEnds;
-use mc_seat::Transport;
-use mc_threads::Working;
+use mc_record::SeatClerk;
+use mc_seat::{Clock, Transport};
 use mc_wake::ThreadGroupError;
 use mc_worker::Gate;
+use std::alloc::{AllocError, Global};
 
-/// Looks at the channels between all seats and all workers from both ends, and hands back the
-/// sources. The room for them is for as many as there are seats.
-pub(crate) fn settle<D: ConnectionSource + Drop, G: Gate + Drop>(
-    seats: Vec<ConnectionSlot<D>>,
-    workers: &mut Vec<Working<G, Evidence, Recorder>>,
-    room: Vec<D>,
-) -> Result<Vec<D>, ThreadGroupError>
-where
-    D::Transport: Transport<Warrant = Evidence>,
-    requires none { room.items ≡ [] }
-    requires channels { AllByRecursion (λ slot.
-        HasChannels (seat_ends slot.session) (map (λ one. one.worker) workers.old.items))
-        seats.items }
-    ensures tied { IfOk result (λ _.
-        AllByRecursion (λ slot.
-        AreTied (seat_ends slot.session) (map (λ one. one.worker) workers.old.items))
-        seats.items) }
-    ensures sources { IfOk result
-        (λ sources. sources.items ≡ map (λ slot. slot.source) seats.items) }
-{
-    let mut sources = room;
-    for slot in seats {
-        let (mut ends, source) = slot.rise();
-        tie(&mut ends, workers);
-        let Ok(()) = sources.push(source) else {
-            return Err(ThreadGroupError::Memory);
-        };
-    }
-    Ok(sources)
+/// The room for what the threads return. It is made before they start: nothing is lost once the
+/// lines were served.
+#[derive(Drop)]
+pub(crate) struct ReturnRoom<D: ConnectionSource> {
+    slots: Vec<ConnectionSlot<D>>,
+    sources: Vec<D>,
+    clerks: Vec<SeatClerk>,
+    ghost no_slots: { slots.items ≡ [] },
+    ghost no_sources: { sources.items ≡ [] },
+    ghost no_clerks: { clerks.items ≡ [] },
 }
 
-/// Looks at the channels between a seat and all workers from both ends.
-fn tie<G: Gate + Drop>(
-    ends: &mut SeatEnds<Evidence>,
-    workers: &mut Vec<Working<G, Evidence, Recorder>>,
-)
-    requires { HasChannels ends.old (map (λ one. one.worker) workers.old.items) }
-    ensures tied { AreTied ends.old (map (λ one. one.worker) workers.old.items) }
-    ensures same { map passed_by (map (λ one. one.worker) workers.new.items) ≡
-        map passed_by (map (λ one. one.worker) workers.old.items) }
+impl<D: ConnectionSource + Drop> ReturnRoom<D>
+where
+    D::Transport: Transport<Warrant = Evidence>,
 {
-    for shard in 0..workers.len() {
-        let worker = &mut workers[shard];
-        worker.beside(ends);
+    /// The room for as many slots.
+    pub(crate) fn new(alloc: Global, slots: usize) -> Result<ReturnRoom<D>, AllocError> {
+        Ok(ReturnRoom {
+            slots: Vec::with_capacity(alloc, slots)?,
+            sources: Vec::with_capacity(alloc, slots)?,
+            clerks: Vec::with_capacity(alloc, slots)?,
+        })
     }
+
+    /// The sources and the clerks of the slots of all parts, in their order. Each clerk knows the
+    /// routes of its slot's channels.
+    pub(crate) fn take_back<G: Gate + Drop, K: Clock + Drop>(
+        self,
+        parts: Vec<Reactor<D, G, K>>,
+    ) -> Result<(Vec<D>, Vec<SeatClerk>), ThreadGroupError>
+        ensures sources { IfOk result (λ back. back.0.items ≡
+            map (λ slot. slot.source) (flat_map (λ part. part.seats.all.items) parts.items)) }
+        ensures clerks { IfOk result (λ back. back.1.items ≡
+            map (λ slot. seat_clerk slot.session)
+            (flat_map (λ part. part.seats.all.items) parts.items)) }
+        ensures actors { IfOk result (λ _.
+            AllByRecursion (λ slot. IsSeatActor (seat_clerk slot.session))
+            (flat_map (λ part. part.seats.all.items) parts.items)) }
+        ensures routes { IfOk result (λ _.
+            AllByRecursion
+            (λ slot. AreOnRoutes (route_from (seat_clerk slot.session)) (seat_ends slot.session))
+            (flat_map (λ part. part.seats.all.items) parts.items)) }
+    {
+        let ReturnRoom {
+            mut slots,
+            mut sources,
+            mut clerks,
+        } = self;
+        take_apart(parts, &mut slots)?;
+        finish_all(slots, &mut sources, &mut clerks)?;
+        Ok((sources, clerks))
+    }
+}
+
+/// Appends the slots of all parts, in their order.
+fn take_apart<D: ConnectionSource + Drop, G: Gate + Drop, K: Clock + Drop>(
+    parts: Vec<Reactor<D, G, K>>,
+    slots: &mut Vec<ConnectionSlot<D>>,
+) -> Result<(), AllocError>
+where
+    D::Transport: Transport<Warrant = Evidence>,
+    requires { slots.old.items ≡ [] }
+    ensures { OnOk result
+        (slots.new.items ≡ flat_map (λ part. part.seats.all.items) parts.items) }
+{
+    for part in parts {
+        let mut own = part.into_seats();
+        slots.append(&mut own)?;
+    }
+    Ok(())
+}
+
+/// Appends the sources and the clerks of the slots.
+fn finish_all<D: ConnectionSource + Drop>(
+    slots: Vec<ConnectionSlot<D>>,
+    sources: &mut Vec<D>,
+    clerks: &mut Vec<SeatClerk>,
+) -> Result<(), AllocError>
+where
+    D::Transport: Transport<Warrant = Evidence>,
+    requires no_sources { sources.old.items ≡ [] }
+    requires no_clerks { clerks.old.items ≡ [] }
+    ensures sources { OnOk result (sources.new.items ≡ map (λ slot. slot.source) slots.items) }
+    ensures clerks { OnOk result
+        (clerks.new.items ≡ map (λ slot. seat_clerk slot.session) slots.items) }
+    ensures actors { OnOk result
+        (AllByRecursion (λ slot. IsSeatActor (seat_clerk slot.session)) slots.items) }
+    ensures routes { OnOk result
+        (AllByRecursion
+        (λ slot. AreOnRoutes (route_from (seat_clerk slot.session)) (seat_ends slot.session))
+        slots.items) }
+{
+    for slot in slots {
+        let (source, clerk) = slot.finish();
+        sources.push(source)?;
+        clerks.push(clerk)?;
+    }
+    Ok(())
 }

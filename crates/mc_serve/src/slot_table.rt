@@ -15,7 +15,7 @@ use mc_wake::{Poller, Readiness, SetBits};
 /// Seats a word, each with a bit.
 const WORD: usize = 64;
 
-/// The seats that one thread serves. It steps those that were roused, and those of which the last
+/// The seats that one thread serves. It steps those that were woken, and those of which the last
 /// step did something.
 #[derive(Drop)]
 pub struct SlotTable<D: ConnectionSource> {
@@ -28,7 +28,7 @@ impl<D: ConnectionSource + Drop> SlotTable<D>
 where
     D::Transport: Transport<Warrant = Evidence>,
 {
-    /// These seats. Their poller has each of them roused at first.
+    /// These seats. Their poller has each of them woken at first.
     pub(crate) fn new(all: Vec<ConnectionSlot<D>>) -> SlotTable<D>
         ensures { result.all ≡ all }
     {
@@ -36,7 +36,7 @@ where
         SlotTable { all, left }
     }
 
-    /// Steps the seats that were roused, or did something when they were stepped last. Whether
+    /// Steps the seats that were woken, or did something when they were stepped last. Whether
     /// there may have been one.
     pub(crate) fn step<K: Clock>(
         &mut self,
@@ -66,7 +66,7 @@ where
         first < end
     }
 
-    /// The same, of the 64 seats of a word.
+    /// Steps those of the 64 seats of a word that were woken, or did something last.
     fn step_word<K: Clock>(
         &mut self,
         word: usize,
@@ -160,7 +160,7 @@ where
     }
 }
 
-/// What a poll has told of a socket, for its line.
+/// What a poll has reported of a socket, for its line.
 fn ready_by(readiness: Option<Readiness>) -> Option<Ready> {
     match readiness? {
         Readiness::Ready => Some(Ready::Open),

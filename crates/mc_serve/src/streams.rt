@@ -13,6 +13,7 @@ use crate::serving::serve;
 use http_server::Log;
 use mc_doors::{Arrivals, StreamSource};
 use mc_history::Evidence;
+use mc_record::Opening;
 use mc_seat::Clock;
 use mc_sizes::Sizes;
 use mc_wake::Poller;
@@ -23,9 +24,10 @@ use std::sync::Wait;
 use std::thread::Threads;
 use std::time;
 
-/// Serves the streams that come in, each as a line of the seat where it came, until no more come at
-/// any. There is a seat for each of the arrivals, whatever the sizes say, and a thread for each
-/// poller, as `serve` says. `Bind`: a seat could take in no more, though more may come.
+/// Serves the streams that arrive, each as a line of the slot where it arrived, until no more come
+/// at any. All of them are of one history, which it opens. There is a slot for each of the arrivals,
+/// whatever the sizes say, and a thread for each poller, as `serve` says. `Bind`: a slot could
+/// accept no more, though more may come.
 pub fn serve_streams<
     R: Threads + Wait + RandomSource + time::Clock + Copy + Send + Drop + 'static,
     A: Arrivals + Send + Drop + 'static,
@@ -43,8 +45,8 @@ pub fn serve_streams<
 where
     A::Stream: Send + 'static,
     requires { MayServe (record sizes { seats = length arrivals.items }) }
-    // One log explains what was read of all connections, what was written to them and what the
-    // shards did.
+    // One log, of one history, explains what was read of all connections, what was written to them
+    // and what the shards did.
     ensures explained { IfOk result
         (ServesConnections (record sizes { seats = length arrivals.items }) (K.may_answer clock)) }
     // Where it is known which streams come, each of them was served as one connection, in their
@@ -52,15 +54,19 @@ where
     ensures streams { IfOk result (λ served.
         Zips AreServed (map (λ one. A.coming one) arrivals.items) (seats_of served)) }
 {
-    let sources = sources_for(rt, alloc, arrivals, sizes)?;
-    let back = serve(rt, alloc, sources, pollers, sizes, gate, clock)?;
+    let seats = arrivals.len();
+    let mut opening = Opening::new(alloc, Sizes { seats, ..sizes })?;
+    let sources = sources_for(rt, alloc, &mut opening, arrivals, sizes)?;
+    let back = serve(rt, alloc, opening, sources, pollers, sizes, gate, clock)?;
     gather(back)
 }
 
-/// A source for each of the arrivals. By memcached's rules they are wary.
+/// A source for each of the arrivals, for lines of the history that was opened. By memcached's
+/// rules other protocols are detected.
 fn sources_for<R: time::Clock + Copy + Drop, A: Arrivals + Drop>(
     rt: &R,
     alloc: Global,
+    opening: &mut Opening,
     arrivals: Vec<A>,
     sizes: Sizes,
 ) -> Result<Vec<StreamSource<R, A, Evidence>>, AllocError>
@@ -73,11 +79,15 @@ fn sources_for<R: time::Clock + Copy + Drop, A: Arrivals + Drop>(
     ensures sniff_protocol { IfOk result (λ sources.
         AllByRecursion (λ source. source.sniffs_protocol ≡ is_drop_in (rules_of sizes))
         sources.items) }
+    ensures history { IfOk result (λ sources.
+        AllByRecursion (λ source. source.history.name ≡ opening.old.witness.name) sources.items) }
+    ensures same { opening.new ≡ opening.old }
 {
     let sniffs_protocol = sizes.rules().is_drop_in();
     let mut sources = Vec::with_capacity(alloc, arrivals.len())?;
     for one in arrivals {
-        sources.push(StreamSource::new(*rt, one, sniffs_protocol))?;
+        let history = opening.show();
+        sources.push(StreamSource::new(*rt, one, history, sniffs_protocol))?;
     }
     Ok(sources)
 }

@@ -34,7 +34,7 @@ const AT_ONCE: SpinPolicy = SpinPolicy {
 /// accepted, or by memcached's rules are refused. What is counted of them is reported to the watch;
 /// a connection that is idle for longer than it allows breaks. Where a signal asks for it by the
 /// watch, none is accepted any more, and each connection breaks once nothing comes and its replies
-/// are written, or time is up. `Bind`: an accept failed for good.
+/// are written, or time is up. `Bind`: accepts fail permanently.
 pub fn serve_tcp<
     R: Threads + Wait + RandomSource + time::Clock + Net + Copy + Send + Drop + 'static,
     K: Clock + Copy + Send + Drop + 'static,

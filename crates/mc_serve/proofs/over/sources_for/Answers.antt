@@ -1,9 +1,9 @@
 -- One source more, with the next line.
 use Rattle.std.proofs.Common.{◌≡◌, ◌∙◌, [], ◌++◌, ap, append-nil, map, sym}
 use Rattle.std.specs.Vec.Iter.{into_iter_items}
-use Rattle.mc_seat.specs.Place.{no_place}
+use Rattle.mc_seat.specs.Place.{unbegun}
 use Rattle.mc_doors.specs.One.{told_of, waits}
-use Rattle.mc_threads.proofs.Orders.{all_first, all_rest}
+use Rattle.mc_threads.proofs.Orders.{all_first, all_more, all_rest}
 use Rattle.mc_serve.proofs.Connections.{note_more}
 use Rattle.mc_serve.proofs.Zipped.{empty_when}
 use Rattle.mc_serve.proofs.over.sources_for.Goals as goal
@@ -14,11 +14,12 @@ loop-line-init g c =
     record {
       told = rw c.in_ok-sources.ensures.items (ap (map (λ line. waits (g.L.Transport.sight line))) all);
       new = rw all c.requires;
+      history = rw c.in_ok-sources.ensures.items tt;
     }
 
 pub new-requires : goal.new-requires
 new-requires g c =
-    all_first (λ line. g.L.Transport.place line ≡ no_place) _ c.in-Some.line _ c.in-Some.ensures.steps.0
+    all_first (λ line. g.L.Transport.place line ≡ unbegun c.args.history.now.name) _ c.in-Some.line _ c.in-Some.ensures.steps.0
     c.loop-line.invariant.new
 
 pub loop-line-preserved : goal.loop-line-preserved
@@ -29,12 +30,15 @@ loop-line-preserved g c =
       told =
           note_more (λ source. told_of (λ line. g.L.Transport.sight line) source)
           (λ line. waits (g.L.Transport.sight line)) c.loop-line.sources.items c.push.new.self.items c.new.result
-          c.in-Some.line _ _ _ c.in_ok-push.ensures.items c.new.ensures step was.told;
-      new = all_rest (λ line. g.L.Transport.place line ≡ no_place) _ c.in-Some.line _ step was.new;
+          c.in-Some.line _ _ _ c.in_ok-push.ensures.items c.new.ensures.told step was.told;
+      new = all_rest (λ line. g.L.Transport.place line ≡ unbegun c.args.history.now.name) _ c.in-Some.line _ step was.new;
+      history =
+          all_more (λ source. source.history.value.name ≡ c.args.history.now.name) c.loop-line.sources.items
+          c.push.new.self.items c.new.result c.in_ok-push.ensures.items was.history c.new.ensures.history;
     }
 
-pub returns : goal.returns
-returns g c =
+pub returns-clause-told : goal.returns-clause-told
+returns-clause-told g c =
     let was = c.loop-line.invariant in
     let none : into_iter_items c.loop-line.line-iterator ≡ [] =
     empty_when _ (sym c.loop-line.line-iterator.rest.ok.0 ∙ c.in-None.ensures.steps.0) in

@@ -2,7 +2,7 @@
 use Rattle.std.proofs.Common.{◌≡◌, ◌++◌, map}
 use Rattle.std.specs.List.{AllByRecursion}
 use Rattle.std.specs.Vec.Iter.{into_iter_items}
-use Rattle.mc_seat.specs.Place.{no_place}
+use Rattle.mc_seat.specs.Place.{unbegun}
 use Rattle.mc_doors.specs.One.{told_of, waits}
 use Rattle.mc_serve.proofs.over.sources_for.Given as goal
 
@@ -12,5 +12,6 @@ invariant-loop-line g l = record {
       map (λ source. told_of (λ line. g.L.Transport.sight line) source) l.sources.items
       ++ map (λ line. waits (g.L.Transport.sight line)) (into_iter_items l.line-iterator)
       ≡ map (λ line. waits (g.L.Transport.sight line)) l.fn.lines.items;
-  new : AllByRecursion (λ line. g.L.Transport.place line ≡ no_place) (into_iter_items l.line-iterator);
+  new : AllByRecursion (λ line. g.L.Transport.place line ≡ unbegun l.history.name) (into_iter_items l.line-iterator);
+  history : AllByRecursion (λ source. source.history.value.name ≡ l.history.name) l.sources.items;
 }

@@ -1,6 +1,7 @@
 -- There are as many seats as sources.
 use Rattle.std.proofs.Common.{◌≡◌, ℕ, length, map, rules, subst, sym}
 use Rattle.mc_sizes.specs.Sizes.{MayServe}
+use Rattle.mc_record.specs.Opening.{IsOpening}
 use Rattle.mc_serve.specs.Served.{ServesSources}
 use Rattle.mc_serve.proofs.serving.serve.Goals as goal
 
@@ -9,6 +10,14 @@ serve_all-requires-clause-sizes g c κs within =
     let count : c.len-seats.result ≡ length c.args.sources.items = search rules in
     let P : ℕ → Type 0 = λ n. MayServe (record c.args.sizes { seats = n }) in
     subst P (sym count) c.requires.sizes
+
+pub serve_all-requires-clause-opening : goal.serve_all-requires-clause-opening
+serve_all-requires-clause-opening g c κs within =
+    let count : c.len-seats.result ≡ length c.args.sources.items = search rules in
+    let opening = c.args.opening in
+    let P : ℕ → Type 0 = λ n. IsOpening (record c.args.sizes { seats = n }) opening.recorders.items
+    opening.clerks.items opening.witness in
+    subst P (sym count) c.requires.opening
 
 pub returns-in-Ok-clause-explained : goal.returns-in-Ok-clause-explained
 returns-in-Ok-clause-explained g c =

@@ -1,5 +1,5 @@
 -- One part more takes the first of what is left.
-use Rattle.std.proofs.Common.{◌≡◌, refl}
+use Rattle.std.proofs.Common.{◌≡◌, ◌∙◌, refl}
 use Rattle.std.specs.List.{flat_map}
 use Rattle.std.specs.Vec.Iter.{into_iter_items}
 use Rattle.mc_sizes.specs.Sizes.{rules_of}
@@ -16,8 +16,9 @@ pub loop-poller-init : goal.loop-poller-init
 loop-poller-init g c =
     let made = c.in_ok-left.ensures in
     rw c.requires.none (record {
-      channels = made.channels;
-      fresh = made.fresh;
+      witness = made.witness;
+      clerks = made.clerks;
+      fit = made.fit;
       sources = made.sources;
       same = tt;
       begin = made.begin;
@@ -31,11 +32,10 @@ loop-poller-preserved g c =
     let grown = c.in_ok-start.ensures.ok in
     let seats = flat_more c.loop-poller.thread_group _ (λ part. part.seats.all.items) part part.seats.all.items _ _ _
     grown refl made.seats refl in
-    let workers = flat_more c.loop-poller.thread_group _ (λ part. part.workers.items) part part.workers.items _ _ _
-    grown refl made.workers refl in
     record {
-      channels = rw (seats, workers) was.channels;
-      fresh = rw workers was.fresh;
+      witness = made.witness ∙ was.witness;
+      clerks = rw seats was.clerks;
+      fit = rw seats was.fit;
       sources = rw seats was.sources;
       same =
           all_more (λ part. (part.clock ≡ c.args.clock) × (part.sizes ≡ c.args.sizes)) c.loop-poller.thread_group _ part
@@ -50,32 +50,38 @@ loop-poller-preserved g c =
 pub returns-then-is_empty : goal.returns-then-is_empty
 returns-then-is_empty g c =
     let was = c.loop-poller.invariant in
-    let none = c.if-is_empty.ensures in
     let seats = order_all (flat_map (λ part. part.seats.all.items) c.loop-poller.thread_group)
-    (into_iter_items c.loop-poller.left.seats) _ (none.seats refl) refl in
-    let workers = order_all (flat_map (λ part. part.workers.items) c.loop-poller.thread_group)
-    (into_iter_items c.loop-poller.left.workers) _ (none.workers refl) refl in
+    (into_iter_items c.loop-poller.left.seats) _ (c.if-is_empty.ensures refl) refl in
     record {
-      channels = rw (seats, workers) was.channels;
-      fresh = rw workers was.fresh;
+      witness = c.into_witness.ensures ∙ was.witness;
+      clerks = rw seats was.clerks;
+      fit = rw seats was.fit;
       sources = rw seats was.sources;
       same = was.same;
     }
 
 pub new-requires : goal.new-requires
-new-requires g c = record { sizes = c.requires.sizes; seats = c.requires.seats; free = c.requires.free }
+new-requires g c =
+    let given = c.requires in
+    record {
+      sizes = given.sizes;
+      seats = given.seats;
+      opening = given.opening;
+      history = given.history;
+      free = given.free;
+    }
 
 pub next_part-requires : goal.next_part-requires
 next_part-requires g c = record { begin = c.loop-poller.invariant.begin }
 
 pub returns : goal.returns
-returns g c = record { channels = tt; fresh = tt; sources = tt; same = tt }
+returns g c = record { witness = tt; clerks = tt; fit = tt; sources = tt; same = tt }
 
 pub start-requires-send-T : goal.start-requires-send-T
 start-requires-send-T g c κs within =
     let bounds = c.type_bounds in
     param_send 0 _
     (arg_send _ no _
-    (part_send (param 1 g.row.D) (param 2 g.row.G) (copied 3 g.row.K) (param 4 g.row.D-Transport) _
-    (search (bounds.send-D, sendable)) (search (bounds.send-G, sendable)) (search (bounds.sync-G, sendable))
-    (search (bounds.send-K, sendable)) (search (bounds.send-D-Transport, sendable))))
+    (part_send (param 1 g.row.D) (param 4 g.row.D-Transport) _ _ _ _ _ (search (bounds.send-D, sendable))
+    (search (bounds.send-D-Transport, sendable)) (param 2 g.row.G) (copied 3 g.row.K)
+    (search (bounds.send-G, sendable)) (search (bounds.sync-G, sendable)) (search (bounds.send-K, sendable))))

@@ -1,6 +1,7 @@
--- What is told of the sources is what is told of the connections.
-use Rattle.std.proofs.Common.{ℕ, subst, sym}
+-- What is known of the sources is what is known of the connections.
+use Rattle.std.proofs.Common.{◌≡◌, ℕ, length, rules, subst, sym}
 use Rattle.mc_sizes.specs.Sizes.{MayServe}
+use Rattle.mc_record.specs.Opening.{IsOpening}
 use Rattle.mc_serve.proofs.Connections.{all_free, as_many, joined}
 use Rattle.mc_serve.proofs.StreamSent.{line_send, stream_source_send}
 use Rattle.mc_serve.proofs.Zipped.{if_ok}
@@ -21,6 +22,20 @@ serve-requires-clause-sizes g c κs within =
     subst P (sym (as_many (λ one. g.A.Arrivals.coming one) (λ source. g.A.Arrivals.coming source.arrivals)
     (λ source. source.out) (λ source. source.gone.items) (λ source. source.is_over) c.in_ok-sources.sources.items
     c.args.arrivals.items c.in_ok-sources.ensures.told)) c.requires
+
+pub serve-requires-clause-opening : goal.serve-requires-clause-opening
+serve-requires-clause-opening g c κs within =
+    let count : c.len-seats.result ≡ length c.args.arrivals.items = search rules in
+    let opening = c.in_ok-opening.opening in
+    let P : ℕ → Type 0 = λ n. IsOpening (record c.args.sizes { seats = n }) opening.recorders.items
+    opening.clerks.items opening.witness in
+    rw c.in_ok-sources.ensures.same
+    (subst P (sym (as_many (λ one. g.A.Arrivals.coming one) (λ source. g.A.Arrivals.coming source.arrivals)
+    (λ source. source.out) (λ source. source.gone.items) (λ source. source.is_over) c.in_ok-sources.sources.items
+    c.args.arrivals.items c.in_ok-sources.ensures.told)) (subst P count c.in_ok-opening.ensures))
+
+pub serve-requires-clause-history : goal.serve-requires-clause-history
+serve-requires-clause-history g c κs within = rw c.in_ok-sources.ensures.same c.in_ok-sources.ensures.history
 
 pub returns-clause-explained : goal.returns-clause-explained
 returns-clause-explained g c =

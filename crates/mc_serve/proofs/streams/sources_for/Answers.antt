@@ -1,4 +1,4 @@
--- One source more, which is new, and wary by memcached's rules.
+-- One source more, which is new, of the same history, and detects other protocols by memcached's rules.
 use Rattle.std.proofs.Common.{◌≡◌, List, [], ◌∷◌, ◌++◌, ◌∙◌, ap, append-nil, map, subst, sym}
 use Rattle.std.specs.List.{AllByRecursion}
 use Rattle.std.specs.Vec.Iter.{into_iter_items}
@@ -28,6 +28,12 @@ loop-one-preserved g c =
           (g.A.Arrivals.coming one))
           c.loop-one.sources.items c.push.new.self.items c.new.result c.in-Some.one _ _ _ c.in_ok-push.ensures.items
           c.new.ensures.told c.in-Some.ensures.steps.0 was.told;
+      opening = c.show-history.ensures.same ∙ was.opening;
+      history =
+          one_more (λ source. source.history.name ≡ c.args.opening.now.witness.name) c.loop-one.sources.items
+          c.push.new.self.items c.new.result c.in_ok-push.ensures.items was.history
+          (c.new.ensures.history
+          ∙ (c.show-history.ensures.name ∙ ap (λ opening. opening.witness.name) was.opening));
       sniffs_protocol = was.sniffs_protocol;
       sniff_protocol =
           one_more (λ source. source.sniffs_protocol ≡ is_drop_in (rules_of c.args.sizes)) c.loop-one.sources.items

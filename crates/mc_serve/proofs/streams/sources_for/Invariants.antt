@@ -1,4 +1,4 @@
--- The sources made so far, then the arrivals that are left.
+-- The sources made so far, of one history, then the arrivals that are left.
 use Rattle.std.proofs.Common.{◌≡◌, ◌++◌, map}
 use Rattle.std.specs.List.{AllByRecursion}
 use Rattle.std.specs.Vec.Iter.{into_iter_items}
@@ -16,6 +16,8 @@ invariant-loop-one g l = record {
       (into_iter_items l.one-iterator)
       ≡ map (λ one. new_source g.A.Stream.Stream.remaining g.A.Stream.Stream.contents (g.A.Arrivals.coming one))
       l.fn.arrivals.items;
+  opening : l.opening ≡ l.fn.opening;
+  history : AllByRecursion (λ source. source.history.name ≡ l.fn.opening.witness.name) l.sources.items;
   sniffs_protocol : l.sniffs_protocol ≡ is_drop_in (rules_of l.fn.sizes);
   sniff_protocol : AllByRecursion (λ source. source.sniffs_protocol ≡ is_drop_in (rules_of l.fn.sizes)) l.sources.items;
 }

@@ -20,3 +20,10 @@ pub returns-clause-closes : goal.returns-clause-closes
 returns-clause-closes g c served closed =
     ends_still c.args.count served (seat_ends c.args.self.now.session) (seat_ends c.end_channel.new.self) closed
     c.if-end_channel.ensures.full
+
+pub returns-then-end_channel-clause-recorded : goal.returns-then-end_channel-clause-recorded
+returns-then-end_channel-clause-recorded g c served has =
+    c.if-end_channel.ensures.recorded served (λ keeps. has) tt
+
+pub returns-clause-recorded : goal.returns-clause-recorded
+returns-clause-recorded g c served has = c.if-end_channel.ensures.recorded served (λ keeps. has) tt

@@ -51,9 +51,9 @@ returns-in-Out-replace g c shards rules sat stands =
     rw c.replace.ensures.after
     (serves_another shards rules may_answer sat _ _ _ _ _ _ _ _ _ c.args.self.now.session c.step.new.self
     c.renew.new.self
-    tt (λ begin before. c.in-Ended.ensures.says shards rules begin before) (rw held at c.give_back.ensures)
+    tt (λ begin before. c.in-Ended.ensures.says shards rules begin before) (rw held at c.give_back.ensures.told)
     (record { when = c.renew.ensures.when; vacant = c.renew.ensures.vacant; ends = c.renew.ensures.ends })
-    c.step.ensures.line c.renew.ensures.ruled
+    c.step.ensures.line c.renew.ensures.history
     (rw c.if-not-begun.false at out))
 
 pub returns-in-Did : goal.returns-in-Did

@@ -1,9 +1,9 @@
--- Each turn steps seats, and then gives each worker a turn.
+-- Each turn steps the seats, before the workers and after them.
 use Rattle.std.proofs.Common.{map, refl}
 use Rattle.mc_sizes.specs.Sizes.{rules_of}
-use Rattle.mc_threads.specs.Session.{seat_ends}
+use Rattle.mc_threads.specs.Session.{seat_clerk, seat_ends}
 use Rattle.mc_serve.specs.Seats.{seat_at}
-use Rattle.mc_serve.proofs.Parts.{seats_begin, seats_over, workers_begin, workers_end}
+use Rattle.mc_serve.proofs.Parts.{seats_begin, seats_over}
 use Rattle.mc_serve.proofs.reactor.Reactor.run.Goals as goal
 
 pub loop-init : goal.loop-init
@@ -17,7 +17,6 @@ loop-init g c =
           (λ line. g.D.Transport.Transport.sight line)
           (λ one. g.D.ConnectionSource.told one.source) (λ one. one.session) (λ one. one.slot_state) sizes.shards
           (rules_of sizes) (g.K.Clock.may_answer c.args.self.now.clock) c.requires;
-      workers = workers_begin c.args.self.now.workers.items (λ one. one.worker);
     }
 
 pub step-stepped-requires : goal.step-stepped-requires
@@ -25,7 +24,7 @@ step-stepped-requires g c =
     let sizes = c.args.self.now.sizes in (
       sizes.shards,
       rules_of sizes,
-      map (λ one. seat_at (g.D.ConnectionSource.told one.source) (seat_ends one.session))
+      map (λ one. seat_at (g.D.ConnectionSource.told one.source) (seat_ends one.session) (seat_clerk one.session))
           c.args.self.now.seats.all.items,
       c.loop.invariant.seats,
     )
@@ -33,7 +32,7 @@ step-stepped-requires g c =
 pub step-answered-requires : goal.step-answered-requires
 step-answered-requires g c =
     let sizes = c.args.self.now.sizes in
-    let sats = map (λ one. seat_at (g.D.ConnectionSource.told one.source) (seat_ends one.session))
+    let sats = map (λ one. seat_at (g.D.ConnectionSource.told one.source) (seat_ends one.session) (seat_clerk one.session))
     c.args.self.now.seats.all.items in (
       sizes.shards,
       rules_of sizes,
@@ -44,7 +43,7 @@ step-answered-requires g c =
 pub loop-preserved-then-answered : goal.loop-preserved-then-answered
 loop-preserved-then-answered g c =
     let sizes = c.args.self.now.sizes in
-    let sats = map (λ one. seat_at (g.D.ConnectionSource.told one.source) (seat_ends one.session))
+    let sats = map (λ one. seat_at (g.D.ConnectionSource.told one.source) (seat_ends one.session) (seat_clerk one.session))
     c.args.self.now.seats.all.items in
     record {
       next = (tt, tt);
@@ -52,15 +51,12 @@ loop-preserved-then-answered g c =
       seats =
           c.step-answered.ensures sizes.shards (rules_of sizes) sats
           (c.step-stepped.ensures sizes.shards (rules_of sizes) sats c.loop.invariant.seats);
-      workers =
-          c.serve_callers-served.ensures (map (λ one. one.worker) c.args.self.now.workers.items)
-          c.loop.invariant.workers;
     }
 
 pub loop-preserved : goal.loop-preserved
 loop-preserved g c =
     let sizes = c.args.self.now.sizes in
-    let sats = map (λ one. seat_at (g.D.ConnectionSource.told one.source) (seat_ends one.session))
+    let sats = map (λ one. seat_at (g.D.ConnectionSource.told one.source) (seat_ends one.session) (seat_clerk one.session))
     c.args.self.now.seats.all.items in
     record {
       next = (tt, tt);
@@ -68,27 +64,18 @@ loop-preserved g c =
       seats =
           c.step-answered.ensures sizes.shards (rules_of sizes) sats
           (c.step-stepped.ensures sizes.shards (rules_of sizes) sats c.loop.invariant.seats);
-      workers =
-          c.serve_callers-served.ensures (map (λ one. one.worker) c.args.self.now.workers.items)
-          c.loop.invariant.workers;
     }
 
-pub returns-then-is_done-clause-seats : goal.returns-then-is_done-clause-seats
-returns-then-is_done-clause-seats g c =
+pub returns-then-is_done : goal.returns-then-is_done
+returns-then-is_done g c =
     let sizes = c.args.self.now.sizes in
-    let sats = map (λ one. seat_at (g.D.ConnectionSource.told one.source) (seat_ends one.session))
+    let sats = map (λ one. seat_at (g.D.ConnectionSource.told one.source) (seat_ends one.session) (seat_clerk one.session))
     c.args.self.now.seats.all.items in
     rw (← c.loop.invariant.clock)
     (seats_over c.step-answered.new.self.all.items sats (λ line. g.D.Transport.Transport.place line)
     (λ line. g.D.Transport.Transport.sight line)
     (λ one. g.D.ConnectionSource.told one.source) (λ one. one.session) (λ one. one.slot_state) sizes.shards
     (rules_of sizes) (g.K.Clock.may_answer c.loop.self.clock)
-    (c.if-is_done.ensures.over refl)
+    (c.if-is_done.ensures refl)
     (c.step-answered.ensures sizes.shards (rules_of sizes) sats
     (c.step-stepped.ensures sizes.shards (rules_of sizes) sats c.loop.invariant.seats)))
-
-pub returns-then-is_done-clause-workers : goal.returns-then-is_done-clause-workers
-returns-then-is_done-clause-workers g c =
-    let begun = map (λ one. one.worker) c.args.self.now.workers.items in
-    workers_end c.serve_callers-served.new.workers.items (λ one. one.worker) begun (c.if-is_done.ensures.ended refl)
-    (c.serve_callers-served.ensures begun c.loop.invariant.workers)

@@ -1,9 +1,8 @@
--- The seats stand, and the workers go on, as they began.
+-- The seats are as they began, some steps further.
 use Rattle.std.proofs.Common.{◌≡◌, map}
 use Rattle.mc_sizes.specs.Sizes.{rules_of}
-use Rattle.mc_worker.specs.WorkerState.{Goes}
 use Rattle.mc_wake.specs.Zips.{Zips}
-use Rattle.mc_threads.specs.Session.{seat_ends}
+use Rattle.mc_threads.specs.Session.{seat_clerk, seat_ends}
 use Rattle.mc_serve.specs.Seats.{SeatStands, seat_at}
 use Rattle.mc_serve.proofs.reactor.Reactor.run.Given as goal
 
@@ -15,7 +14,6 @@ invariant-loop g l = record {
       (λ line. g.D.Transport.Transport.sight line) l.fn.self.sizes.shards
       (rules_of l.fn.self.sizes) (g.K.Clock.may_answer l.self.clock) sat (g.D.ConnectionSource.told one.source)
       one.session one.slot_state)
-      (map (λ one. seat_at (g.D.ConnectionSource.told one.source) (seat_ends one.session)) l.fn.self.seats.all.items)
-      l.self.seats.all.items;
-  workers : Zips Goes (map (λ one. one.worker) l.fn.self.workers.items) (map (λ one. one.worker) l.self.workers.items);
+      (map (λ one. seat_at (g.D.ConnectionSource.told one.source) (seat_ends one.session) (seat_clerk one.session))
+      l.fn.self.seats.all.items) l.self.seats.all.items;
 }

@@ -1,5 +1,5 @@
 -- The part takes the first of what is left.
-use Rattle.std.proofs.Common.{◌≡◌}
+use Rattle.std.proofs.Common.{◌≡◌, refl}
 use Rattle.std.specs.Vec.Iter.{into_iter_items}
 use Rattle.mc_sizes.specs.Sizes.{rules_of}
 use Rattle.mc_serve.specs.Seats.{HasSatDown}
@@ -21,9 +21,7 @@ returns g c =
       seats =
           if_ok c.new.result (λ part. part.seats.all ≡ c.in_ok-seats.seats) _
           (λ part same. rw same c.in_ok-seats.ensures) made.seats;
-      workers =
-          if_ok c.new.result (λ part. part.workers ≡ c.in_ok-workers.workers) _
-          (λ part same. rw same c.in_ok-workers.ensures) made.workers;
       sizes = made.sizes;
       clock = made.clock;
+      witness = refl;
     }
