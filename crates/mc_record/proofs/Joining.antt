@@ -1,5 +1,5 @@
 -- Closing a history.
-use Rattle.std.proofs.Common.{◌≡◌, ℕ, suc, ◌+◌, ◌<◌, ◌≤◌, List, [], ◌∷◌, ◌++◌, inl, inr, length, set, get_or, Some}
+use Rattle.std.proofs.Common.{◌≡◌, ℕ, ◌+◌, ◌<◌, ◌≤◌, List, [], ◌++◌, inl, inr, length, set, get_or, Some}
 use Rattle.std.proofs.Common.{refl, sym, ap, ◌∙◌, subst, arith, append-nil, length-append}
 use Rattle.std.specs.List.{AllByRecursion, slice_get}
 use Rattle.std.proofs.lemmas.Bool.{cases_lt}
@@ -9,6 +9,7 @@ use Rattle.std.proofs.lemmas.Option.{same_Some, slice_get-get_or, slice_get_with
 use Rattle.mc_ring.specs.Route.{Name}
 use Rattle.mc_model.specs.Grows.{Lengthens}
 use Rattle.mc_model.proofs.Growing.{further, set_other}
+use Rattle.mc_model.proofs.Lists.{all_from}
 use Rattle.mc_ring.proofs.Lists.{all_at}
 use Rattle.mc_history.specs.declared.event.Event.{Event}
 use Rattle.mc_history.specs.declared.knowledge.Role.{Role}
@@ -16,12 +17,6 @@ use Rattle.mc_history.specs.Roles.{is_own, own_part}
 use Rattle.mc_history.specs.Tokens.{Acting, Sees, Sight as Shows}
 use Rattle.mc_history.proofs.Seeing.{part_heard}
 use Rattle.mc_record.specs.Closing.{IsWholeIn}
-
--- What holds of the element at each place of a list holds of all.
-all_from : {X : Type 0} (P : X → Type 0) (xs : List X) → ((i : ℕ) (x : X) → slice_get xs i ≡ Some x → P x)
-    → AllByRecursion P xs
-all_from P [] each = tt
-all_from P (x ∷ xs) each = (each 0 x refl, all_from P xs (λ i y here. each (suc i) y here))
 
 -- The part of a role in a longer history begins with that in the shorter one.
 part_grows : (role : Role) (seen history : List Event) → Lengthens seen history
@@ -43,11 +38,6 @@ pub record HearsFirst (name : Name) (count : ℕ) (clerks now : List Acting) (wi
   pub name_is : witness.name ≡ name
   pub seen : (i : ℕ) (clerk : Acting) → i < count → slice_get clerks i ≡ Some clerk
       → Lengthens clerk.events witness.events
-
--- No clerk is the first of none.
-pub hears_none : (clerks : List Acting) (witness : Acting) → HearsFirst witness.name 0 clerks clerks witness
-hears_none clerks witness =
-    record { kept = refl; name_is = refl; seen = λ i clerk below here. absurd (omega (arith, below)) }
 
 -- One clerk more is heard.
 pub hears_one : (name : Name) (count : ℕ) (clerks now : List Acting) (witness witness' d clerk' : Acting)
@@ -132,6 +122,7 @@ heard_all name count clerks now witness all first =
     (λ i clerk here. first.seen i clerk (let below = slice_get_within clerks i clerk here in omega (arith, below, all))
     here)
 
+-- Where the history has all of the clerk at each place, it has all of every clerk.
 pub shown_all : (history : List Event) (count : ℕ) (clerks now : List Acting) → length clerks ≤ count
     → ShowsFirst history count clerks now → AllByRecursion (IsWholeIn history) clerks
 shown_all history count clerks now all first =

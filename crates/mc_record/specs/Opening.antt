@@ -13,8 +13,8 @@ pub record ActInOrder (role : ℕ → Role) (name : Name) (count : ℕ) (actors 
   pub each : (i : ℕ) (actor : Acting) → slice_get actors i ≡ Some actor → actor
       ≡ record { name = name; role = role i; events = [] }
 
--- Nothing has happened in the history of a server of these sizes. These are its shards' recorders, its seats' clerks, and
--- a witness.
+-- Nothing has happened in the history of a server of these sizes. These are its shards' recorders, its seats' clerks,
+-- and a witness.
 pub record IsOpening (sizes : Sizes) (recorders clerks : List Acting) (witness : Acting) : Type 0 where
   pub sizes_are : witness.name.sizes ≡ sizes
   pub recorders_are : ActInOrder of_shard witness.name sizes.shards recorders

@@ -29,8 +29,8 @@ pub record AddsWork (shards shard : ℕ) (taken later : List Taken) (work more :
   pub work_is : more ≡ work ++ added
 
 -- The record is of a connection at which this came in and went out, since the ends were as before: its commands are
--- recorded, but for the last ones; on each channel the work is what was sent before and what is due for them, and the replies received
--- are answers of the record; and each is the answer to the piece in its place.
+-- recorded, but for the last ones; on each channel the work is what was sent before and what is due for them, and the
+-- replies received are answers of the record; and each is the answer to the piece in its place.
 pub record IsKept (work : ℕ → List Piece) (taken : List Taken) (answers : ℕ → List Shown) (before : Ends Near)
     (told : Told) (received : ℕ → List Shown) : Type 0 where
   pub begins : Lengthens taken (map carried_out told.taken)

@@ -12,8 +12,8 @@ use Rattle.mc_model.specs.Alone.{HadMemory, alone}
 use Rattle.mc_seat.specs.Story.{Story}
 use Rattle.mc_seat.specs.Reads.{ReadsOwingNothing}
 
--- what is reported of a line that was served: what was seen of it before and after, how many commands it took, and whether
--- it failed
+-- what is reported of a line that was served: what was seen of it before and after, how many commands it took, and
+-- whether it failed
 pub record LineTold : Type 0 where
   pub begin : Sight
   pub now : Sight

@@ -13,11 +13,10 @@ use Rattle.mc_ring.specs.Ends.{AreSameEnds}
 use Rattle.mc_ring.specs.EndsLaws.{same_ends-trans}
 use Rattle.mc_ring.specs.Route.{Name, Route}
 use Rattle.mc_ring.proofs.Lists.{all_at, get_below, get_map}
-use Rattle.mc_history.specs.declared.event.Event.{Event}
 use Rattle.mc_history.specs.declared.knowledge.Role.TheVariants.{Seat}
 use Rattle.mc_history.specs.Lawful.{IsHistory}
 use Rattle.mc_history.specs.Roles.{seat_of}
-use Rattle.mc_history.specs.Tokens.{Acting}
+use Rattle.mc_history.specs.Tokens.{Acting, Sight as Shown}
 use Rattle.mc_record.specs.Clerk.{IsSeatActor}
 use Rattle.mc_record.specs.Closing.{IsWholeIn}
 use Rattle.mc_record.specs.Opening.{ActInOrder}
@@ -164,14 +163,16 @@ module _ (sizes : Sizes) (name : Name) (may_answer : ℕ → Type 0) (sats roses
   -- Each clerk is still of the history that was opened.
   pub names_kept : AllByRecursion (λ (rose : SeatAt). rose.clerk.name ≡ name) roses
   names_kept =
-      all_from (λ (rose : SeatAt). rose.clerk.name ≡ name) roses (λ number rose here. (clerk_at number rose here).name_is)
+      all_from (λ (rose : SeatAt). rose.clerk.name ≡ name) roses
+      (λ number rose here. (clerk_at number rose here).name_is)
 
   -- A history that has all that the clerks recorded explains the lines of all sources.
-  pub serves_sources : name.sizes ≡ sizes → (events : List Event) → IsHistory sizes events
-      → AllByRecursion (λ (rose : SeatAt). IsWholeIn events rose.clerk) roses
+  pub serves_sources : name.sizes ≡ sizes → (shown : Shown) → IsHistory sizes shown.events
+      → AllByRecursion (λ (rose : SeatAt). IsWholeIn shown.events rose.clerk) roses
       → ServesSources sizes may_answer (map (λ (sat : SeatAt). sat.source) sats)
-      (map (λ (rose : SeatAt). rose.source) roses)
-  serves_sources sizes_are events lawful whole =
+      (map (λ (rose : SeatAt). rose.source) roses) shown
+  serves_sources sizes_are shown lawful whole =
+      let events = shown.events in
       let all = have_lines sizes.shards (rules_of sizes) may_answer sats roses served in
       let seats : length all.seats ≡ sizes.seats = all.count
       ∙ (sym (length-map sats (λ (sat : SeatAt). sat.clerk)) ∙ begun.clerks.counted) in
@@ -181,7 +182,7 @@ module _ (sizes : Sizes) (name : Name) (may_answer : ℕ → Type 0) (sats roses
         back = all.back;
         log = log_by events;
         log_is = subst L (sym seats) (lawful_log sizes events lawful);
-        history = record { events = events; lawful = lawful; log_is = refl };
+        history = record { lawful = lawful; log_is = refl };
         each = λ number lines here.
             let at = all.at number lines here in
             let clerk = clerk_at number at.rose at.at_rose in
@@ -241,19 +242,19 @@ module _ {S D : Type 0} (sizes : Sizes) (name : Name) (may_answer : ℕ → Type
 
   -- All sources are served where each seat served its own, a history has all that the clerks recorded, and the sources
   -- came back.
-  pub all_sources : 0 < sizes.shards → name.sizes ≡ sizes → AreJoined → (events : List Event) → IsHistory sizes events
-      → AllByRecursion (λ (clerk : Acting). IsWholeIn events clerk) (map (λ seat. (at seat).clerk) after)
+  pub all_sources : 0 < sizes.shards → name.sizes ≡ sizes → AreJoined → (shown : Shown) → IsHistory sizes shown.events
+      → AllByRecursion (λ (clerk : Acting). IsWholeIn shown.events clerk) (map (λ seat. (at seat).clerk) after)
       → (back : List D) → back ≡ map source_of after
-      → ServesSources sizes may_answer (map told sources) (map told back)
-  all_sources some sizes_are known events lawful whole back reported =
+      → ServesSources sizes may_answer (map told sources) (map told back) shown
+  all_sources some sizes_are known shown lawful whole back reported =
       let first : map (λ (sat : SeatAt). sat.source) (map at before) ≡ map told sources = seen_all known before
       ∙ ap (map told) known.sources_are in
       let last : map (λ (rose : SeatAt). rose.source) (map at after) ≡ map told back = seen_all known after
       ∙ ap (map told) (sym reported) in
-      let P : List SourceTold → List SourceTold → Type 0 = λ ds es. ServesSources sizes may_answer ds es in
+      let P : List SourceTold → List SourceTold → Type 0 = λ ds es. ServesSources sizes may_answer ds es shown in
       let all = serves_sources sizes name may_answer (map at before) (map at after) some (have_begun known) known.served
-      (have_ended known) sizes_are events lawful
-      (all_map (λ (rose : SeatAt). IsWholeIn events rose.clerk) at after
-      (all_unmap (λ (clerk : Acting). IsWholeIn events clerk) (λ seat. (at seat).clerk) after whole)) in
+      (have_ended known) sizes_are shown lawful
+      (all_map (λ (rose : SeatAt). IsWholeIn shown.events rose.clerk) at after
+      (all_unmap (λ (clerk : Acting). IsWholeIn shown.events clerk) (λ seat. (at seat).clerk) after whole)) in
       subst (λ es. P (map told sources) es) last
       (subst (λ ds. P ds (map (λ (rose : SeatAt). rose.source) (map at after))) first all)

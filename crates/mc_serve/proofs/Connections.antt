@@ -234,7 +234,7 @@ module _ {S A D : Type 0} {g : Ghosts S} (coming : A → Option (List S)) (comin
 
   pub all_connections : (sizes : Sizes) (may_answer : ℕ → Type 0) (arrivals : List A) (back : List D)
       (served : Outcome S g) → length arrivals ≡ sizes.seats
-      → ServesSources sizes may_answer (map fresh arrivals) (map told back)
+      → ServesSources sizes may_answer (map fresh arrivals) (map told back) served.evidence
       → served.ended ≡ min (gone_count (map told back)) (2 ^ 64 - 1) → seats_of served ≡ map gone back
       → AreConnections sizes may_answer arrivals served
   all_connections sizes may_answer arrivals back served count serves counted are =
@@ -267,11 +267,12 @@ module _ {S A D : Type 0} {g : Ghosts S} (coming : A → Option (List S)) (comin
   pub joined : (sizes : Sizes) (may_answer : ℕ → Type 0) (arrivals : List A) (sources back : List D)
       (served : Outcome S g) → map told sources ≡ map fresh arrivals
       → ServesSources (record sizes { seats = length sources }) may_answer (map told sources) (map told back)
-      → (served.ended ≡ min (gone_count (map told back)) (2 ^ 64 - 1)) × (seats_of served ≡ map gone back)
+      served.evidence → (served.ended ≡ min (gone_count (map told back)) (2 ^ 64 - 1))
+      × (seats_of served ≡ map gone back)
       → AreConnections (record sizes { seats = length arrivals }) may_answer arrivals served
   joined sizes may_answer arrivals sources back served same serves got =
       let P : ℕ → List SourceTold → Type 0 =
-      λ n before. ServesSources (record sizes { seats = n }) may_answer before (map told back) in
+      λ n before. ServesSources (record sizes { seats = n }) may_answer before (map told back) served.evidence in
       let all = subst (λ n. P n (map fresh arrivals)) (as_many sources arrivals same)
       (subst (λ before. P (length sources) before) same serves) in
       all_connections (record sizes { seats = length arrivals }) may_answer arrivals back served refl all got.0 got.1

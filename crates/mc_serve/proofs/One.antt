@@ -7,6 +7,7 @@ use Rattle.mc_wire.specs.Sink.{Sight}
 use Rattle.mc_sizes.specs.declared.sizes.Sizes.{Sizes}
 use Rattle.mc_conn.specs.History.{AnsweredCommand}
 use Rattle.mc_model.specs.Log.{Entry, of_asker, on_shard}
+use Rattle.mc_history.specs.Tokens.{Sight as Shown}
 use Rattle.mc_wake.specs.Zips.{Zips}
 use Rattle.mc_seat.specs.Explains.{ExplainsLine, IsLogOfLines, LineTold, log_of}
 use Rattle.mc_serve.specs.Over.{CameBack, ServesAll, lines_told}
@@ -80,10 +81,10 @@ one_history sizes may_answer log seat line (history ∷ []) each ran =
 
 -- One log explains all lines, since it explains the line of each source.
 pub serves_one : (sizes : Sizes) (may_answer : ℕ → Type 0) (lines : List Sight) (sources : List SourceTold)
-    (backs : List CameBack) → ServesSources sizes may_answer (map waits lines) sources
+    (backs : List CameBack) (shown : Shown) → ServesSources sizes may_answer (map waits lines) sources shown
     → Zips (λ source back. IsBack source back.line back.commands back.broke) sources backs
-    → ServesAll sizes may_answer lines backs
-serves_one sizes may_answer lines sources backs serves zips =
+    → ServesAll sizes may_answer lines backs shown
+serves_one sizes may_answer lines sources backs shown serves zips =
     let ones = each_one lines serves.seats sources backs serves.back zips in
     let told = lines_told lines backs in
     let count : length serves.seats ≡ length told = ap length (sym ones.seats_are)
@@ -113,15 +114,16 @@ same_count told sight sources lines same =
 -- What is known of the sources is so of whatever holds the lines.
 pub over_all : {A B C : Type 0} (sizes_at : ℕ → Sizes) (may_answer : ℕ → Type 0) (told : A → SourceTold)
     (came : B → CameBack) (sight : C → Sight) (lines : List C) (sources back : List A) (report : List B)
+    (shown : Shown)
     → map told sources ≡ map (λ line. waits (sight line)) lines
-    → ServesSources (sizes_at (length sources)) may_answer (map told sources) (map told back)
+    → ServesSources (sizes_at (length sources)) may_answer (map told sources) (map told back) shown
     → Zips (λ source one. IsBack (told source) (came one).line (came one).commands (came one).broke) back report
-    → ServesAll (sizes_at (length lines)) may_answer (map sight lines) (map came report)
-over_all sizes_at may_answer told came sight lines sources back report same serves zips =
+    → ServesAll (sizes_at (length lines)) may_answer (map sight lines) (map came report) shown
+over_all sizes_at may_answer told came sight lines sources back report shown same serves zips =
     let count = same_count told sight sources lines same in
     let before : map told sources ≡ map waits (map sight lines) = same ∙ map_map sight waits lines in
-    let P : ℕ → List SourceTold → Type 0 = λ n ds. ServesSources (sizes_at n) may_answer ds (map told back) in
-    serves_one (sizes_at (length lines)) may_answer (map sight lines) (map told back) (map came report)
+    let P : ℕ → List SourceTold → Type 0 = λ n ds. ServesSources (sizes_at n) may_answer ds (map told back) shown in
+    serves_one (sizes_at (length lines)) may_answer (map sight lines) (map told back) (map came report) shown
     (subst (λ ds. P (length lines) ds) before (subst (λ n. P n (map told sources)) count serves))
     (zips_seen back report (λ (source : SourceTold) (one : CameBack). IsBack source one.line one.commands one.broke)
     told came zips)

@@ -42,7 +42,8 @@ abbrev pub at : {S : Type 0} {T : Type 0} {w : Warrants T} {g : Ghosts Acting T}
 at told session one = seat_at (told one) (seat_ends (session one)) (seat_clerk (session one))
 
 -- The seats of a thread are before their first step, so they are as they began.
-pub seats_begin : {S L : Type 0} {T : Type 0} {w : Warrants T} {g : Ghosts Acting T} (seats : List S) (place : L → Place)
+pub seats_begin : {S L : Type 0} {T : Type 0} {w : Warrants T} {g : Ghosts Acting T} (seats : List S)
+    (place : L → Place)
     (sight : L → Sight)
     (told : S → SourceTold) (session : S → Session T Acting w g) (now : S → SlotState L) (shards : ℕ) (rules : Rules)
     (may_answer : ℕ → Type 0)
@@ -60,7 +61,8 @@ seats_begin {S} {L} (one ∷ seats) place sight told session now shards rules ma
     )
 
 -- All channels were closed, so they have served.
-pub seats_over : {S L : Type 0} {T : Type 0} {w : Warrants T} {g : Ghosts Acting T} (seats : List S) (sats : List SeatAt)
+pub seats_over : {S L : Type 0} {T : Type 0} {w : Warrants T} {g : Ghosts Acting T} (seats : List S)
+    (sats : List SeatAt)
     (place : L → Place) (sight : L → Sight) (told : S → SourceTold) (session : S → Session T Acting w g)
     (now : S → SlotState L) (shards : ℕ)
     (rules : Rules) (may_answer : ℕ → Type 0)
@@ -75,7 +77,8 @@ seats_over {S} {L} (one ∷ seats) (sat ∷ sats) place sight told session now s
     (subst P all.0 zips.0, seats_over seats sats place sight told session now shards rules may_answer all.1 zips.1)
 
 -- The seat at a place may be stepped, once it is what it became.
-pub seat_steps : {S L : Type 0} {T : Type 0} {w : Warrants T} {g : Ghosts Acting T} (seats : List S) (sats : List SeatAt)
+pub seat_steps : {S L : Type 0} {T : Type 0} {w : Warrants T} {g : Ghosts Acting T} (seats : List S)
+    (sats : List SeatAt)
     (number : ℕ)
     (one next : S) (place : L → Place) (sight : L → Sight) (told : S → SourceTold) (session : S → Session T Acting w g)
     (now : S → SlotState L)

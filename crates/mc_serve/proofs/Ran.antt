@@ -171,6 +171,7 @@ module _ (sizes : Sizes) (seat : ℕ) (clerk : Acting) (events : List Event) (si
       record {
         pieces = sym due ∙ (ap (map second) (sym all)
             ∙ (sym (map_map asked second ran) ∙ (sym (seated_pieces seats ran) ∙ ap pieces_in (sym log))));
-        replies = same_replies got (replies_in ran) came.0 (sym came.1) (omega (arith, many, replies, grown, count, split))
+        replies =
+            same_replies got (replies_in ran) came.0 (sym came.1) (omega (arith, many, replies, grown, count, split))
             ∙ (sym (seated_replies seats ran) ∙ ap replies_in (sym log));
       }

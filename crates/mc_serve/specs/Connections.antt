@@ -29,8 +29,8 @@ AreServed None gone = AllByRecursion (λ one. IsServed one.0.line.value.tap.begi
 AreServed (Some streams) gone = Zips (λ stream one. IsServed stream one.0) streams gone
 
 -- As many connections have ended as is said, and are listed, each served by one of the seats from the first byte of its
--- stream on, and one log, of one history, explains what was read of them, what was written to them and what the shards
--- did. The count stays at its greatest value.
+-- stream on, and one log, of the history that the evidence shows, explains what was read of them, what was written to
+-- them and what the shards did. The count stays at its greatest value.
 pub record ServesConnections {S : Type 0} {g : Ghosts S} (sizes : Sizes) (may_answer : ℕ → Type 0)
     (served : Outcome S g) : Type 0 where
   pub as_many : length (seats_of served) ≡ sizes.seats
@@ -38,7 +38,7 @@ pub record ServesConnections {S : Type 0} {g : Ghosts S} (sizes : Sizes) (may_an
   pub whole : AllByRecursion (AreServed None) (seats_of served)
   pub log : List Entry
   pub log_is : IsLogOfLines sizes (length (seats_of served)) log
-  pub history : IsOfHistory sizes log
+  pub history : IsOfHistory sizes served.evidence log
   pub each : (seat : ℕ) (gone : List (ClosedConnection S Sight g × Unit {0}))
       → slice_get (seats_of served) seat ≡ Some gone
       → ExplainsSeat sizes may_answer log seat (gone_lines gone)

@@ -2,6 +2,7 @@
 use Rattle.std.specs.Prelude.{ℕ, ◌≡◌, Bool, List, [], ◌∷◌, length}
 use Rattle.mc_wire.specs.Sink.{Sight}
 use Rattle.mc_sizes.specs.declared.sizes.Sizes.{Sizes}
+use Rattle.mc_history.specs.Tokens.{Sight as Shown}
 use Rattle.mc_seat.specs.Explains.{Explains, LineTold}
 use Rattle.mc_serve.specs.Served.{IsOfHistory}
 
@@ -21,9 +22,9 @@ lines_told (line ∷ before) [] = []
 lines_told (line ∷ before) (back ∷ after) =
     record { begin = line; now = back.line; commands = back.commands; broke = back.broke } ∷ lines_told before after
 
--- All lines came back, in their order, and one log, of one history, explains them.
-pub record ServesAll (sizes : Sizes) (may_answer : ℕ → Type 0) (before : List Sight) (after : List CameBack) : Type 0
-  where
-    pub as_many : length after ≡ length before
-    pub explained : Explains sizes may_answer (lines_told before after)
-    pub history : IsOfHistory sizes explained.log
+-- All lines came back, in their order, and one log, of the history that evidence shows, explains them.
+pub record ServesAll (sizes : Sizes) (may_answer : ℕ → Type 0) (before : List Sight) (after : List CameBack)
+    (shown : Shown) : Type 0 where
+  pub as_many : length after ≡ length before
+  pub explained : Explains sizes may_answer (lines_told before after)
+  pub history : IsOfHistory sizes shown explained.log

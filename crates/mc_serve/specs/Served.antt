@@ -7,6 +7,7 @@ use Rattle.mc_conn.specs.History.{AnsweredCommand, IsAnswered, entries_of, taken
 use Rattle.mc_model.specs.Log.{Entry, of_asker, on_shard}
 use Rattle.mc_history.specs.declared.event.Event.{Event}
 use Rattle.mc_history.specs.Lawful.{IsHistory}
+use Rattle.mc_history.specs.Tokens.{Sight as Shown}
 use Rattle.mc_history.specs.Worlds.{ran_in, seats_in}
 use Rattle.mc_record.specs.Recorder.{seated}
 use Rattle.mc_wake.specs.Zips.{Zips}
@@ -56,19 +57,20 @@ PassEach (before ∷ befores) (lines ∷ seats) (after ∷ afters) =
 abbrev pub log_by : List Event → List Entry
 log_by events = map (seated (seats_in events)) (ran_in events)
 
--- The log is what the shards ran in one lawful history, each entry with its slot in place of its connection.
-pub record IsOfHistory (sizes : Sizes) (log : List Entry) : Type 0 where
-  pub events : List Event
-  pub lawful : IsHistory sizes events
-  pub log_is : log ≡ log_by events
+-- The log is what the shards ran in the lawful history that evidence shows, each entry with its slot in place of its
+-- connection.
+pub record IsOfHistory (sizes : Sizes) (shown : Shown) (log : List Entry) : Type 0 where
+  pub lawful : IsHistory sizes shown.events
+  pub log_is : log ≡ log_by shown.events
 
--- Each source accepted its lines and took them back, until it returned that no more come, and one log, of one history,
--- explains them all.
-pub record ServesSources (sizes : Sizes) (may_answer : ℕ → Type 0) (before after : List SourceTold) : Type 0 where
+-- Each source accepted its lines and took them back, until it returned that no more come, and one log, of the history
+-- that evidence shows, explains them all.
+pub record ServesSources (sizes : Sizes) (may_answer : ℕ → Type 0) (before after : List SourceTold) (shown : Shown) :
+    Type 0 where
   pub seats : List (List LineTold)
   pub back : PassEach before seats after
   pub log : List Entry
   pub log_is : IsLogOfLines sizes (length seats) log
-  pub history : IsOfHistory sizes log
+  pub history : IsOfHistory sizes shown log
   pub each : (seat : ℕ) (lines : List LineTold) → slice_get seats seat ≡ Some lines
       → ExplainsSeat sizes may_answer log seat lines

@@ -10,4 +10,6 @@ pub struct Outcome<S: Stream> {
     pub ended: u64,
     /// Those of each seat, in their order. The lists take no memory: contracts alone see them.
     pub seats: Log<Log<ClosedConnection<S, Evidence>, ()>, ()>,
+    /// Shows the history in which they were served.
+    pub evidence: Evidence,
 }

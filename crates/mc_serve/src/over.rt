@@ -28,6 +28,8 @@ use std::thread::Threads;
 pub struct Report<L> {
     /// The lines, in the order in which they were given.
     pub lines: Vec<ServedLine<L>>,
+    /// Shows the history in which they were served.
+    pub evidence: Evidence,
 }
 
 /// Serves the lines until each has ended, quits or has failed. All of them are of the history that
@@ -54,12 +56,14 @@ pub fn serve_over<
     // None has begun.
     requires new { AllByRecursion (λ line. L.place line ≡ unbegun opening.witness.name)
         lines.items }
-    // One log, of one history, explains what was read of all lines, what was written to them and
-    // what the shards did.
+    // One log, of the history that the evidence shows, explains what was read of all lines, what was
+    // written to them and what the shards did.
     ensures explained { IfOk result (λ report.
         ServesAll (record sizes { seats = length lines.items }) (K.may_answer clock)
         (map (λ line. L.sight line) lines.items)
-        (map (λ one. came_back (L.sight one.line) one.commands one.broke) report.lines.items)) }
+        (map (λ one. came_back (L.sight one.line) one.commands one.broke) report.lines.items)
+        report.evidence) }
+    ensures shown { IfOk result (λ report. report.evidence.name ≡ opening.witness.name) }
     ensures refused { IfErr result (λ refusal. refusal ≢ Bind) }
 {
     // The room for the report comes first: the lines are not lost once they were served.
@@ -68,8 +72,8 @@ pub fn serve_over<
     let shown = opening.show();
     let sources = sources_for(alloc, lines, &shown)?;
     let pollers = pollers_for(rt, alloc, sources.len(), sizes.shards)?;
-    let back = serve(rt, alloc, opening, sources, pollers, sizes, gate, clock)?;
-    gather(back, room)
+    let (back, evidence) = serve(rt, alloc, opening, sources, pollers, sizes, gate, clock)?;
+    gather(back, room, evidence)
 }
 
 /// A thread for each of `seats` seats, and one for each of `shards` shards.
@@ -117,8 +121,10 @@ fn sources_for<L: Transport<Warrant = Evidence> + Drop>(
 fn gather<L: Transport + Drop>(
     sources: Vec<SingleSource<L>>,
     room: Vec<ServedLine<L>>,
+    evidence: Evidence,
 ) -> Result<Report<L>, ServeError>
     requires { room.items ≡ [] }
+    ensures evidence { IfOk result (λ report. report.evidence ≡ evidence) }
     ensures back { IfOk result (λ report.
         Zips (λ source one.
         IsBack (told_of (λ line. L.sight line) source)
@@ -134,5 +140,5 @@ fn gather<L: Transport + Drop>(
             return Err(ServeError::Memory);
         };
     }
-    Ok(Report { lines })
+    Ok(Report { lines, evidence })
 }

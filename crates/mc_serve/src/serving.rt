@@ -54,7 +54,7 @@ pub fn serve<
     sizes: Sizes,
     gate: G,
     clock: K,
-) -> Result<Vec<D>, ServeError>
+) -> Result<(Vec<D>, Evidence), ServeError>
 where
     D::Transport: Transport<Warrant = Evidence> + Send + 'static,
     requires sizes { MayServe (record sizes { seats = length sources.items }) }
@@ -63,11 +63,13 @@ where
     requires history { AllByRecursion (λ source. D.history source ≡ opening.witness.name)
         sources.items }
     requires free { AllByRecursion (λ source. IsFree (D.told source)) sources.items }
-    // One log, of one history, explains what was read of all lines, what was written to them and
-    // what the shards did.
+    // One log, of the history that the evidence shows, explains what was read of all lines, what was
+    // written to them and what the shards did.
     ensures explained { IfOk result (λ back.
         ServesSources (record sizes { seats = length sources.items }) (K.may_answer clock)
-        (map (λ source. D.told source) sources.items) (map (λ source. D.told source) back.items)) }
+        (map (λ source. D.told source) sources.items) (map (λ source. D.told source) back.0.items)
+        back.1) }
+    ensures shown { IfOk result (λ back. back.1.name ≡ opening.witness.name) }
     ensures refused { IfErr result (λ refusal. refusal ≢ Bind) }
 {
     let seats = sources.len();
@@ -93,7 +95,7 @@ fn serve_all<
     sizes: Sizes,
     gate: G,
     clock: K,
-) -> Result<Vec<D>, ThreadGroupError>
+) -> Result<(Vec<D>, Evidence), ThreadGroupError>
 where
     D::Transport: Transport<Warrant = Evidence> + Send + 'static,
     requires sizes { MayServe sizes }
@@ -103,9 +105,10 @@ where
     requires history { AllByRecursion (λ source. D.history source ≡ opening.witness.name)
         sources.items }
     requires free { AllByRecursion (λ source. IsFree (D.told source)) sources.items }
-    ensures { IfOk result (λ back.
+    ensures explained { IfOk result (λ back.
         ServesSources sizes (K.may_answer clock) (map (λ source. D.told source) sources.items)
-        (map (λ source. D.told source) back.items)) }
+        (map (λ source. D.told source) back.0.items) back.1) }
+    ensures shown { IfOk result (λ back. back.1.name ≡ opening.witness.name) }
 {
     let mut thread_group = ThreadGroup::new(alloc, pollers.len())?;
     let room = ReturnRoom::new(alloc, sources.len())?;
@@ -133,8 +136,8 @@ where
     thread_group.begin(rt);
     let parts = thread_group.join(rt)?;
     let (back, clerks) = room.take_back(parts)?;
-    let _history = close(witness, clerks);
-    Ok(back)
+    let evidence = close(witness, clerks);
+    Ok((back, evidence))
 }
 
 /// Starts a thread for each poller, with as many of the seats and of the workers as it has places

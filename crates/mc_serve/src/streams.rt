@@ -45,8 +45,8 @@ pub fn serve_streams<
 where
     A::Stream: Send + 'static,
     requires { MayServe (record sizes { seats = length arrivals.items }) }
-    // One log, of one history, explains what was read of all connections, what was written to them
-    // and what the shards did.
+    // One log, of the history that the evidence shows, explains what was read of all connections,
+    // what was written to them and what the shards did.
     ensures explained { IfOk result
         (ServesConnections (record sizes { seats = length arrivals.items }) (K.may_answer clock)) }
     // Where it is known which streams come, each of them was served as one connection, in their
@@ -57,8 +57,8 @@ where
     let seats = arrivals.len();
     let mut opening = Opening::new(alloc, Sizes { seats, ..sizes })?;
     let sources = sources_for(rt, alloc, &mut opening, arrivals, sizes)?;
-    let back = serve(rt, alloc, opening, sources, pollers, sizes, gate, clock)?;
-    gather(back)
+    let (back, evidence) = serve(rt, alloc, opening, sources, pollers, sizes, gate, clock)?;
+    gather(back, evidence)
 }
 
 /// A source for each of the arrivals, for lines of the history that was opened. By memcached's
@@ -95,8 +95,10 @@ fn sources_for<R: time::Clock + Copy + Drop, A: Arrivals + Drop>(
 /// How many connections came in by the sources, all of which have ended, and what they were.
 fn gather<R: time::Clock + Drop, A: Arrivals + Drop>(
     sources: Vec<StreamSource<R, A, Evidence>>,
+    evidence: Evidence,
 ) -> Result<Outcome<A::Stream>, ServeError>
-    ensures { IfOk result (λ served. (served.ended ≡
+    ensures evidence { IfOk result (λ served. served.evidence ≡ evidence) }
+    ensures gone { IfOk result (λ served. (served.ended ≡
         min
         (gone_count
         (map
@@ -114,5 +116,9 @@ fn gather<R: time::Clock + Drop, A: Arrivals + Drop>(
         ended = ended.saturating_add(source.ended);
         seats = seats.and(&source.gone, &());
     }
-    Ok(Outcome { ended, seats })
+    Ok(Outcome {
+        ended,
+        seats,
+        evidence,
+    })
 }

@@ -5,7 +5,7 @@ use Rattle.mc_record.specs.Opening.{IsOpening}
 use Rattle.mc_serve.specs.Over.{came_back}
 use Rattle.mc_doors.specs.One.{told_of}
 use Rattle.mc_serve.proofs.One.{all_free, over_all, same_count}
-use Rattle.mc_serve.proofs.Zipped.{if_ok}
+use Rattle.mc_threads.proofs.Orders.{both}
 use denote.Exit.{no}
 use denote.Param.Send.{arg_send, param_send}
 use Rattle.mc_doors.proofs.Sent.{source_send}
@@ -33,12 +33,13 @@ serve-requires-clause-history g c κs within =
 
 pub returns-clause-explained : goal.returns-clause-explained
 returns-clause-explained g c =
-    if_ok c.gather.result _ _
-    (λ report zips. over_all (λ n. record c.args.sizes { seats = n }) (g.K.Clock.may_answer c.args.clock)
+    both c.gather.result _ _ _
+    (λ report shown zips. over_all (λ n. record c.args.sizes { seats = n }) (g.K.Clock.may_answer c.args.clock)
     (λ source. told_of (λ line. g.L.Transport.sight line) source)
     (λ one. came_back (g.L.Transport.sight one.line) one.commands one.broke) (λ line. g.L.Transport.sight line)
-    c.args.lines.items c.in_ok-sources.sources.items _ report.lines.items
-    c.in_ok-sources.ensures.told c.in_ok-back.ensures.explained zips) c.gather.ensures.back
+    c.args.lines.items c.in_ok-sources.sources.items _ report.lines.items report.evidence
+    c.in_ok-sources.ensures.told (rw shown c.in_ok-back.ensures.explained) zips) c.gather.ensures.evidence
+    c.gather.ensures.back
 
 pub serve-requires-clause-sizes : goal.serve-requires-clause-sizes
 serve-requires-clause-sizes g c κs within =
@@ -48,7 +49,8 @@ serve-requires-clause-sizes g c κs within =
     c.requires.sizes
 
 pub serve-requires-send-D : goal.serve-requires-send-D
-serve-requires-send-D g c κs within = param_send 1 _ (arg_send _ no _ (source_send _ evidence.the_row _ _ _ c.type_bounds.send-L))
+serve-requires-send-D g c κs within =
+    param_send 1 _ (arg_send _ no _ (source_send _ evidence.the_row _ _ _ c.type_bounds.send-L))
 
 pub sources_for-requires : goal.sources_for-requires
 sources_for-requires g c = rw c.show-shown.ensures.name c.requires.new

@@ -19,7 +19,8 @@ loop-line-init g c =
 
 pub new-requires : goal.new-requires
 new-requires g c =
-    all_first (λ line. g.L.Transport.place line ≡ unbegun c.args.history.now.name) _ c.in-Some.line _ c.in-Some.ensures.steps.0
+    all_first (λ line. g.L.Transport.place line ≡ unbegun c.args.history.now.name) _ c.in-Some.line _
+    c.in-Some.ensures.steps.0
     c.loop-line.invariant.new
 
 pub loop-line-preserved : goal.loop-line-preserved
@@ -31,7 +32,8 @@ loop-line-preserved g c =
           note_more (λ source. told_of (λ line. g.L.Transport.sight line) source)
           (λ line. waits (g.L.Transport.sight line)) c.loop-line.sources.items c.push.new.self.items c.new.result
           c.in-Some.line _ _ _ c.in_ok-push.ensures.items c.new.ensures.told step was.told;
-      new = all_rest (λ line. g.L.Transport.place line ≡ unbegun c.args.history.now.name) _ c.in-Some.line _ step was.new;
+      new =
+          all_rest (λ line. g.L.Transport.place line ≡ unbegun c.args.history.now.name) _ c.in-Some.line _ step was.new;
       history =
           all_more (λ source. source.history.value.name ≡ c.args.history.now.name) c.loop-line.sources.items
           c.push.new.self.items c.new.result c.in_ok-push.ensures.items was.history c.new.ensures.history;

@@ -14,8 +14,8 @@ use denote.Param.{copied, param}
 use denote.Param.Send.{arg_send, param_send, sendable}
 use Rattle.mc_serve.proofs.serving.serve_all.Goals as goal
 
-pub close-history-requires : goal.close-history-requires
-close-history-requires g c =
+pub close-evidence-requires : goal.close-evidence-requires
+close-evidence-requires g c =
     let sizes = c.args.sizes in
     let may = g.K.Clock.may_answer c.args.clock in
     let name = c.args.opening.witness.name in
@@ -36,8 +36,8 @@ close-history-requires g c =
     back.actors back.routes) in
     rw (back.clerks, begun.witness) names
 
-pub returns : goal.returns
-returns g c =
+pub returns-clause-explained : goal.returns-clause-explained
+returns-clause-explained g c =
     let sizes = c.args.sizes in
     let may = g.K.Clock.may_answer c.args.clock in
     let name = c.args.opening.witness.name in
@@ -45,8 +45,8 @@ returns g c =
     let thread_group = c.start-started.new.thread_group in
     let parts = c.in_ok-parts.parts.items in
     let back = c.in_ok-back.ensures in
-    let closed = c.close-history.ensures in
-    let same : c.close-history.result.name.sizes ≡ sizes = ap (λ (n : Name). n.sizes) closed.name
+    let closed = c.close-evidence.ensures in
+    let same : c.close-evidence.result.name.sizes ≡ sizes = ap (λ (n : Name). n.sizes) closed.name
     ∙ (ap (λ (a : Acting). a.name.sizes) begun.witness ∙ c.requires.opening.sizes_are) in
     all_sources sizes name may (flat_map (λ part. part.seats.all.items) thread_group)
     (flat_map (λ part. part.seats.all.items) parts) c.args.sources.items
@@ -60,7 +60,7 @@ returns g c =
     (zips_follow thread_group parts (λ part. (part.clock ≡ c.args.clock) × (part.sizes ≡ c.args.sizes)) _ _
     (λ x y same did. rw (← same.0, ← same.1) did) begun.same (rw c.begin.ensures at c.in_ok-parts.ensures))
     back.actors back.routes)
-    c.close-history.result.events (rw same at closed.lawful) (rw back.clerks at closed.whole)
+    c.close-evidence.result (rw same at closed.lawful) (rw back.clerks at closed.whole)
     c.in_ok-back.back.items back.sources
 
 pub new-requires-send-T : goal.new-requires-send-T

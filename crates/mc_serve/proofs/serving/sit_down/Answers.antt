@@ -35,7 +35,8 @@ loop-ends-preserved g c =
     let made = c.in_ok-slot.ensures in
     let free = all_first (λ source. IsFree (g.D.ConnectionSource.told source)) _ c.in-Some-next.source _ source.0
     was.free in
-    let fits = zips_first (IsClerkOf c.args.sizes) _ _ _ _ c.in-Some.ends c.in-Some-next-2.clerk step.0 clerk.0 was.clerks
+    let fits = zips_first (IsClerkOf c.args.sizes) _ _ _ _ c.in-Some.ends c.in-Some-next-2.clerk step.0 clerk.0
+    was.clerks
     in
     let wide = all_first (λ seat. length seat.channels ≡ c.args.sizes.shards) _ c.in-Some.ends _ step.0 was.width in
     record {
@@ -52,7 +53,8 @@ loop-ends-preserved g c =
           _ _ grown made.clerk (rw clerk.0 at was.clerks_are);
       fit =
           all_more (λ one. IsClerkOf c.args.sizes (seat_ends one.session) (seat_clerk one.session))
-          c.loop-ends.seats.items _ c.in_ok-slot.slot grown was.fit (clerk_fits c.args.sizes _ _ _ _ made.ends made.clerk fits);
+          c.loop-ends.seats.items _ c.in_ok-slot.slot grown was.fit
+          (clerk_fits c.args.sizes _ _ _ _ made.ends made.clerk fits);
       sources =
           order_more (λ one. one.source) c.loop-ends.seats.items _ c.in_ok-slot.slot c.in-Some-next.source _ _ grown
           made.source (rw source.0 at was.sources);

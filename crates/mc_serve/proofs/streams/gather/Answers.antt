@@ -64,8 +64,8 @@ loop-source-preserved g c =
           c.and-seats.ensures refl step was.listed;
     }
 
-pub returns : goal.returns
-returns g c =
+pub returns-clause-gone : goal.returns-clause-gone
+returns-clause-gone g c =
     let was = c.loop-source.invariant in
     let none : into_iter_items c.loop-source.source-iterator ≡ [] =
     empty_when _ (sym c.loop-source.source-iterator.rest.ok.0 ∙ c.in-None.ensures.steps.0) in (

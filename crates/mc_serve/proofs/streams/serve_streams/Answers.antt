@@ -4,7 +4,7 @@ use Rattle.mc_sizes.specs.Sizes.{MayServe}
 use Rattle.mc_record.specs.Opening.{IsOpening}
 use Rattle.mc_serve.proofs.Connections.{all_free, as_many, joined}
 use Rattle.mc_serve.proofs.StreamSent.{line_send, stream_source_send}
-use Rattle.mc_serve.proofs.Zipped.{if_ok}
+use Rattle.mc_threads.proofs.Orders.{both}
 use Rattle.mc_history.proofs.evidence.Evidence.TheSendSync as evidence_sent
 use denote.Exit.{no}
 use denote.Param.Send.{arg_send, param_send}
@@ -39,21 +39,21 @@ serve-requires-clause-history g c κs within = rw c.in_ok-sources.ensures.same c
 
 pub returns-clause-explained : goal.returns-clause-explained
 returns-clause-explained g c =
-    if_ok c.gather.result _ _
-    (λ served got. (joined (λ one. g.A.Arrivals.coming one) (λ source. g.A.Arrivals.coming source.arrivals)
+    both c.gather.result _ _ _
+    (λ served shown got. (joined (λ one. g.A.Arrivals.coming one) (λ source. g.A.Arrivals.coming source.arrivals)
     (λ source. source.out) (λ source. source.gone.items) (λ source. source.is_over) c.args.sizes
     (g.K.Clock.may_answer c.args.clock)
     c.args.arrivals.items c.in_ok-sources.sources.items c.in_ok-back.back.items served c.in_ok-sources.ensures.told
-    c.in_ok-back.ensures.explained got).explained) c.gather.ensures
+    (rw shown c.in_ok-back.ensures.explained) got).explained) c.gather.ensures.evidence c.gather.ensures.gone
 
 pub returns-clause-streams : goal.returns-clause-streams
 returns-clause-streams g c =
-    if_ok c.gather.result _ _
-    (λ served got. (joined (λ one. g.A.Arrivals.coming one) (λ source. g.A.Arrivals.coming source.arrivals)
+    both c.gather.result _ _ _
+    (λ served shown got. (joined (λ one. g.A.Arrivals.coming one) (λ source. g.A.Arrivals.coming source.arrivals)
     (λ source. source.out) (λ source. source.gone.items) (λ source. source.is_over) c.args.sizes
     (g.K.Clock.may_answer c.args.clock)
     c.args.arrivals.items c.in_ok-sources.sources.items c.in_ok-back.back.items served c.in_ok-sources.ensures.told
-    c.in_ok-back.ensures.explained got).streams) c.gather.ensures
+    (rw shown c.in_ok-back.ensures.explained) got).streams) c.gather.ensures.evidence c.gather.ensures.gone
 
 pub serve-requires-send-D : goal.serve-requires-send-D
 serve-requires-send-D g c κs within =

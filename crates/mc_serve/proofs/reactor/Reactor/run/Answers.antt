@@ -32,7 +32,8 @@ step-stepped-requires g c =
 pub step-answered-requires : goal.step-answered-requires
 step-answered-requires g c =
     let sizes = c.args.self.now.sizes in
-    let sats = map (λ one. seat_at (g.D.ConnectionSource.told one.source) (seat_ends one.session) (seat_clerk one.session))
+    let sats = map (λ one. seat_at (g.D.ConnectionSource.told one.source) (seat_ends one.session)
+    (seat_clerk one.session))
     c.args.self.now.seats.all.items in (
       sizes.shards,
       rules_of sizes,
@@ -43,7 +44,8 @@ step-answered-requires g c =
 pub loop-preserved-then-answered : goal.loop-preserved-then-answered
 loop-preserved-then-answered g c =
     let sizes = c.args.self.now.sizes in
-    let sats = map (λ one. seat_at (g.D.ConnectionSource.told one.source) (seat_ends one.session) (seat_clerk one.session))
+    let sats = map (λ one. seat_at (g.D.ConnectionSource.told one.source) (seat_ends one.session)
+    (seat_clerk one.session))
     c.args.self.now.seats.all.items in
     record {
       next = (tt, tt);
@@ -56,7 +58,8 @@ loop-preserved-then-answered g c =
 pub loop-preserved : goal.loop-preserved
 loop-preserved g c =
     let sizes = c.args.self.now.sizes in
-    let sats = map (λ one. seat_at (g.D.ConnectionSource.told one.source) (seat_ends one.session) (seat_clerk one.session))
+    let sats = map (λ one. seat_at (g.D.ConnectionSource.told one.source) (seat_ends one.session)
+    (seat_clerk one.session))
     c.args.self.now.seats.all.items in
     record {
       next = (tt, tt);
@@ -69,7 +72,8 @@ loop-preserved g c =
 pub returns-then-is_done : goal.returns-then-is_done
 returns-then-is_done g c =
     let sizes = c.args.self.now.sizes in
-    let sats = map (λ one. seat_at (g.D.ConnectionSource.told one.source) (seat_ends one.session) (seat_clerk one.session))
+    let sats = map (λ one. seat_at (g.D.ConnectionSource.told one.source) (seat_ends one.session)
+    (seat_clerk one.session))
     c.args.self.now.seats.all.items in
     rw (← c.loop.invariant.clock)
     (seats_over c.step-answered.new.self.all.items sats (λ line. g.D.Transport.Transport.place line)
