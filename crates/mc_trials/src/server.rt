@@ -51,7 +51,9 @@ impl<R: Threads + Wait + RandomSource + Copy + Send + Drop + 'static> Server<R> 
             ..sizes
         };
         sizes.check().ok()?;
-        let (opening, lines) = opened(self.alloc, lines, sizes).ok()?;
+        let Ok((opening, lines)) = opened(self.alloc, lines, sizes) else {
+            return None;
+        };
         match serve_over(&self.rt, self.alloc, opening, lines, sizes, gate, clock) {
             Ok(report) => unplaced(self.alloc, report.lines).ok(),
             Err(_refusal) => None,
@@ -62,7 +64,9 @@ impl<R: Threads + Wait + RandomSource + Copy + Send + Drop + 'static> Server<R> 
     /// made.
     pub fn serve_alone(&self, line: MemoryLine, sizes: Sizes) -> Option<ServedLine<MemoryLine>> {
         sizes.check().ok()?;
-        let (opening, history) = open_one(self.alloc, sizes).ok()?;
+        let Ok((opening, history)) = open_one(self.alloc, sizes) else {
+            return None;
+        };
         let mut line = PlacedLine::new(line, &history);
         let clock = FixedClock(MOMENT);
         let served = serve_one(&self.rt, self.alloc, opening, &mut line, sizes, &clock).ok()?;
