@@ -1,11 +1,13 @@
 -- What is known of the sources is what is known of the lines.
-use Rattle.std.proofs.Common.{ℕ, subst, sym}
+use Rattle.std.proofs.Common.{◌∙◌, ℕ, ap, subst, sym}
 use Rattle.mc_sizes.specs.Sizes.{MayServe}
+use Rattle.mc_history.specs.Tokens.{Sight as Shown}
 use Rattle.mc_record.specs.Opening.{IsOpening}
 use Rattle.mc_serve.specs.Over.{came_back}
 use Rattle.mc_doors.specs.One.{told_of}
 use Rattle.mc_serve.proofs.One.{all_free, over_all, same_count}
 use Rattle.mc_threads.proofs.Orders.{both}
+use Rattle.mc_serve.proofs.Zipped.{if_ok}
 use denote.Exit.{no}
 use denote.Param.Send.{arg_send, param_send}
 use Rattle.mc_doors.proofs.Sent.{source_send}
@@ -40,6 +42,12 @@ returns-clause-explained g c =
     c.args.lines.items c.in_ok-sources.sources.items _ report.lines.items report.evidence
     c.in_ok-sources.ensures.told (rw shown c.in_ok-back.ensures.explained) zips) c.gather.ensures.evidence
     c.gather.ensures.back
+
+pub returns-clause-shown : goal.returns-clause-shown
+returns-clause-shown g c =
+    if_ok c.gather.result _ _
+    (λ report shown. rw c.show-shown.ensures.same at (ap (λ (e : Shown). e.name) shown ∙ c.in_ok-back.ensures.shown))
+    c.gather.ensures.evidence
 
 pub serve-requires-clause-sizes : goal.serve-requires-clause-sizes
 serve-requires-clause-sizes g c κs within =
