@@ -1,5 +1,5 @@
 -- What is known of the sources is what is known of the lines.
-use Rattle.std.proofs.Common.{◌∙◌, ℕ, ap, subst, sym}
+use Rattle.std.proofs.Common.{◌≡◌, ◌∙◌, ℕ, ap, subst, sym}
 use Rattle.mc_sizes.specs.Sizes.{MayServe}
 use Rattle.mc_history.specs.Tokens.{Sight as Shown}
 use Rattle.mc_record.specs.Opening.{IsOpening}
@@ -45,9 +45,9 @@ returns-clause-explained g c =
 
 pub returns-clause-shown : goal.returns-clause-shown
 returns-clause-shown g c =
-    if_ok c.gather.result _ _
-    (λ report shown. rw c.show-shown.ensures.same at (ap (λ (e : Shown). e.name) shown ∙ c.in_ok-back.ensures.shown))
-    c.gather.ensures.evidence
+    let same : c.in_ok-back.evidence.name ≡ c.args.opening.witness.name =
+    (rw c.show-shown.ensures.same at c.in_ok-back.ensures.shown) in
+    if_ok c.gather.result _ _ (λ report shown. ap (λ (e : Shown). e.name) shown ∙ same) c.gather.ensures.evidence
 
 pub serve-requires-clause-sizes : goal.serve-requires-clause-sizes
 serve-requires-clause-sizes g c κs within =
