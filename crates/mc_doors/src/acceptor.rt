@@ -293,6 +293,7 @@ impl Acceptor {
         }
     }
 
+    /// Accepts connections as `run` does, and returns at the end. Records a broken listener.
     fn take_all<R: Wait + time::Clock>(&mut self, rt: &R) {
         for _ in rt.forever() {
             if self.left == Some(0) || self.handle.is_dismissed() {
@@ -367,8 +368,8 @@ impl Acceptor {
         Ok(true)
     }
 
-    /// Refuses the next connection in place of the spare descriptor, if one has come: an `accept`
-    /// that finds no file doesn't say. Returns whether there may be another.
+    /// Accepts the next connection, if one is pending, with the descriptor that the spare one left
+    /// free, and refuses it. Returns whether there may be another.
     fn refuse_next(&mut self) -> bool {
         let found = self.look();
         let has_come = matches!(&found, Found::Connection(_));

@@ -36,7 +36,7 @@ pub trait Arrivals {
     fn close(&mut self, meter: &Meter, commands: u64, broke: bool)
         ensures { coming self.new ≡ coming self.old };
 
-    /// Requests another step of the slot: at once, or after a while.
+    /// Requests another step of the slot: at once, or after a pause.
     fn call_again(&self, at_once: bool);
 
     /// Whether no further connection could be accepted because of a fault, though more may come.

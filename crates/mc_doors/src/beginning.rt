@@ -1,4 +1,4 @@
-//! Which connection a line is.
+//! Which connection of a history a line is.
 ghost use Rattle.std.specs.Prelude.{◌≡◌, None, Some};
 
 use crate::trail::Trail;
@@ -15,7 +15,7 @@ pub(crate) struct Beginning<T> {
 }
 
 impl<T: Drop> Beginning<T> {
-    /// That of a line of this token's history, which has not begun.
+    /// The beginning of a line of this token's history that has not begun.
     pub(crate) fn none(history: &T) -> Beginning<T>
         ensures history { result.history.value ≡ history.now }
         ensures seen { result.seen.value ≡ None }
@@ -30,7 +30,7 @@ impl<T: Drop> Beginning<T> {
         }
     }
 
-    /// That of a line that begins with this warrant, once these bytes were read and written.
+    /// The beginning of a line with this warrant, after these bytes were read and written.
     pub(crate) fn new(seen: T, given: &Trail, taken: &Trail) -> Beginning<T>
         ensures history { result.history.value ≡ seen }
         ensures seen { result.seen.value ≡ Some seen }

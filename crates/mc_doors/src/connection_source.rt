@@ -1,4 +1,4 @@
-//! The source of a slot's lines, one at a time, to which they are returned.
+//! The source of a slot's connections, to which they are returned.
 ghost use Rattle.std.specs.Prelude.{◌≡◌};
 ghost use Rattle.mc_ring.specs.Route.{Name};
 ghost use Rattle.mc_doors.specs.Told.{Arrives, IsUnbegun, SourceTold, took_back};
@@ -8,26 +8,26 @@ use mc_seat::Transport;
 /// The result of `ConnectionSource::accept`.
 #[derive(Drop)]
 pub enum Accept<L> {
-    /// A new line.
+    /// A new connection.
     Came(L),
-    /// No line yet.
+    /// No connection yet.
     NotYet,
-    /// No more lines will come.
+    /// No more connections will come.
     Over,
 }
 
-/// Accepts the lines of a slot, one at a time, and takes them back after they were served.
+/// Accepts the connections of a slot, one at a time, and takes them back after they were served.
 pub trait ConnectionSource {
-    /// The type of the lines.
+    /// The type of the connections.
     type Transport: Transport + Drop;
 
-    // Its lines, as contracts see them.
+    // What it has accepted and taken back so far, as contracts see it.
     ghost told: { Self → SourceTold };
 
-    // The history of which its lines are.
+    // The history to which its connections belong.
     ghost history: { Self → Name };
 
-    /// Returns the next line, if there is one. Never blocks.
+    /// Returns the next connection, if there is one. Never blocks.
     fn accept(&mut self) -> Accept<Self::Transport>
         ensures told { Arrives (λ line. Self.Transport.sight line) result (told self.old)
             (told self.new) }
@@ -35,16 +35,17 @@ pub trait ConnectionSource {
         ensures new { IsUnbegun (history self.old) (λ line. Self.Transport.place line) result }
         ensures history { history self.new ≡ history self.old };
 
-    /// Ends the output of the line that is out, since memory to serve it is refused. Nothing is
-    /// read or written. Returns whether the slot is woken again after a pause, so that it may wait.
-    /// See docs/DECISIONS.md, N5.
+    /// Ends the output of the connection that is out; call it if memory to serve it is refused.
+    /// Nothing is read or written. Returns whether the slot will be woken after a pause; if so, it may
+    /// wait until then. See docs/DECISIONS.md, N5.
     fn give_up(&mut self, line: &mut Self::Transport) -> bool
         ensures told { told self.new ≡ told self.old }
         ensures line { Self.Transport.sight line.new ≡ Self.Transport.sight line.old }
         ensures place { Self.Transport.place line.new ≡ Self.Transport.place line.old }
         ensures history { history self.new ≡ history self.old };
 
-    /// Takes back the line that was served: the number of commands, and whether it failed.
+    /// Takes back the connection that was served, with the number of its commands and whether it
+    /// failed.
     fn give_back(&mut self, line: Self::Transport, commands: u64, broke: bool)
         ensures told { told self.new ≡
             took_back (Self.Transport.sight line) commands broke (told self.old) }

@@ -8,7 +8,7 @@ use mc_watch::Manner;
 pub(crate) const FIRST_BYTES: usize = 9;
 
 /// Whether a connection with these first bytes speaks another protocol: memcached's binary
-/// protocol, TLS or HTTP. No command starts like that, since command names are lower case.
+/// protocol, TLS or HTTP. No command begins like that, since command names are in lower case.
 #[tactic(auto, unfolding(crate::specs::Foreign::is_foreign))]
 pub(crate) fn is_foreign(bytes: &[u8]) -> bool
     ensures { result ≡ is_foreign bytes.now }

@@ -1,6 +1,6 @@
-//! Sources of connections for the slots. A source accepts one line at a time and takes it back once
-//! it was served. `SingleSource` has a single line in memory; `StreamSource` has the streams of its
-//! slot, such as sockets from the accepting thread.
+//! Sources of connections for the slots, and the thread that accepts sockets. A source accepts one
+//! connection at a time and takes it back after it was served. `SingleSource` has a single line in
+//! memory. `StreamSource` has the streams of its slot, such as sockets from the accepting thread.
 #![tactic(auto)]
 
 mod acceptor;

@@ -17,7 +17,7 @@ pub struct ServedLine<L> {
     pub broke: bool,
 }
 
-/// A served line, and its history when it was accepted.
+/// A served line, and its state when it was accepted.
 #[derive(Drop)]
 pub struct ReturnedLine<L> {
     begin: Snapshot<L>,
@@ -25,6 +25,7 @@ pub struct ReturnedLine<L> {
 }
 
 impl<L: Drop> ReturnedLine<L> {
+    /// Returns the line in the state in which it was returned.
     fn into_served(self) -> ServedLine<L>
         ensures { result ≡ self.served }
     {

@@ -1,4 +1,4 @@
-//! The source of one slot for streams.
+//! A slot's source of connections over streams.
 ghost use Rattle.std.specs.Prelude.{◌≡◌, ◌^◌, ◌-◌, length, min};
 ghost use Rattle.mc_doors.specs.Arrivals.{CameWary, KeepsContents};
 ghost use Rattle.mc_doors.specs.Tcp.{new_source, sight_of, told_source};
@@ -25,19 +25,19 @@ pub struct ClosedConnection<S: Stream, T = ()> {
     broke: bool,
 }
 
-/// Accepts the streams of one slot as lines, and closes them after they were served. Contracts see
-/// the list of closed ones; at run time none is kept.
+/// Accepts the streams of one slot as connections, and closes them after they were served. Contracts
+/// see the list of closed connections; no list is kept at run time.
 pub struct StreamSource<R, A: Arrivals, T = ()> {
     rt: R,
     arrivals: A,
-    /// A token of the history of its lines.
+    /// A token of the history of its connections.
     history: T,
     /// Whether connections of other protocols are detected and closed, as by memcached's rules. See
     /// docs/DECISIONS.md, P12.
     sniffs_protocol: bool,
     /// The last stream, while it waits for its peer's end of input.
     lingering: Option<Lingering<A::Stream>>,
-    /// The line being served, in the state in which it was accepted.
+    /// The connection being served, in the state in which it was accepted.
     out: Option<Snapshot<TcpConnection<A::Stream, T>>>,
     /// Whether its output was ended, since memory to serve it was refused.
     gave_up: bool,
@@ -72,8 +72,8 @@ impl<R: Drop, A: Arrivals + Drop, T: Drop> Drop for StreamSource<R, A, T> {
 }
 
 impl<R: time::Clock, A: Arrivals, T: Warrant + Drop> StreamSource<R, A, T> {
-    /// A source that has accepted nothing yet, for lines of this token's history. The clock of `rt`
-    /// limits how long a connection lingers.
+    /// A source that has accepted nothing yet, for connections of this token's history. The clock of
+    /// `rt` limits how long a connection lingers.
     pub fn new(rt: R, arrivals: A, history: T, sniffs_protocol: bool) -> StreamSource<R, A, T>
         ensures history { T.name result.history ≡ T.name history }
         ensures sniff_protocol { result.sniffs_protocol ≡ sniffs_protocol }

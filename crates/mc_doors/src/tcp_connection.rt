@@ -1,4 +1,4 @@
-//! A TCP connection as a line.
+//! Connections over streams, such as TCP and Unix sockets.
 ghost use Rattle.std.specs.Prelude.{◌≡◌, ◌<◌, ◌≤◌, ◌==◌, ◌+◌, ◌-◌, ◌^◌, false, true, IfNone, IfOk, IfSome, OnErr, length, min, take};
 ghost use Rattle.std.specs.Io.KnownBytes.{Consumes, Keeps};
 ghost use Rattle.std.specs.Io.Slices.{io_slices_bytes};
@@ -71,8 +71,8 @@ impl<S: Stream + Drop, T: Drop> Drop for TcpConnection<S, T> {
 }
 
 impl<S: Stream, T: Warrant + Drop> TcpConnection<S, T> {
-    /// A line of this token's history, whose stream is tried at each call; nothing was read or
-    /// written yet. It accepts any protocol.
+    /// A connection of this token's history; nothing was read or written yet. Each call tries the
+    /// stream. Other protocols are not detected.
     pub fn new(stream: S, history: &T) -> TcpConnection<S, T>
         ensures stream { result.tap.stream ≡ stream }
         ensures new { sight_of result ≡ new_line (S.remaining stream) (S.contents stream) }
@@ -95,9 +95,9 @@ impl<S: Stream, T: Warrant + Drop> TcpConnection<S, T> {
         }
     }
 
-    /// Such a line with a meter, and with a poll that reports its events, if `is_polled`; it counts
-    /// as ready at first. It fails once the meter reports it idle. With `sniff_protocol`, first
-    /// bytes of another protocol end the connection and are left unread.
+    /// Such a connection with a meter; it fails once the meter reports it idle. With `is_polled`, a
+    /// poll reports its events, and it is only read after one. With `sniff_protocol`, first bytes of
+    /// another protocol end it and are left unread.
     pub fn begin(
         stream: S,
         meter: Meter,
@@ -123,7 +123,7 @@ impl<S: Stream, T: Warrant + Drop> TcpConnection<S, T> {
         &self.meter
     }
 
-    /// Shuts down the sending side. Nothing is read or written; the line may still be served later.
+    /// Shuts down the output. Nothing is read or written; the connection may still be served later.
     pub(crate) fn end_output(&mut self)
         ensures sight { sight_of self.new ≡ sight_of self.old }
         ensures begun { self.new.begun ≡ self.old.begun }
@@ -218,8 +218,8 @@ impl<S: Stream, T: Warrant + Drop> TcpConnection<S, T> {
         self.may_read = !self.is_polled || self.is_closing || self.ended || count == room;
     }
 
-    /// The result of a write: number of bytes written, 0 if it would block. If the stream otherwise
-    /// accepts nothing, the line has failed.
+    /// The result of a write: the number of bytes written, 0 if it would block. If the stream
+    /// otherwise accepts nothing, the connection has failed.
     fn after_write(&mut self, done: io::Result<usize>) -> Result<usize, SinkError>
         ensures told { TellsWrite done result }
         ensures ok { IfOk result (λ _. sight_of self.new ≡ sight_of self.old) }

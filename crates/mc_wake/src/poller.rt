@@ -79,9 +79,9 @@ impl Model for Poller {
 }
 
 impl Poller {
-    /// For a thread whose slots have no sockets; it blocks in a parker. Any of the server's
-    /// `callers` slots may notify its shards. It serves `places` slots and `workers` shards. All
-    /// its slots are marked ready at first.
+    /// A poller for a thread whose slots have no sockets; it blocks in a parker. The thread serves
+    /// `places` slots and `workers` shards, and any of the server's `callers` slots may notify its
+    /// shards. All its slots are marked ready at first. Fails if memory is refused.
     pub fn new(
         alloc: Global,
         spin_policy: SpinPolicy,
@@ -99,8 +99,8 @@ impl Poller {
         Ok(Poller::asleep_in(backend, waker, spin_policy, callers, places, workers))
     }
 
-    /// For a thread whose slots have sockets; it blocks in a poll of them. The arguments are those
-    /// of `new`. Fails if the system refuses the poll.
+    /// A poller for a thread whose slots have sockets; it blocks in a poll of them. The arguments are
+    /// those of `new`. Fails if memory or the poll is refused.
     pub fn polling<R: Net>(
         rt: &R,
         alloc: Global,
@@ -286,8 +286,8 @@ impl Poller {
         }
     }
 
-    /// Polls until a socket has an event, the thread is woken, or the timeout ends, if there is
-    /// one.
+    /// Polls the sockets until one has an event, the thread is woken, or the timeout ends, if there
+    /// is one. Then delivers reminders if they are due.
     fn look(&mut self, timeout: Option<Duration>)
         ensures same { self.new ≡ self.old }
     {

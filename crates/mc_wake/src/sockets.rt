@@ -1,4 +1,4 @@
-//! The sockets of one thread's slots, and the poll in which the thread blocks.
+//! The poll of the sockets of one thread's slots, in which the thread blocks.
 
 use crate::bit_set::AtomicBitSet;
 use crate::waker::Notifier;
@@ -26,7 +26,7 @@ pub enum Readiness {
     Closing,
 }
 
-/// The poll, and the events that were not taken yet.
+/// The poll, and the events that no slot has taken yet.
 pub(crate) struct Sockets {
     poll: Poll,
     events: Events,
@@ -79,7 +79,7 @@ impl Sockets {
         !self.events.is_empty()
     }
 
-    /// Takes the last event of the socket of the slot at `place`.
+    /// Takes the last event of the socket of the slot at `place`, if there was one.
     pub(crate) fn ready(&mut self, place: usize) -> Option<Readiness> {
         self.ready.get_mut(place)?.take()
     }

@@ -36,7 +36,7 @@ impl Drop for Notifier {
     }
 }
 
-/// Wakes one thread, and records why.
+/// Wakes one thread, and records why: which slots it has to visit.
 #[derive(Drop)]
 pub(crate) struct Waker {
     pub(crate) notifier: Notifier,
@@ -52,8 +52,8 @@ pub(crate) struct Waker {
 }
 
 impl Waker {
-    /// A waker with this alarm, for a thread with `callers` callers and `places` slots, all of
-    /// which are marked ready.
+    /// A waker with this notifier, for a thread that serves `places` slots and whose shards `callers`
+    /// slots may notify. All of its slots are marked ready. Fails if memory is refused.
     pub(crate) fn new(
         alloc: Global,
         notifier: Notifier,
@@ -96,7 +96,8 @@ impl Waker {
         self.roused.take_all(&self.reminders);
     }
 
-    /// Registers a socket with the thread's poll, for the slot at `place`.
+    /// Registers a socket with the thread's poll, for the slot at `place`. `Unsupported` if the thread
+    /// blocks in a parker.
     pub(crate) fn register<S: Source>(&self, source: &mut S, place: usize) -> io::Result<()> {
         let Notifier::Sockets { registry, .. } = &self.notifier else {
             return Err(io::Error::from(io::ErrorKind::Unsupported));
@@ -112,6 +113,7 @@ impl Waker {
         }
     }
 
+    /// Wakes the thread from its parker or poll.
     fn ring(&self) {
         match &self.notifier {
             Notifier::Memory(unparker) => unparker.unpark(),

@@ -39,7 +39,7 @@ impl Drop for Wakers {
 
 impl Wakers {
     /// The wakers of these threads. Shards and slots are numbered from 0, in the order of the
-    /// threads that serve them.
+    /// threads that serve them. Fails if memory is refused.
     pub fn of(alloc: Global, pollers: &[Poller]) -> Result<Wakers, AllocError> {
         let mut all = Directory {
             threads: Vec::with_capacity(alloc, pollers.len())?,
@@ -84,8 +84,11 @@ impl Wakers {
         }
     }
 
-    /// Registers the socket, so that its events mark the slot as ready, if its thread blocks in a
-    /// poll.
+    /// Registers the socket with the poll of the slot's thread, so that its events mark the slot as
+    /// ready.
+    ///
+    /// Errors: `NotFound` if there is no such slot, `Unsupported` if its thread has no poll, or those
+    /// of epoll_ctl(2).
     pub fn register<S: Source>(&self, seat: usize, source: &mut S) -> io::Result<()> {
         match self.all.of_seat(seat) {
             Some((waker, place)) => waker.register(source, place),
