@@ -36,8 +36,8 @@ pub trait ConnectionSource {
         ensures history { history self.new ≡ history self.old };
 
     /// Ends the output of the connection that is out; call it if memory to serve it is refused.
-    /// Nothing is read or written. Returns whether the slot will be woken after a pause; if so, it may
-    /// wait until then. See docs/DECISIONS.md, N5.
+    /// Nothing is read or written. Returns whether the slot will be woken after a pause; if so, it
+    /// may wait until then. See docs/DECISIONS.md, N5.
     fn give_up(&mut self, line: &mut Self::Transport) -> bool
         ensures told { told self.new ≡ told self.old }
         ensures line { Self.Transport.sight line.new ≡ Self.Transport.sight line.old }

@@ -25,8 +25,8 @@ pub struct ClosedConnection<S: Stream, T = ()> {
     broke: bool,
 }
 
-/// Accepts the streams of one slot as connections, and closes them after they were served. Contracts
-/// see the list of closed connections; no list is kept at run time.
+/// Accepts the streams of one slot as connections, and closes them after they were served.
+/// Contracts see the list of closed connections; no list is kept at run time.
 pub struct StreamSource<R, A: Arrivals, T = ()> {
     rt: R,
     arrivals: A,
@@ -72,8 +72,8 @@ impl<R: Drop, A: Arrivals + Drop, T: Drop> Drop for StreamSource<R, A, T> {
 }
 
 impl<R: time::Clock, A: Arrivals, T: Warrant + Drop> StreamSource<R, A, T> {
-    /// A source that has accepted nothing yet, for connections of this token's history. The clock of
-    /// `rt` limits how long a connection lingers.
+    /// A source that has accepted nothing yet, for connections of this token's history. The clock
+    /// of `rt` limits how long a connection lingers.
     pub fn new(rt: R, arrivals: A, history: T, sniffs_protocol: bool) -> StreamSource<R, A, T>
         ensures history { T.name result.history ≡ T.name history }
         ensures sniff_protocol { result.sniffs_protocol ≡ sniffs_protocol }

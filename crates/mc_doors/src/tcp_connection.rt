@@ -96,8 +96,8 @@ impl<S: Stream, T: Warrant + Drop> TcpConnection<S, T> {
     }
 
     /// Such a connection with a meter; it fails once the meter reports it idle. With `is_polled`, a
-    /// poll reports its events, and it is only read after one. With `sniff_protocol`, first bytes of
-    /// another protocol end it and are left unread.
+    /// poll reports its events, and it is only read after one. With `sniff_protocol`, first bytes
+    /// of another protocol end it and are left unread.
     pub fn begin(
         stream: S,
         meter: Meter,

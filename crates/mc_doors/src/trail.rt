@@ -6,8 +6,8 @@ use http_server::Log;
 use std::io::IoSlice;
 use std::marker::Model;
 
-/// The bytes of one direction of a connection, as contracts see them. It stores nothing and takes no
-/// memory.
+/// The bytes of one direction of a connection, as contracts see them. It stores nothing and takes
+/// no memory.
 #[derive(Drop)]
 pub struct Trail {
     log: Log<u8, ()>,

@@ -99,8 +99,8 @@ impl Poller {
         Ok(Poller::asleep_in(backend, waker, spin_policy, callers, places, workers))
     }
 
-    /// A poller for a thread whose slots have sockets; it blocks in a poll of them. The arguments are
-    /// those of `new`. Fails if memory or the poll is refused.
+    /// A poller for a thread whose slots have sockets; it blocks in a poll of them. The arguments
+    /// are those of `new`. Fails if memory or the poll is refused.
     pub fn polling<R: Net>(
         rt: &R,
         alloc: Global,

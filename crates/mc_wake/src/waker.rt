@@ -52,8 +52,8 @@ pub(crate) struct Waker {
 }
 
 impl Waker {
-    /// A waker with this notifier, for a thread that serves `places` slots and whose shards `callers`
-    /// slots may notify. All of its slots are marked ready. Fails if memory is refused.
+    /// A waker with this notifier, for a thread that serves `places` slots and whose shards
+    /// `callers` slots may notify. All of its slots are marked ready. Fails if memory is refused.
     pub(crate) fn new(
         alloc: Global,
         notifier: Notifier,
@@ -96,8 +96,8 @@ impl Waker {
         self.roused.take_all(&self.reminders);
     }
 
-    /// Registers a socket with the thread's poll, for the slot at `place`. `Unsupported` if the thread
-    /// blocks in a parker.
+    /// Registers a socket with the thread's poll, for the slot at `place`. `Unsupported` if the
+    /// thread blocks in a parker.
     pub(crate) fn register<S: Source>(&self, source: &mut S, place: usize) -> io::Result<()> {
         let Notifier::Sockets { registry, .. } = &self.notifier else {
             return Err(io::Error::from(io::ErrorKind::Unsupported));

@@ -87,8 +87,8 @@ impl Wakers {
     /// Registers the socket with the poll of the slot's thread, so that its events mark the slot as
     /// ready.
     ///
-    /// Errors: `NotFound` if there is no such slot, `Unsupported` if its thread has no poll, or those
-    /// of epoll_ctl(2).
+    /// Errors: `NotFound` if there is no such slot, `Unsupported` if its thread has no poll, or
+    /// those of epoll_ctl(2).
     pub fn register<S: Source>(&self, seat: usize, source: &mut S) -> io::Result<()> {
         match self.all.of_seat(seat) {
             Some((waker, place)) => waker.register(source, place),
