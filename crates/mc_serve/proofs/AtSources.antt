@@ -32,7 +32,7 @@ use Rattle.mc_serve.proofs.Segments.{explains_seat}
 use Rattle.mc_serve.proofs.Zipped.{all_map, map_map, met_at}
 use Rattle.mc_command.specs.declared.rules.Rules.{Rules}
 
--- A seat by its number, before and after, and its lines.
+-- The slot of this number before and after the run, and the connections that it served.
 record IsSeatAt (shards : ℕ) (rules : Rules) (may_answer : ℕ → Type 0) (sats roses : List SeatAt) (number : ℕ)
     (lines : List LineTold) : Type 0 where
   sat : SeatAt
@@ -42,7 +42,7 @@ record IsSeatAt (shards : ℕ) (rules : Rules) (may_answer : ℕ → Type 0) (sa
   serves : SeatServes shards rules may_answer sat rose
   lines_are : serves.lines ≡ lines
 
--- The lines of all seats.
+-- The connections that each slot served.
 record HaveLines (shards : ℕ) (rules : Rules) (may_answer : ℕ → Type 0) (sats roses : List SeatAt) : Type 0 where
   seats : List (List LineTold)
   back : PassEach (map (λ (sat : SeatAt). sat.source) sats) seats (map (λ (rose : SeatAt). rose.source) roses)
@@ -93,29 +93,30 @@ have_lines shards rules may_answer (sat ∷ sats) (rose ∷ roses) zips =
       at = seat_here shards rules may_answer sat rose sats roses serves rest.seats rest.at;
     }
 
--- The seats as they began: their clerks are those of a history that was opened, in their order, and fit their ends.
+-- The slots at the beginning: their clerks are those of an opened history, in order, and fit their ends.
 pub record HaveBegun (sizes : Sizes) (name : Name) (sats : List SeatAt) : Type 0 where
   pub clerks : ActInOrder Seat name sizes.seats (map (λ (sat : SeatAt). sat.clerk) sats)
   pub fit : AllByRecursion (λ (sat : SeatAt). IsClerkOf sizes sat.ends sat.clerk) sats
 
--- The seats as they are once their channels are closed: each clerk knows the routes of its seat's channels.
+-- The slots at the end, with all channels closed: each clerk knows the routes of its slot's channels.
 pub record HaveEnded (roses : List SeatAt) : Type 0 where
   pub actors : AllByRecursion (λ (rose : SeatAt). IsSeatActor rose.clerk) roses
   pub routes : AllByRecursion (λ (rose : SeatAt). AreOnRoutes (route_from rose.clerk) rose.ends) roses
 
--- the ends are those of the seat before
+-- the ends are those of the slot before
 seat_same : (shards : ℕ) (rules : Rules) (may_answer : ℕ → Type 0) (sat rose : SeatAt)
     → SeatServes shards rules may_answer sat rose → AreSameEnds sat.ends rose.ends
 seat_same shards rules may_answer sat rose serves =
     same_ends-trans sat.ends serves.served rose.ends
     (lines_same shards rules may_answer serves.lines sat.ends serves.served serves.lines_are) serves.closed.same
 
--- The clerk of a seat is that of its number, in this history.
+-- The clerk is that of slot `number` in this history.
 record IsClerkAt (name : Name) (number : ℕ) (clerk : Acting) : Type 0 where
   name_is : clerk.name ≡ name
   role_is : clerk.role ≡ Seat number
 
--- A clerk that knows the routes of a seat's channels is that of the clerk's slot and history that knew them before.
+-- A slot's clerk at the end is of the slot and the history of the clerk at the beginning, since both know the routes of
+-- its channels.
 same_clerk : (sizes : Sizes) (name : Name) (number : ℕ) (sat rose : SeatAt) → 0 < sizes.shards
     → IsClerkOf sizes sat.ends sat.clerk → sat.clerk ≡ record { name = name; role = Seat number; events = [] }
     → AreSameEnds sat.ends rose.ends → IsSeatActor rose.clerk → AreOnRoutes (route_from rose.clerk) rose.ends
@@ -139,7 +140,7 @@ same_clerk sizes name number sat rose some fit is same actor routes =
           ∙ ap Seat (sym (ap (λ (r : Route). r.seat) route) ∙ ap (λ (a : Acting). seat_of a.role) is);
     }
 
--- All seats, from their beginning to their end.
+-- All slots, from the beginning of the run to its end.
 module _ (sizes : Sizes) (name : Name) (may_answer : ℕ → Type 0) (sats roses : List SeatAt) (some : 0 < sizes.shards)
     (begun : HaveBegun sizes name sats) (served : Zips (SeatServes sizes.shards (rules_of sizes) may_answer) sats roses)
     (ended : HaveEnded roses) where
@@ -160,13 +161,13 @@ module _ (sizes : Sizes) (name : Name) (may_answer : ℕ → Type 0) (sats roses
       (all_at (λ (rose : SeatAt). IsSeatActor rose.clerk) roses number rose ended.actors here)
       (all_at (λ (rose : SeatAt). AreOnRoutes (route_from rose.clerk) rose.ends) roses number rose ended.routes here)
 
-  -- Each clerk is still of the history that was opened.
+  -- Each clerk at the end is of the opened history.
   pub names_kept : AllByRecursion (λ (rose : SeatAt). rose.clerk.name ≡ name) roses
   names_kept =
       all_from (λ (rose : SeatAt). rose.clerk.name ≡ name) roses
       (λ number rose here. (clerk_at number rose here).name_is)
 
-  -- A history that has all that the clerks recorded explains the lines of all sources.
+  -- A history with all that the clerks recorded explains the connections of all sources.
   pub serves_sources : name.sizes ≡ sizes → (shown : Shown) → IsHistory sizes shown.events
       → AllByRecursion (λ (rose : SeatAt). IsWholeIn shown.events rose.clerk) roses
       → ServesSources sizes may_answer (map (λ (sat : SeatAt). sat.source) sats)
@@ -196,10 +197,10 @@ module _ (sizes : Sizes) (name : Name) (may_answer : ℕ → Type 0) (sats roses
             (all_at (λ (rose : SeatAt). IsWholeIn events rose.clerk) roses number at.rose whole at.at_rose));
       }
 
--- What is known of the seats is so of whatever holds the sources: seats before and after.
+-- These facts for any records that hold the slots' sources: `before` and `after` the run.
 module _ {S D : Type 0} (sizes : Sizes) (name : Name) (may_answer : ℕ → Type 0) (before after : List S)
     (sources : List D) (at : S → SeatAt) (source_of : S → D) (told : D → SourceTold) where
-  -- what is known once all are started and joined
+  -- the facts after all threads were started and joined
   pub record AreJoined : Type 0 where
     pub seen : (seat : S) → told (source_of seat) ≡ (at seat).source
     pub sources_are : map source_of before ≡ sources
@@ -224,7 +225,7 @@ module _ {S D : Type 0} (sizes : Sizes) (name : Name) (may_answer : ℕ → Type
         routes = all_map (λ (rose : SeatAt). AreOnRoutes (route_from rose.clerk) rose.ends) at after known.routes;
       }
 
-  -- The clerks are of the history that was opened.
+  -- The clerks at the end are of the opened history.
   pub names_are : 0 < sizes.shards → AreJoined
       → AllByRecursion (λ (clerk : Acting). clerk.name ≡ name) (map (λ seat. (at seat).clerk) after)
   names_are some known =
@@ -240,8 +241,7 @@ module _ {S D : Type 0} (sizes : Sizes) (name : Name) (may_answer : ℕ → Type
       ap (λ d. d ∷ map (λ (s : SeatAt). s.source) (map at seats)) (sym (known.seen seat))
       ∙ ap (λ ds. told (source_of seat) ∷ ds) (seen_all known seats)
 
-  -- All sources are served where each seat served its own, a history has all that the clerks recorded, and the sources
-  -- came back.
+  -- All sources are served if each slot served its own, and a history has all that the clerks recorded.
   pub all_sources : 0 < sizes.shards → name.sizes ≡ sizes → AreJoined → (shown : Shown) → IsHistory sizes shown.events
       → AllByRecursion (λ (clerk : Acting). IsWholeIn shown.events clerk) (map (λ seat. (at seat).clerk) after)
       → (back : List D) → back ≡ map source_of after

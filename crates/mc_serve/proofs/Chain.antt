@@ -1,4 +1,4 @@
--- The lines of a seat, one after another.
+-- The connections of a slot, one after another.
 use Rattle.std.proofs.Common.{◌≡◌, ℕ, Bool, List, [], ◌∷◌, ◌++◌, map, Option, Some, None, refl, sym, ap, subst}
 use Rattle.std.proofs.Common.{◌∙◌, append_assoc, append-nil}
 use Rattle.mc_wire.specs.Sink.{Sight}
@@ -12,7 +12,7 @@ use Rattle.mc_doors.specs.Told.{took_back}
 use Rattle.mc_serve.specs.Seats.{SeatAt, ServesSourceLine, ServesLines}
 use Rattle.mc_command.specs.declared.rules.Rules.{Rules}
 
--- Where a source is as it was, no line came in and went back.
+-- A source that is unchanged has accepted and taken back no connection.
 pub passes_none : (source : SourceTold) → Passes source [] source
 passes_none TellsNothing = refl
 passes_none (TellsLines None out back over) =
@@ -45,7 +45,7 @@ come_more line lines (Some before) rest out back over comes next =
     λ xs. Comes (Some before) (map (λ (l : LineTold). l.begin) (lines ++ line ∷ [])) (later xs) in
     subst Q (sym comes.2) (come_left line lines before comes.0 out back over comes.1 (subst P comes.2 next))
 
--- One line more came in, and went back.
+-- One more connection was accepted and taken back.
 pub passes_more : (first now accepted last : SourceTold) (lines : List LineTold) (line : LineTold) → IsFree first
     → Passes first lines now → IsNext line.begin now → accepted ≡ let_in line.begin now → last
     ≡ took_back line.now line.commands line.broke accepted → Passes first (lines ++ line ∷ []) last
@@ -65,7 +65,7 @@ passes_more (TellsLines coming out told over) now accepted last lines line free 
     )
 
 module _ (shards : ℕ) (rules : Rules) (may_answer : ℕ → Type 0) where
-  -- Serving lines one after another leaves a seat with the same ends.
+  -- A slot keeps its ends while it serves connections.
   pub lines_same : (lines : List LineTold) (before after : Ends Near)
       → ServesLines shards rules may_answer lines before after → AreSameEnds before after
   lines_same [] before after are = let P : Ends Near → Type 0 =
@@ -80,13 +80,13 @@ module _ (shards : ℕ) (rules : Rules) (may_answer : ℕ → Type 0) where
       λ ends. ServesSourceLine shards rules may_answer line ends last in (last, subst P are this, refl)
   lines_more (l ∷ lines) line first now last are this = (are.0, are.1, lines_more lines line are.0 now last are.2 this)
 
-  -- One line more was served.
+  -- The connections of a slot, with one more that was served.
   pub record OneMore (sat rose : SeatAt) : Type 0 where
     pub lines : List LineTold
     pub source : Passes sat.source lines rose.source
     pub lines_are : ServesLines shards rules may_answer lines sat.ends rose.ends
 
-  -- A line that is served once those before it were, and then taken back, is one more line that the seat served.
+  -- A connection that is served after those before it, and then taken back, is one more that the slot served.
   pub one_more : (sat rose : SeatAt) (lines : List LineTold) (line : LineTold) (before source : SourceTold)
       (ends : Ends Near) → IsFree sat.source → Passes sat.source lines before
       → IsNext line.begin before → source ≡ let_in line.begin before

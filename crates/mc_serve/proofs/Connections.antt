@@ -25,7 +25,7 @@ use Rattle.mc_model.proofs.Lists.{all_from}
 use Rattle.mc_threads.proofs.Orders.{map_one}
 use Rattle.mc_serve.proofs.Zipped.{map_map}
 
--- bytes that a trace lists
+-- the bytes of a trace that lists them
 of_trace : Trace → Option (List ℕ)
 of_trace Untold = None
 of_trace (Counted count) = None
@@ -36,7 +36,7 @@ unfolding of_trace
 of_trace-of None = refl
 of_trace-of (Some bytes) = refl
 
--- Bytes of which the trace is the same are the same.
+-- Equal traces list equal bytes.
 bytes_same : (these those : Option (List ℕ)) → trace_of these ≡ trace_of those → these ≡ those
 bytes_same these those same = sym (of_trace-of these) ∙ (ap of_trace same ∙ of_trace-of those)
 
@@ -49,7 +49,7 @@ first_note None = untold
 first_note (Some []) = untold
 first_note (Some (note ∷ notes)) = note
 
--- A line's notes are those before, and then some.
+-- A connection's notes begin with those that it had before.
 pub record KeepsNotes (line : LineTold) : Type 0 where
   reads : List Read
   are : line.now.reads ≡ with_reads line.begin.reads reads
@@ -64,7 +64,7 @@ notes_kept sizes may_answer (line ∷ lines) (history ∷ histories) zips = (
   notes_kept sizes may_answer lines histories zips.1,
 )
 
--- A connection that came in over this stream was over it to the end.
+-- A connection that was accepted over this stream was served over it until its end.
 is_served : {S T : Type 0} {g : Ghosts S} (stream : S) (one : ClosedConnection S T g)
     → new_line (g.remaining stream) (g.contents stream) ≡ (gone_line one).begin → KeepsNotes (gone_line one)
     → IsServed stream one
@@ -93,7 +93,7 @@ rest_of : List Sight → List Sight
 rest_of [] = []
 rest_of (line ∷ lines) = lines
 
--- All streams of a seat were served so.
+-- All streams of a slot were served.
 all_served : {S T : Type 0} {g : Ghosts S} (streams : List S) (gone : List (ClosedConnection S T g × Unit {0}))
     → map (λ stream. new_line (g.remaining stream) (g.contents stream)) streams
     ≡ map (λ line. line.begin) (gone_lines gone) → AllByRecursion KeepsNotes (gone_lines gone)
@@ -107,7 +107,7 @@ all_served (stream ∷ streams) (one ∷ gone) came kept = (
   all_served streams gone (ap rest_of came) kept.1,
 )
 
--- Each connection was over its own stream.
+-- Each connection was served over the stream with which it was accepted.
 pub all_own : {S T : Type 0} {g : Ghosts S} (gone : List (ClosedConnection S T g × Unit {0})) → AreServed None gone
 all_own [] = tt
 all_own (one ∷ gone) = (record { gave = one.0.line.value.tap.gave; took = one.0.line.value.tap.took }, all_own gone)
@@ -117,7 +117,7 @@ own_seats : {S T : Type 0} {g : Ghosts S} (seats : List (List (ClosedConnection 
 own_seats [] = tt
 own_seats (gone ∷ seats) = (all_own gone, own_seats seats)
 
--- What came in by a new source is what went back.
+-- A source that began new has taken back exactly the connections that it accepted.
 record IsAllBack (coming : Option (List Sight)) (lines : List LineTold) (after : SourceTold) : Type 0 where
   rest : Option (List Sight)
   back : after ≡ TellsLines rest None lines true
@@ -135,7 +135,7 @@ all_back coming lines after all =
       done = let D : SourceTold → Type 0 = λ source. IsDone source in subst D is all.done;
     }
 
--- Where no more come, all that were to come did.
+-- If no more streams come, all that were to come have come.
 all_came : (coming lines : List Sight) (rest : Option (List Sight)) (back : List LineTold)
     → Comes (Some coming) lines rest → IsDone (TellsLines rest None back false) → coming ≡ lines
 all_came coming lines rest back comes done =
@@ -151,12 +151,12 @@ seat_served {g = g} (Some streams) gone after all kept =
     all_served streams gone (all_came (map (λ stream. new_line (g.remaining stream) (g.contents stream)) streams)
     (map (λ line. line.begin) (gone_lines gone)) all.rest (gone_lines gone) all.comes all.done) kept
 
--- the lines that went back to a source
+-- the connections that were returned to a source
 back_lines : SourceTold → List LineTold
 back_lines TellsNothing = []
 back_lines (TellsLines coming out back over) = back
 
--- Sources of streams, and what is known of each.
+-- Sources of streams before and after the run.
 module _ {S A D : Type 0} {g : Ghosts S} (coming : A → Option (List S)) (coming_by : D → Option (List S))
     (out : D → Option (Snapshot (TcpConnection S Shown g))) (gone : D → List (ClosedConnection S Shown g × Unit {0}))
     (over : D → Bool) where
@@ -166,7 +166,7 @@ module _ {S A D : Type 0} {g : Ghosts S} (coming : A → Option (List S)) (comin
   abbrev fresh : A → SourceTold
   fresh one = new_source g.remaining g.contents (coming one)
 
-  -- What the seats' lines are, and that they were served.
+  -- The connections of each slot are those of its source, and were served.
   record AreSeats (arrivals : List A) (seats : List (List LineTold)) (back : List D) : Type 0 where
     lines : seats ≡ map (λ source. gone_lines (gone source)) back
     count : length back ≡ length arrivals
@@ -198,7 +198,7 @@ module _ {S A D : Type 0} {g : Ghosts S} (coming : A → Option (List S)) (comin
             );
       }
 
-  -- how many went back to all sources
+  -- The number of connections that were returned to all sources.
   pub all_gone : (back : List D) → gone_count (map told back) ≡ how_many (map gone back)
   all_gone [] = refl
   all_gone (source ∷ back) =
@@ -214,14 +214,14 @@ module _ {S A D : Type 0} {g : Ghosts S} (coming : A → Option (List S)) (comin
   all_untold [] all = tt
   all_untold (source ∷ sources) all = (all.0, all_untold sources all.1)
 
-  -- No connection is out of a new source.
+  -- A new source has accepted no connection.
   pub all_free : (sources : List D) (arrivals : List A) → map told sources ≡ map fresh arrivals
       → AllByRecursion (λ source. IsFree (told source)) sources
   all_free sources arrivals same =
       let F : List SourceTold → Type 0 = λ tolds. AllByRecursion IsFree tolds in
       all_untold sources (subst F (sym same) (all_fresh arrivals))
 
-  -- as many sources as arrivals
+  -- There are as many sources as arrivals.
   pub as_many : (sources : List D) (arrivals : List A) → map told sources ≡ map fresh arrivals → length sources
       ≡ length arrivals
   as_many sources arrivals same = sym (length-map sources told) ∙ (ap length same ∙ length-map arrivals fresh)
@@ -263,7 +263,7 @@ module _ {S A D : Type 0} {g : Ghosts S} (coming : A → Option (List S)) (comin
         streams = subst Z (sym are) (seats.served kept);
       }
 
-  -- All connections are served and explained, by what is known of the sources.
+  -- All connections are served and explained, from the facts about the sources.
   pub joined : (sizes : Sizes) (may_answer : ℕ → Type 0) (arrivals : List A) (sources back : List D)
       (served : Outcome S g) → map told sources ≡ map fresh arrivals
       → ServesSources (record sizes { seats = length sources }) may_answer (map told sources) (map told back)
@@ -277,18 +277,18 @@ module _ {S A D : Type 0} {g : Ghosts S} (coming : A → Option (List S)) (comin
       (subst (λ before. P (length sources) before) same serves) in
       all_connections (record sizes { seats = length arrivals }) may_answer arrivals back served refl all got.0 got.1
 
--- One source more is counted, where each count stays at its greatest value.
+-- The saturating count, with one more source.
 pub count_more : (ended next one gone rest left all : ℕ) → next ≡ min (ended + one) (2 ^ 64 - 1) → one
     ≡ min gone (2 ^ 64 - 1) → left ≡ gone + rest → min (ended + left) (2 ^ 64 - 1) ≡ all
     → min (next + rest) (2 ^ 64 - 1) ≡ all
 count_more ended next one gone rest left all next_is one_is left_is same = omega (arith, next_is, one_is, left_is, same)
 
--- Where no lines are left to count, a count that is at most 2^64 - 1 is the count of all.
+-- If no connections are left to count, a count of at most 2^64 - 1 is the count of all.
 pub count_all : (ended left all : ℕ) → ended ≤ 2 ^ 64 - 1 → left ≡ 0 → min (ended + left) (2 ^ 64 - 1) ≡ all → ended
     ≡ all
 count_all ended left all within none same = omega (arith, within, none, same)
 
--- One more is noted of those that are left.
+-- One more of those that are left is listed.
 pub note_more : {A B D : Type 0} (f : A → B) (h : D → B) (old new : List A) (one : A) (source : D) (left rest : List D)
     (all : List B) → new ≡ old ++ one ∷ [] → f one ≡ h source → left ≡ source ∷ rest → map f old ++ map h left ≡ all
     → map f new ++ map h rest ≡ all

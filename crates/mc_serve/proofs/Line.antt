@@ -1,4 +1,4 @@
--- One line, once all workers are joined and its seat is tied to each of them.
+-- The log of one connection, taken from the logs of the shards.
 use Rattle.std.proofs.Common.{◌≡◌, ℕ, ◌==◌, inl, inr, Bool, true, false, cond, List, [], ◌∷◌, map}
 use Rattle.std.proofs.Common.{refl, sym, ap, ◌∙◌}
 use Rattle.std.specs.List.{AllByRecursion}
@@ -9,11 +9,11 @@ use Rattle.mc_conn.specs.Due.{Ran}
 use Rattle.mc_model.specs.Log.{Entry, of_asker, on_shard}
 use Rattle.mc_model.proofs.Alone.{ran_of}
 
--- what was run, for a line
+-- the log of a connection, from the operations that were run
 abbrev pub entry_for : ℕ → Ran → Entry
 entry_for asker ran = record { shard = ran.shard; asker = asker; piece = ran.piece; answer = ran.answer }
 
--- A log of what one line asked is the same once who asked was left out and that line put back.
+-- A log of one asker's operations doesn't change if the asker is left out and added again.
 pub same_asker : (asker : ℕ) (log : List Entry) → AllByRecursion (λ entry. entry.asker ≡ asker) log
     → map (entry_for asker) (map ran_of log) ≡ log
 same_asker asker [] all = refl
@@ -22,7 +22,7 @@ same_asker asker (entry ∷ log) all =
     λ i. record { shard = entry.shard; asker = sym all.0 i; piece = entry.piece; answer = entry.answer } in
     ap (λ e. e ∷ map (entry_for asker) (map ran_of log)) this ∙ ap (λ es. entry ∷ es) (same_asker asker log all.1)
 
--- What a log has for a line was asked by that line.
+-- All entries that `of_asker` picks have that asker.
 pub asked_by : (asker : ℕ) (log : List Entry) → AllByRecursion (λ entry. entry.asker ≡ asker) (of_asker asker log)
 asked_by asker [] = tt
 asked_by asker (entry ∷ log) = elim (eqb_tells entry.asker asker) [
@@ -30,7 +30,7 @@ asked_by asker (entry ∷ log) = elim (eqb_tells entry.asker asker) [
   | inr other ↦ rw other.0 (asked_by asker log)
 ]
 
--- What a log has of a shard was run by that shard.
+-- All entries that `on_shard` picks are of that shard.
 pub shard_of : (shard : ℕ) (log : List Entry) → AllByRecursion (λ entry. entry.shard ≡ shard) (on_shard shard log)
 shard_of shard [] = tt
 shard_of shard (entry ∷ log) = elim (eqb_tells entry.shard shard) [
@@ -38,7 +38,7 @@ shard_of shard (entry ∷ log) = elim (eqb_tells entry.shard shard) [
   | inr other ↦ rw other.0 (shard_of shard log)
 ]
 
--- What holds of all entries of a log holds of those that are picked out of it.
+-- What is true of all entries of a log is true of those that are picked from it.
 pub filter_keeps : (P : Entry → Type 0) (p : Entry → Bool) (log : List Entry) → AllByRecursion P log
     → AllByRecursion P (filter p log)
 filter_keeps P p [] all = tt
@@ -48,7 +48,7 @@ filter_keeps P p (entry ∷ log) all =
       | false ↦ filter_keeps P p log all.1
     ]
 
--- What a shard ran is the same whether it is picked out before or after it is written down who asked.
+-- To pick a shard's entries commutes with adding the asker.
 pub map_on_shard : (shard asker : ℕ) (ran : List Ran) → on_shard shard (map (entry_for asker) ran)
     ≡ map (entry_for asker) (due.on_shard shard ran)
 map_on_shard shard asker [] = refl
@@ -61,7 +61,7 @@ map_on_shard shard asker (one ∷ ran) =
       | false ↦ map_on_shard shard asker ran
     ]
 
--- What one shard ran is that shard's, where who asked is left out too.
+-- All operations that `on_shard` picks are of that shard, also without askers.
 pub ran_shards : (shard : ℕ) (log : List Entry) → AllByRecursion (λ entry. entry.shard ≡ shard) log
     → AllByRecursion (λ (ran : Ran). ran.shard ≡ shard) (map ran_of log)
 ran_shards shard [] all = tt

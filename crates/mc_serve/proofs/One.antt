@@ -1,4 +1,4 @@
--- Lines that came in by a source each.
+-- Lines in memory, each with a source of its own.
 use Rattle.std.proofs.Common.{◌≡◌, ℕ, suc, ◌<◌, true, List, [], ◌∷◌, ◌++◌, length, map, Some, None, refl, sym, ap}
 use Rattle.std.proofs.Common.{subst, ◌∙◌, append-nil}
 use Rattle.std.specs.List.{AllByRecursion, flat_map, slice_get}
@@ -17,7 +17,7 @@ use Rattle.mc_serve.specs.Served.{ExplainsHistory, PassEach, PassesAll, ServesSo
 use Rattle.mc_doors.specs.One.{IsBack, waits}
 use Rattle.mc_ring.proofs.Lists.{get_map}
 
--- the one line of a source that waited and was served
+-- The single line of a source, which waited and was served.
 one_line : (line : Sight) (lines : List LineTold) (source : SourceTold) (back : CameBack)
     → PassesAll (waits line) lines source → IsBack source back.line back.commands back.broke → lines
     ≡ record { begin = line; now = back.line; commands = back.commands; broke = back.broke } ∷ []
@@ -111,7 +111,7 @@ pub same_count : {A C : Type 0} (told : A → SourceTold) (sight : C → Sight) 
 same_count told sight sources lines same =
     sym (length-map sources told) ∙ (ap length same ∙ length-map lines (λ line. waits (sight line)))
 
--- What is known of the sources is so of whatever holds the lines.
+-- These facts for any records that hold the lines.
 pub over_all : {A B C : Type 0} (sizes_at : ℕ → Sizes) (may_answer : ℕ → Type 0) (told : A → SourceTold)
     (came : B → CameBack) (sight : C → Sight) (lines : List C) (sources back : List A) (report : List B)
     (shown : Shown)
@@ -128,7 +128,7 @@ over_all sizes_at may_answer told came sight lines sources back report shown sam
     (zips_seen back report (λ (source : SourceTold) (one : CameBack). IsBack source one.line one.commands one.broke)
     told came zips)
 
--- Where every line waits, no line is out.
+-- If every line waits, no line is out.
 pub all_free : {A C : Type 0} (told : A → SourceTold) (sight : C → Sight) (sources : List A) (lines : List C)
     → map told sources ≡ map (λ line. waits (sight line)) lines
     → AllByRecursion (λ source. IsFree (told source)) sources

@@ -1,4 +1,4 @@
--- The seats of one thread, and of all threads.
+-- The slots of one thread, and those of all threads.
 use Rattle.std.proofs.Common.{◌≡◌, ◌≤◌, ◌+◌, ℕ, List, [], ◌∷◌, ◌++◌, length, map, take, Some, refl, sym, ap, subst, ◌∙◌}
 use Rattle.std.proofs.Common.{append_assoc, append-nil}
 use Rattle.std.specs.List.{AllByRecursion, flat_map, slice_get}
@@ -30,7 +30,7 @@ use Rattle.mc_command.specs.declared.rules.Rules.{Rules}
 use Rattle.mc_threads.specs.Session.{seat_clerk, seat_ends}
 use Rattle.mc_ring.proofs.Lists.{all_append}
 
--- The state of a seat, by the history of its source, its session and its phase.
+-- The invariant of a slot that is any record, by functions for its source, its session and its state.
 abbrev pub Stands : {S L : Type 0} {T : Type 0} {w : Warrants T} {g : Ghosts Acting T} → (L → Place) → (L → Sight)
     → (S → SourceTold) → (S → Session T Acting w g) → (S → SlotState L) → ℕ → Rules → (ℕ → Type 0) → SeatAt → S
     → Type 0
@@ -41,7 +41,7 @@ abbrev pub at : {S : Type 0} {T : Type 0} {w : Warrants T} {g : Ghosts Acting T}
     → (S → Session T Acting w g) → S → SeatAt
 at told session one = seat_at (told one) (seat_ends (session one)) (seat_clerk (session one))
 
--- The seats of a thread are before their first step, so they are as they began.
+-- New slots satisfy the invariant.
 pub seats_begin : {S L : Type 0} {T : Type 0} {w : Warrants T} {g : Ghosts Acting T} (seats : List S)
     (place : L → Place)
     (sight : L → Sight)
@@ -60,7 +60,7 @@ seats_begin {S} {L} (one ∷ seats) place sight told session now shards rules ma
       seats_begin seats place sight told session now shards rules may_answer all.1,
     )
 
--- All channels were closed, so they have served.
+-- Slots whose channels are all closed have served their sources.
 pub seats_over : {S L : Type 0} {T : Type 0} {w : Warrants T} {g : Ghosts Acting T} (seats : List S)
     (sats : List SeatAt)
     (place : L → Place) (sight : L → Sight) (told : S → SourceTold) (session : S → Session T Acting w g)
@@ -76,7 +76,7 @@ seats_over {S} {L} (one ∷ seats) (sat ∷ sats) place sight told session now s
     let P : SlotState L → Type 0 = λ p. SeatStands place sight shards rules may_answer sat (told one) (session one) p in
     (subst P all.0 zips.0, seats_over seats sats place sight told session now shards rules may_answer all.1 zips.1)
 
--- The seat at a place may be stepped, once it is what it became.
+-- The slot at an index may be stepped, also after it has changed, if the invariant was kept.
 pub seat_steps : {S L : Type 0} {T : Type 0} {w : Warrants T} {g : Ghosts Acting T} (seats : List S)
     (sats : List SeatAt)
     (number : ℕ)
@@ -92,14 +92,14 @@ seat_steps seats sats number one next place sight told session now shards rules 
     let met = met_at (Stands place sight told session now shards rules may_answer) sats seats number one zips here in
     can_step shards rules may_answer place sight met.one (told next) (session next) (now next) (became met.one met.met)
 
--- One more of them was looked at.
+-- What is true of the first elements and of the next one is true of one element more.
 pub all_next : {A : Type 0} (xs : List A) (P : A → Type 0) (place : ℕ) (x : A) → slice_get xs place ≡ Some x → P x
     → AllByRecursion P (take place xs) → AllByRecursion P (take (place + 1) xs)
 all_next {A} xs P place x here this all =
     let Q : List A → Type 0 = λ ys. AllByRecursion P ys in
     subst Q (sym (take_next place xs x here)) (all_append P (take place xs) (x ∷ []) all (this, tt))
 
--- All were looked at.
+-- What is true of at least as many elements as there are is true of all.
 pub all_taken : {A : Type 0} (xs : List A) (P : A → Type 0) (count : ℕ) → length xs ≤ count
     → AllByRecursion P (take count xs) → AllByRecursion P xs
 all_taken {A} xs P count whole all = let Q : List A → Type 0 =
@@ -110,7 +110,7 @@ all_split : {A : Type 0} (first rest : List A) (P : A → Type 0) → AllByRecur
 all_split [] rest P all = (tt, all)
 all_split (x ∷ first) rest P all = let others = all_split first rest P all.1 in ((all.0, others.0), others.1)
 
--- Lists in lists: the seats, or the workers, of all parts.
+-- Lists in lists: the slots, or the workers, of all reactors.
 flat_one : {P A : Type 0} (parts : List P) (own : P → List A) (part : P) → flat_map own (parts ++ part ∷ [])
     ≡ flat_map own parts ++ own part
 flat_one [] own part = append-nil (own part)
@@ -118,7 +118,7 @@ flat_one (first ∷ parts) own part =
     ap (λ xs. own first ++ xs) (flat_one parts own part)
     ∙ sym (append_assoc (own first) (flat_map own parts) (own part))
 
--- One part more took the first of those that were left.
+-- One more reactor took the first of those that were left.
 pub flat_more : {P A : Type 0} (parts parts' : List P) (own : P → List A) (part : P) (taken rest left all : List A)
     → parts' ≡ parts ++ part ∷ [] → own part ≡ taken → taken ++ rest ≡ left → flat_map own parts ++ left ≡ all
     → flat_map own parts' ++ rest ≡ all
@@ -129,7 +129,7 @@ flat_more parts parts' own part taken rest left all grown mine took was =
     ∙ (ap (λ xs. flat_map own parts ++ (xs ++ rest)) mine
     ∙ (ap (λ xs. flat_map own parts ++ xs) took ∙ was))))
 
--- One part more was taken apart.
+-- One more reactor was taken apart.
 pub flat_next : {P A : Type 0} (done done' mine : List A) (own : P → List A) (part : P) (left left' : List P)
     (all : List A) → done' ≡ done ++ mine → mine ≡ own part → left ≡ part ∷ left' → done ++ flat_map own left ≡ all
     → done' ++ flat_map own left' ≡ all
@@ -139,19 +139,19 @@ flat_next done done' mine own part left left' all grown is step was =
     ∙ (ap (λ xs. done ++ (xs ++ flat_map own left')) is
     ∙ (ap (λ ps. done ++ flat_map own ps) (sym step) ∙ was)))
 
--- What holds of some of the list under some sizes holds of them by other names.
+-- What is true of all elements of a list under some sizes is true under equal sizes, for an equal list.
 pub all_renamed : {A Z : Type 0} (xs ys : List A) (sizes sizes' : Z) (Q : Z → A → Type 0) → sizes' ≡ sizes → ys ≡ xs
     → AllByRecursion (Q sizes) xs → AllByRecursion (Q sizes') ys
 all_renamed {A} {Z} xs ys sizes sizes' Q same same' all =
     let P : Z → List A → Type 0 = λ z zs. AllByRecursion (Q z) zs in
     subst (λ z. P z ys) (sym same) (subst (P sizes) (sym same') all)
 
--- All parts were taken apart.
+-- All reactors were taken apart.
 pub flat_last : {P A : Type 0} (done : List A) (own : P → List A) (left : List P) (all : List A) → left ≡ [] → done
     ++ flat_map own left ≡ all → done ≡ all
 flat_last done own left all none was = sym (append-nil done) ∙ (ap (λ ps. done ++ flat_map own ps) (sym none) ∙ was)
 
--- What holds of all holds of the first of them, and of the rest.
+-- What is true of all elements is true of the first ones and of the rest.
 pub all_parted : {A : Type 0} (first rest all : List A) (P : A → Type 0) → first ++ rest ≡ all → AllByRecursion P all
     → AllByRecursion P first × AllByRecursion P rest
 all_parted {A} first rest all P are holds = let Q : List A → Type 0 =
@@ -161,7 +161,7 @@ map_append : {A B : Type 0} (f : A → B) (xs ys : List A) → map f (xs ++ ys) 
 map_append f [] ys = refl
 map_append f (x ∷ xs) ys = ap (λ zs. f x ∷ zs) (map_append f xs ys)
 
--- What holds part by part of what the parts serve, element by element, holds of all.
+-- If the slots of each reactor are related pair by pair, so are those of all.
 pub zips_flat : {P A B : Type 0} (parts parts' : List P) (own : P → List A) (f : A → B) (R : B → B → Type 0)
     → Zips (λ part part'. Zips R (map f (own part)) (map f (own part'))) parts parts'
     → Zips R (map f (flat_map own parts)) (map f (flat_map own parts'))
@@ -176,7 +176,7 @@ zips_flat {P} {A} {B} (part ∷ parts) (part' ∷ parts') own f R zips =
     (zips_append R (map f (own part)) (map f (own part')) (map f (flat_map own parts)) (map f (flat_map own parts'))
     zips.0 (zips_flat parts parts' own f R zips.1)))
 
--- The parts of all threads are joined.
+-- The facts about all slots, after the reactors of all threads are joined.
 pub parts_joined : {P S D : Type 0} (thread_group parts : List P) (sources : List D) (own : P → List S)
     (at : S → SeatAt) (source_of : S → D) (told : D → SourceTold) (sizes : Sizes) (name : Name)
     (may_answer : ℕ → Type 0)

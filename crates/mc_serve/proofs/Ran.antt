@@ -1,4 +1,4 @@
--- What the shards ran for a slot, by a history that has all that the slot's clerk recorded.
+-- What the shards ran for a slot, from a history with all that the slot's clerk recorded.
 use Rattle.std.proofs.Common.{◌≡◌, ℕ, zero, suc, ◌<◌, ◌==◌, true, false, cond, List, [], ◌∷◌, ◌++◌, length, map}
 use Rattle.std.proofs.Common.{refl, sym, ap, subst, ◌∙◌, ◌+◌, arith, append-nil, length-append}
 use Rattle.std.specs.Prelude.{slice_index_or}
@@ -34,12 +34,12 @@ use Rattle.mc_serve.specs.Seats.{HasRecorded}
 use Rattle.mc_serve.specs.Served.{log_by}
 use Rattle.mc_serve.proofs.Zipped.{empty_when, map_map}
 
--- The pieces asked are those that were run, and the replies are theirs.
+-- These pieces were run, in this order, with these replies.
 pub record AreRun (asked : List Piece) (got : List Shown) (log : List Entry) : Type 0 where
   pub pieces : asked ≡ pieces_in log
   pub replies : got ≡ replies_in log
 
--- Requests of the same pieces are of the same pieces.
+-- Lists of requests with the same pieces in the same order have equal lists of pieces.
 same_pieces : (xs ys : List Piece) → map request.Piece xs ≡ map request.Piece ys → xs ≡ ys
 same_pieces [] [] e = refl
 same_pieces [] (y ∷ ys) e = absurd (cc)
@@ -49,7 +49,7 @@ same_pieces (x ∷ xs) (y ∷ ys) e =
     let tail : xs ≡ ys = same_pieces xs ys (cc) in
     ap (λ z. z ∷ xs) head ∙ ap (λ zs. y ∷ zs) tail
 
--- As many were received as were given.
+-- A prefix that is as long as the list is the list.
 same_replies : (xs ys rest : List Shown) → xs ++ rest ≡ ys → length xs ≡ length ys → xs ≡ ys
 same_replies [] [] rest e h = refl
 same_replies [] (y ∷ ys) rest e h = absurd (omega arith)
@@ -59,7 +59,7 @@ same_replies (x ∷ xs) (y ∷ ys) rest e h =
     let tail : xs ≡ ys = same_replies xs ys rest (cc) (omega arith) in
     ap (λ z. z ∷ xs) head ∙ ap (λ zs. y ∷ zs) tail
 
--- The entries of a shard keep their shard where slots take the place of connections.
+-- Entries keep their shards if slots replace the connections.
 seated_shard : (shard : ℕ) (seats : List ℕ) (log : List Entry) → on_shard shard (map (seated seats) log)
     ≡ map (seated seats) (on_shard shard log)
 seated_shard shard seats [] = refl
@@ -91,7 +91,7 @@ owned_all shards count seats [] within all = tt
 owned_all shards count seats (entry ∷ log) within all =
     ((all.0.0, seat_within seats count entry.asker within all.0.1), owned_all shards count seats log within all.1)
 
--- What the shards ran in a lawful history is lawful, and for slots that are there.
+-- In a lawful history, what the shards ran is a lawful log, and only for slots that exist.
 pub lawful_log : (sizes : Sizes) (events : List Event) → IsHistory sizes events
     → IsLogOfLines sizes sizes.seats (log_by events)
 lawful_log sizes events lawful =
@@ -132,7 +132,7 @@ module _ (sizes : Sizes) (seat : ℕ) (clerk : Acting) (events : List Event) (si
             ∙ ap (λ rs. rs ++ replies_in grows.0) (sym is)),
       )
 
-  -- The log of the history has just what the shard ran on the slot's channel.
+  -- The history's log of a slot at a shard is exactly what that shard ran on their channel.
   channel_log : (shard : ℕ) → of_asker seat (on_shard shard (log_by events))
       ≡ map (seated (seats_in events)) (ran_on seat shard events)
   channel_log shard =
@@ -141,7 +141,7 @@ module _ (sizes : Sizes) (seat : ℕ) (clerk : Acting) (events : List Event) (si
       ∙ of_seat seat seats (on_shard shard (ran_in events))
       (on_shard-asked sizes (length seats) shard (ran_in events) (holds sizes events lawful).owned)
 
-  -- Where all pieces of a channel were sent and have their replies, just they were run there, with these replies.
+  -- If all pieces of a channel were sent and have their replies, exactly they were run there, with these replies.
   pub channel_run : (ends : Ends Near) (shard : ℕ) (sent : List Piece) (got : List Shown) → shard < length ends.channels
       → HasRecorded clerk ends → sent_on ends shard ≡ map request.Piece sent → received_on ends shard ≡ got
       → AreRun sent got (of_asker seat (on_shard shard (log_by events)))

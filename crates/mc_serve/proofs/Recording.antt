@@ -1,4 +1,4 @@
--- The clerks and the recorders of an opened history are those of channels whose tokens are of it.
+-- The clerks and recorders of an opened history fit new channels whose tokens are of that history.
 use Rattle.std.proofs.Common.{◌≡◌, ℕ, ◌<◌, List, [], ◌++◌, length, Some, refl, sym, ap, subst, ◌∙◌, arith}
 use Rattle.std.specs.List.{AllByRecursion, slice_get}
 use Rattle.std.proofs.lemmas.Option.{same_Some, slice_get_within}
@@ -21,7 +21,7 @@ use Rattle.mc_serve.proofs.Zipped.{zips_from}
 module _ (sizes : Sizes) (name : Name) (capacity : ℕ) (near : List (Ends Near)) (far : List (Ends Far))
     (same : name.sizes ≡ sizes) (channels : AreChannels sizes.seats sizes.shards capacity near far)
     (routed : AreRouted name near) where
-  -- the actor of a seat that has done nothing
+  -- the actor of a slot that has done nothing
   abbrev new_clerk : ℕ → Acting
   new_clerk number = record { name = name; role = Seat number; events = [] }
 
@@ -48,7 +48,7 @@ module _ (sizes : Sizes) (name : Name) (capacity : ℕ) (near : List (Ends Near)
             };
       }
 
-  -- Each clerk is the one of its seat.
+  -- Each clerk is that of its slot.
   pub clerks_fit : (clerks : List Acting) → ActInOrder Seat name sizes.seats clerks → Zips (IsClerkOf sizes) near clerks
   clerks_fit clerks act =
       zips_from (IsClerkOf sizes) near clerks (act.counted ∙ sym channels.seat_count)
@@ -103,7 +103,7 @@ module _ (sizes : Sizes) (name : Name) (capacity : ℕ) (near : List (Ends Near)
         none = refl;
       }
 
-  -- Each recorder is the one of its shard.
+  -- Each recorder is that of its shard.
   pub recorders_fit : (recorders : List Acting) → ActInOrder Shard name sizes.shards recorders
       → Zips (IsRecorderOf sizes) far recorders
   recorders_fit recorders act =
@@ -112,7 +112,7 @@ module _ (sizes : Sizes) (name : Name) (capacity : ℕ) (near : List (Ends Near)
       subst (λ (one : Acting). IsRecorderOf sizes shard one) (sym (act.each number recorder there))
       (recorder_fits number shard here))
 
--- Each source is of the history that its seat's clerk is of.
+-- Each source and its slot's clerk are of the same history.
 pub histories_fit : {D : Type 0} (history : D → Name) (name : Name) (count : ℕ) (sources : List D)
     (clerks : List Acting) → length sources ≡ count → ActInOrder Seat name count clerks
     → AllByRecursion (λ source. history source ≡ name) sources

@@ -1,4 +1,4 @@
--- The ends of channels may go to another thread, and so may what holds them.
+-- The ends of channels can be sent to another thread, and so can what holds them.
 use denote.RattleType.{RattleType}
 use denote.Param.Send.{IsSend, IsSync, sendable, view_send}
 use denote.Param.SendFields.{as_row_send, declared_send}
@@ -62,7 +62,7 @@ use Rattle.mc_serve.proofs.connection_slot.SlotState.TheSendSync as slot_state
 use Rattle.mc_serve.specs.contracts.slot_table.SlotTable as seats
 use Rattle.mc_serve.specs.contracts.reactor.Reactor as part
 
--- a vector on the heap, where its elements may
+-- A vector on the heap can be sent if its elements can.
 vec_send : (T : RattleType) → IsSend T → IsSend (list.the_row T heap.the_row in_heap)
 vec_send T sent = vec.the_send T heap.the_row in_heap sent send frees
 
@@ -119,7 +119,7 @@ module _ (T : RattleType) (tokens : TokenGhosts T.Denot) (token : IsSend T) wher
 sizes_send : IsSend sizes.the_row
 sizes_send = search (sendable, crosses) depth 20
 
--- what a seat holds, where its tokens and its clerk may go
+-- What a slot holds can be sent if its tokens and its clerk can.
 module _ (T C : RattleType) (tokens : TokenGhosts T.Denot) (warrants : WarrantGhosts T.Denot)
     (clerk : ClerkGhosts C.Denot T.Denot) (token : IsSend T) (own : IsSend C) where
   shard_link_send : IsSend (shard_link.the_row T C warrants clerk tokens)
@@ -142,7 +142,7 @@ module _ (T C : RattleType) (tokens : TokenGhosts T.Denot) (warrants : WarrantGh
         (shard_link_send, (sizes_send, (option.the_send buffered_conn.the_row buffered_conn_sent.the_send, tt))),
       )
 
--- A worker may go to another thread where its tokens and its scribe may.
+-- A worker can be sent to another thread if its tokens and its scribe can.
 module _ (T S : RattleType) (tokens : TokenGhosts T.Denot) (scribe : ScribeGhosts S.Denot T.Denot) (token : IsSend T)
     (own : IsSend S) where
   worker_send : IsSend (worker.the_row T S tokens scribe)
@@ -159,7 +159,7 @@ module _ (T S : RattleType) (tokens : TokenGhosts T.Denot) (scribe : ScribeGhost
         ),
       ))
 
-  -- With its gate it may where the gate may, and may be shared.
+  -- With its gate it can be sent if the gate can, and can be shared.
   pub working_send : (G : RattleType) → IsSend G → IsSync G → IsSend (working.the_row G T S scribe tokens)
   working_send G gate shared =
       declared_send (working.the_type G T S scribe tokens) (
@@ -170,7 +170,7 @@ module _ (T S : RattleType) (tokens : TokenGhosts T.Denot) (scribe : ScribeGhost
         ),
       )
 
--- A slot, a table of slots and what one thread serves, where their sources and lines may go. The sources' bounds come
+-- A slot, a table of slots and a reactor can be sent if their sources and connections can. The sources' bounds come
 -- with their types.
 module _ (D L T : RattleType) (sources : SourceGhosts D.Denot L.Denot T.Denot)
     (lines : TransportGhosts L.Denot T.Denot) (warrant : WarrantGhosts T.Denot) (tokens' : TokenGhosts T.Denot)
@@ -188,8 +188,7 @@ module _ (D L T : RattleType) (sources : SourceGhosts D.Denot L.Denot T.Denot)
       declared_send (seats.the_type D L T sources lines warrant tokens')
       (vec_send (slot.the_row D L T sources lines warrant tokens') slot_send, (search sendable, tt))
 
-  -- What one thread serves may go to it where its sources, their lines, the clock and the gate may, and the gate may be
-  -- shared.
+  -- A reactor can be sent if its sources, their connections, the clock and the gate can, and the gate can be shared.
   pub part_send : (G K : RattleType) → IsSend G → IsSync G → IsSend K
       → IsSend (part.the_row D G K L T sources lines warrant tokens')
   part_send G K gate shared clock =

@@ -1,4 +1,4 @@
--- What the shards ran for a seat is cut into the lines of the seat, one after another.
+-- What the shards ran for a slot, split at the boundaries of its connections.
 use Rattle.std.proofs.Common.{◌≡◌, ℕ, zero, suc, ◌<◌, ◌==◌, List, [], ◌∷◌, ◌++◌, length, map, take, drop}
 use Rattle.std.proofs.Common.{refl, sym, ap, subst, ◌∙◌, arith, append_assoc, append-nil, length-append}
 use Rattle.std.specs.List.{AllByRecursion, flat_map}
@@ -40,7 +40,7 @@ use Rattle.mc_command.specs.declared.rules.Rules.{Rules}
 use Rattle.mc_ring.proofs.Lists.{all_take}
 use Rattle.mc_model.proofs.Alone.{ran_of, pieces_of_ran, replies_of_ran}
 
--- What is known of a line that was served, by what its connection took.
+-- The facts about a connection that was served, from what it took.
 pub record Core (may_answer : ℕ → Type 0) (line : LineTold) (before after : Ends Near) (told : Told)
     (received : ℕ → List Shown) : Type 0 where
   pub exchanges : Exchanges before after told received
@@ -76,7 +76,7 @@ same_sized : (shards : ℕ) (rules : Rules) (told : Told) → told.shards ≡ sh
     ≡ sized shards rules told
 same_sized shards rules told shards_is rules_are = λ i. record told { shards = shards_is i; rules = rules_are i }
 
--- A line that was served under these sizes.
+-- A connection that was served under these sizes has the pieces and replies that were due.
 pub record Served (shards : ℕ) (rules : Rules) (may_answer : ℕ → Type 0) (line : LineTold) (before after : Ends Near) :
     Type 0 where
   pub told : Told
@@ -109,7 +109,7 @@ module _ (shards : ℕ) (rules : Rules) (may_answer : ℕ → Type 0) where
   chain_of (line ∷ lines) before after are =
       (are.0, served_of shards rules may_answer line before are.0 are.1, chain_of lines are.0 after are.2)
 
-  -- the pieces that were due at a shard for all the lines, and the replies that came from it
+  -- the pieces that were due at a shard for all connections, and the replies that came from it
   abbrev pub all_due : (lines : List LineTold) (before after : Ends Near) → Chain lines before after → ℕ → List Piece
   all_due [] before after chain shard = []
   all_due (line ∷ lines) before after chain shard =
@@ -159,7 +159,7 @@ module _ (shards : ℕ) (rules : Rules) (may_answer : ℕ → Type 0) where
       let asked = length-append (due.due shards shard chain.1.told.taken) (all_due lines chain.0 after chain.2 shard) in
       omega (arith, one, rest, got, asked)
 
--- What was asked and got first was run first.
+-- Pieces that were asked first, and whose replies came first, were run first.
 record IsCut (xs ys : List Piece) (gs hs : List Shown) (log : List Entry) : Type 0 where
   first : AreRun xs gs (take (length xs) log)
   rest : AreRun ys hs (drop (length xs) log)
@@ -191,12 +191,12 @@ all_drop P zero xs all = all
 all_drop P (suc n) [] all = tt
 all_drop P (suc n) (x ∷ xs) all = all_drop P n xs all.1
 
--- Nothing was run where nothing was asked.
+-- If nothing was asked, nothing was run.
 none_run : (log : List Entry) → [] ≡ pieces_in log → log ≡ []
 none_run [] none = refl
 none_run (e ∷ log) none = absurd (cc)
 
--- All of it was run by this shard, for this seat.
+-- All of these entries were run by this shard for this slot.
 abbrev pub IsMine : ℕ → ℕ → Entry → Type 0
 IsMine shard seat entry = (entry.shard ≡ shard) × (entry.asker ≡ seat)
 
@@ -215,7 +215,7 @@ all_mine : (shard seat : ℕ) (log : List Entry) → AllByRecursion (λ entry. e
 all_mine shard seat [] shards askers = tt
 all_mine shard seat (e ∷ log) shards askers = ((shards.0, askers.0), all_mine shard seat log shards.1 askers.1)
 
--- What a shard ran for a line is what the line's history has.
+-- What a shard ran for a connection is what the connection's commands need there.
 run_told : (shards shard seat : ℕ) (taken : List Taken) (got : List Shown) (mine : List Entry)
     (history : List AnsweredCommand) → AreRun (due.due shards shard taken) got mine
     → AllByRecursion (IsMine shard seat) mine
@@ -230,7 +230,7 @@ run_told shards shard seat taken got mine history run owned told =
     sym (map_on_shard shard seat (due.log_of shards history)
     ∙ (ap (λ rs. map (entry_for seat) rs) (told ∙ these) ∙ same_asker seat mine (all_asker shard seat mine owned)))
 
--- One line of the seat, by what each shard ran for it.
+-- One connection of the slot is explained by what each shard ran for it.
 record LineRan (sizes : Sizes) (may_answer : ℕ → Type 0) (line : LineTold) (seat : ℕ) (mine : ℕ → List Entry) : Type 0
   where
     history : List AnsweredCommand
@@ -292,7 +292,7 @@ line_ran sizes may_answer line before after seat mine at runs owned =
           (subst P whole (t.ran s));
     }
 
--- All lines of the seat, by what each shard ran for it.
+-- All connections of the slot are explained by what each shard ran for the slot.
 record SeatRan (sizes : Sizes) (may_answer : ℕ → Type 0) (lines : List LineTold) (seat : ℕ) (mine : ℕ → List Entry) :
     Type 0 where
   histories : List (List AnsweredCommand)
@@ -332,7 +332,7 @@ seat_ran sizes may_answer seat (line ∷ lines) before after mine chain runs own
           ∙ ap (λ es. on_shard s (log_of sizes.shards seat one.history) ++ es) (rest.ran s below));
     }
 
--- A seat before its first line: its clerk is that of its ends, and has seen nothing.
+-- A slot before its first connection: its clerk is that of its ends, and has recorded nothing.
 pub record IsNewSeat (sizes : Sizes) (sat : SeatAt) : Type 0 where
   pub clerk : IsClerkOf sizes sat.ends sat.clerk
   pub none : sat.clerk.events ≡ []
@@ -340,7 +340,7 @@ pub record IsNewSeat (sizes : Sizes) (sat : SeatAt) : Type 0 where
 seat_width : (sizes : Sizes) (sat : SeatAt) → IsNewSeat sizes sat → length sat.ends.channels ≡ sizes.shards
 seat_width sizes sat new = sym (new.clerk.routes.shards 0) ∙ ap (λ (s : Sizes). s.shards) new.clerk.sizes_are
 
--- Nothing was sent or received on its ends.
+-- On its ends nothing was sent or received.
 none_sent : (sizes : Sizes) (sat : SeatAt) (shard : ℕ) → IsNewSeat sizes sat → shard < sizes.shards
     → sent_on sat.ends shard ≡ []
 none_sent sizes sat shard new below =
@@ -356,7 +356,7 @@ none_received sizes sat shard new below =
     empty_when (received_on sat.ends shard)
     (new.clerk.past.settled shard (omega (arith, below, width)) ∙ ap length (none_sent sizes sat shard new below))
 
--- A history that has all that the seat's clerk recorded explains the lines of the seat.
+-- A history with all that the slot's clerk recorded explains the connections of the slot.
 pub explains_seat : (sizes : Sizes) (seat : ℕ) (may_answer : ℕ → Type 0) (sat rose : SeatAt) (events : List Event)
     → (serves : SeatServes sizes.shards (rules_of sizes) may_answer sat rose) → IsNewSeat sizes sat
     → rose.clerk.name.sizes ≡ sizes → rose.clerk.role ≡ Seat seat → IsHistory sizes events

@@ -1,4 +1,4 @@
--- What is known of a seat that is joined, before its lines are looked at one by one.
+-- Facts about a slot after the run, before its connections are considered one by one.
 use Rattle.std.proofs.Common.{◌≡◌, ℕ, zero, suc, List, [], ◌∷◌, length, map, take, refl, ap, arith}
 use Rattle.std.specs.List.{AllByRecursion}
 use Rattle.std.proofs.lemmas.List.{take_all}
@@ -11,14 +11,14 @@ use Rattle.mc_conn.specs.Due as due
 use Rattle.mc_conn.specs.Fits.{HasCome, counts}
 use Rattle.mc_conn.specs.Told.{commands_of}
 
--- Nothing was sent nor received on ends that are unused.
+-- On unused ends nothing was sent or received.
 pub none_read : {A : Type 0} (read : Near → List A) → ((near : Near) → IsUnused near → read near ≡ [])
     → (channels : List Near) (shard : ℕ) → AllByRecursion IsUnused channels → list_at read channels shard ≡ []
 none_read read none [] shard all = refl
 none_read read none (near ∷ channels) zero all = none near all.0
 none_read read none (near ∷ channels) (suc shard) all = none_read read none channels shard all.1
 
--- Where as many replies were received from each shard as are due there, all that the commands need has come.
+-- If as many replies came from each shard as are due there, the commands have all that they need.
 pub all_come : (shards : ℕ) (taken : List Taken) (received : ℕ → List Shown)
     → ((shard : ℕ) → length (received shard) ≡ length (due.due shards shard taken))
     → HasCome shards taken (counts received) (length taken)
@@ -28,7 +28,7 @@ all_come shards taken received answered shard =
     let these = answered shard in
     omega (arith, whole, these)
 
--- What holds of the moments at which commands were taken holds of those in their history.
+-- What is true of the moments at which commands were taken is true of those in their history.
 pub moments_of : (may_answer : ℕ → Type 0) (history : List AnsweredCommand)
     → AllByRecursion (λ (one : Taken). may_answer one.moment) (map taken_of history)
     → AllByRecursion (λ (done : AnsweredCommand). may_answer done.moment) history

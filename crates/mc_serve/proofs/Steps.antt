@@ -35,13 +35,13 @@ use Rattle.mc_serve.specs.Seats.{SitsClosing, SitsFree, SitsServing, seat_at}
 use Rattle.mc_serve.proofs.Chain.{OneMore, one_more, passes_none}
 use Rattle.mc_command.specs.declared.rules.Rules.{Rules}
 
--- A session of the same history is for a server by the same rules.
+-- Sessions of the same history are of servers by the same rules.
 same_rules : {T C : Type 0} {w : Warrants T} {g : Ghosts C T} (rules : Rules) (old new : Session T C w g)
     → session_history new ≡ session_history old → IsRuled rules old → IsRuled rules new
 same_rules rules old new same ruled keeps = ruled keeps ∙ ap (λ (name : Name). rules_of name.sizes) (sym same)
 
 module _ (shards : ℕ) (rules : Rules) (may_answer : ℕ → Type 0) where
-  -- A seat that has just sat down.
+  -- A new slot is free, and has served nothing.
   pub sits_first : {T : Type 0} {w : Warrants T} {g : Ghosts Acting T} (source : SourceTold)
       (session : Session T Acting w g) (window : ℕ)
       → IsFree source → length (seat_ends session).channels ≡ shards → IsVacant rules window session
@@ -101,7 +101,7 @@ module _ (shards : ℕ) (rules : Rules) (may_answer : ℕ → Type 0) where
         line = line rules sits.ruled;
       }
 
-  -- The line waits, with the session as it was.
+  -- The connection waits, and the session is unchanged.
   pub still_begins : {T C : Type 0} {w : Warrants T} {g : Ghosts C T} (sat : SeatAt) (source : SourceTold)
       (place : Place) (begin : Sight) (session session' : Session T C w g) → session' ≡ session
       → SitsBeginning shards rules may_answer sat source place begin session
@@ -109,7 +109,7 @@ module _ (shards : ℕ) (rules : Rules) (may_answer : ℕ → Type 0) where
   still_begins {T} {C} {w} {g} sat source place begin session session' same came = let S : Session T C w g → Type 0 =
       λ s. SitsBeginning shards rules may_answer sat source place begin s in subst S (sym same) came
 
-  -- The line begins to be served where there was memory for it; else it waits, with its output ended.
+  -- The connection begins to be served if there was memory for it; otherwise it waits, with its output ended.
   pub begins_where : {L E : Type 0} {T : Type 0} {w : Warrants T} {g : Ghosts Acting T} (place : L → Place)
       (sight : L → Sight) (sat : SeatAt) (source source' : SourceTold) (line begun line' : L)
       (session session' : Session T Acting w g) (tried : Result (Unit {0}) E)
@@ -137,7 +137,7 @@ module _ (shards : ℕ) (rules : Rules) (may_answer : ℕ → Type 0) where
       subst D (sym told) (subst P (sym (placed ∙ unplaced)) (subst S (sym seen)
       (still_begins sat source (place line) (sight line) session session' same came)))
 
-  -- The line that is out is looked at again, with nothing read or written meanwhile.
+  -- The connection that is out may have been notified: nothing was read or written.
   pub stands_out : {L : Type 0} {T : Type 0} {w : Warrants T} {g : Ghosts Acting T} (place : L → Place)
       (sight : L → Sight) (sat : SeatAt) (source : SourceTold) (session : Session T Acting w g) (now : SlotState L)
       (line line' : L)
@@ -198,7 +198,7 @@ module _ (shards : ℕ) (rules : Rules) (may_answer : ℕ → Type 0) where
     line = stays rules sits.begin sits.line;
   }
 
-  -- the line is served over the ends as they are called once the session was renewed
+  -- the connection is served over equal ends, those of the renewed session
   abbrev renewed : (begin now : Sight) (before ends ends' : Ends Near) (conn : Conn) (commands : ℕ) (broke : Bool)
       → ends' ≡ ends → LineServed shards rules may_answer begin now before ends conn commands broke
       → LineServed shards rules may_answer begin now before ends' conn commands broke
@@ -242,7 +242,7 @@ module _ (shards : ℕ) (rules : Rules) (may_answer : ℕ → Type 0) where
       → IsLineAt rules place' begin session')
       (same : session_history last ≡ session_history session')
       (sits : SitsServing shards rules may_answer sat source place now session) where
-    -- what the line was served by
+    -- what the connection was served by
     abbrev by : SomeAnd session'.buffered_conn
         (λ buffered_conn. WasServedBy shards rules may_answer sits.begin now' sits.ends session'.shard_link
         buffered_conn commands broke)
@@ -277,7 +277,7 @@ module _ (shards : ℕ) (rules : Rules) (may_answer : ℕ → Type 0) where
         let served = by.holds.served in
         (renews.when by.some served.told by.is served.conn_is).1 (served.rest (by.holds.fits keeps), served.over)
 
-    -- The seat is free for its next line.
+    -- The slot is free for its next connection.
     pub serves_another : SitsFree shards rules may_answer sat source' last
     serves_another =
         let served = by.holds.served in

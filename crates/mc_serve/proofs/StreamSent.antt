@@ -1,4 +1,4 @@
--- A source for streams, and a line over one, may go to another thread where what they hold may.
+-- A source of streams, and a connection over one, can be sent to another thread if what they hold can.
 use denote.RattleType.{RattleType}
 use denote.Param.Send.{IsSend, IsSync, sendable}
 use denote.Param.SendFields.{declared_send, declared_sync}
@@ -61,7 +61,7 @@ reads_send = log_send trail.the_row trail.the_row trail_send trail_send
 tap_send : (S : RattleType) (stream : StreamGhosts S.Denot) → IsSend S → IsSend (tap.the_row S stream)
 tap_send S stream sent = declared_send (tap.the_type S stream) (search (trail_send, sendable, crosses) depth 20)
 
--- A line over a stream may go to another thread where the stream may.
+-- A connection over a stream can be sent to another thread if the stream can.
 pub line_send : (S T : RattleType) (stream : StreamGhosts S.Denot) → IsSend S → IsSend T
     → IsSend (tcp_connection.the_row S T stream)
 line_send S T stream sent token =
@@ -69,7 +69,7 @@ line_send S T stream sent token =
     declared_send (tcp_connection.the_type S T stream)
     (search (tap_sent, reads_send, meter_send, sendable, crosses) depth 20)
 
--- A source for streams may go to another thread where its clock, its arrivals and its streams may.
+-- A source of streams can be sent to another thread if its clock, its arrivals and its streams can.
 pub stream_source_send : (R A T S : RattleType) (arrivals : ArrivalsGhosts A.Denot S.Denot)
     (stream : StreamGhosts S.Denot) → IsSend R → IsSend A → IsSend T → IsSend S
     → IsSend (stream_source.the_row R A T S arrivals stream)

@@ -1,4 +1,4 @@
--- What is known of all connections once their threads are joined.
+-- The theorem about connections over streams, once all threads are joined.
 use Rattle.std.specs.Prelude.{ℕ, ◌≡◌, ◌+◌, ◌-◌, ◌^◌, min, List, [], ◌∷◌, Option, Some, None, length, map}
 use Rattle.std.specs.List.{AllByRecursion, slice_get}
 use Rattle.mc_sizes.specs.declared.sizes.Sizes.{Sizes}
@@ -12,25 +12,25 @@ use Rattle.mc_doors.specs.Tcp.{IsServed, gone_lines}
 use Rattle.mc_serve.specs.Served.{ExplainsSeat, IsOfHistory}
 use Rattle.mc_serve.specs.declared.outcome.Outcome.{Outcome}
 
--- the connections of each seat, one after another
+-- the connections of each slot, in order
 abbrev pub seats_of : {S : Type 0} {g : Ghosts S} → Outcome S g → List (List (ClosedConnection S Sight g × Unit {0}))
 seats_of served = map (λ seat. seat.0.items) served.seats.items
 
--- how many connections all seats have served
+-- the number of connections of all slots
 abbrev pub how_many : {A : Type 0} → List (List A) → ℕ
 how_many [] = 0
 how_many (lines ∷ seats) = length lines + how_many seats
 
--- Of a seat: just the streams that were to come were served, in their order, where they are known; where they aren't,
--- just what came in was.
+-- The connections of a slot were served over exactly the streams that were to come, in order, if these are known;
+-- otherwise each over the stream with which it was accepted.
 abbrev pub AreServed : {S T : Type 0} {g : Ghosts S} → Option (List S) → List (ClosedConnection S T g × Unit {0}) → Type
     0
 AreServed None gone = AllByRecursion (λ one. IsServed one.0.line.value.tap.begin.value one.0) gone
 AreServed (Some streams) gone = Zips (λ stream one. IsServed stream one.0) streams gone
 
--- As many connections have ended as is said, and are listed, each served by one of the seats from the first byte of its
--- stream on, and one log, of the history that the evidence shows, explains what was read of them, what was written to
--- them and what the shards did. The count stays at its greatest value.
+-- The report lists all connections that have ended, by slot, and counts them; the count saturates. Each was served from
+-- the first byte of its stream. One log, of the history that the evidence shows, explains what was read from the
+-- connections, what was written to them and what the shards ran.
 pub record ServesConnections {S : Type 0} {g : Ghosts S} (sizes : Sizes) (may_answer : ℕ → Type 0)
     (served : Outcome S g) : Type 0 where
   pub as_many : length (seats_of served) ≡ sizes.seats

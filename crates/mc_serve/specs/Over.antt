@@ -1,4 +1,4 @@
--- What is known of lines that are served by a seat each.
+-- The theorem about lines in memory, each served by a slot of its own.
 use Rattle.std.specs.Prelude.{ℕ, ◌≡◌, Bool, List, [], ◌∷◌, length}
 use Rattle.mc_wire.specs.Sink.{Sight}
 use Rattle.mc_sizes.specs.declared.sizes.Sizes.{Sizes}
@@ -6,7 +6,7 @@ use Rattle.mc_history.specs.Tokens.{Sight as Shown}
 use Rattle.mc_seat.specs.Explains.{Explains, LineTold}
 use Rattle.mc_serve.specs.Served.{IsOfHistory}
 
--- a line as it is reported
+-- a line as the report has it
 pub record CameBack : Type 0 where
   pub line : Sight
   pub commands : ℕ
@@ -15,14 +15,14 @@ pub record CameBack : Type 0 where
 abbrev pub came_back : Sight → ℕ → Bool → CameBack
 came_back line commands broke = record { line = line; commands = commands; broke = broke }
 
--- the served lines, by what was seen of each before and how it came back
+-- the served lines, from their states before the call and in the report
 abbrev pub lines_told : List Sight → List CameBack → List LineTold
 lines_told [] after = []
 lines_told (line ∷ before) [] = []
 lines_told (line ∷ before) (back ∷ after) =
     record { begin = line; now = back.line; commands = back.commands; broke = back.broke } ∷ lines_told before after
 
--- All lines came back, in their order, and one log, of the history that evidence shows, explains them.
+-- All lines were returned, in order, and one log, of the history that the evidence shows, explains them.
 pub record ServesAll (sizes : Sizes) (may_answer : ℕ → Type 0) (before : List Sight) (after : List CameBack)
     (shown : Shown) : Type 0 where
   pub as_many : length after ≡ length before

@@ -1,4 +1,4 @@
--- Who records what is sent over the channels of a seat or of a shard.
+-- The clerk of a slot and the recorder of a shard, for their channels.
 use Rattle.std.specs.Prelude.{ℕ, ◌≡◌}
 use Rattle.mc_sizes.specs.declared.sizes.Sizes.{Sizes}
 use Rattle.mc_ring.specs.Channel.{Far, Near}
@@ -16,15 +16,14 @@ use Rattle.mc_threads.specs.Workers.{IsRecordOf}
 abbrev pub route_from : Acting → ℕ → Route
 route_from clerk shard = record { seat = seat_of clerk.role; shard = shard; name = clerk.name }
 
--- The clerk is the one of the seat of these ends, in a server of these sizes: its record is of their channels, and of
--- all that has passed there.
+-- The clerk is that of the slot with these ends, in a server of these sizes: it has recorded all that was sent and
+-- received on their channels.
 pub record IsClerkOf (sizes : Sizes) (ends : Ends Near) (clerk : Acting) : Type 0 where
   pub sizes_are : clerk.name.sizes ≡ sizes
   pub routes : AreOnRoutes (route_from clerk) ends
   pub past : IsUpToDate (work_at clerk) (answers_at clerk) ends
 
--- The recorder is the one of the shard of these ends: it is for their channels, and has recorded nothing, over an empty
--- shard.
+-- The recorder is that of the shard with these ends. It has recorded nothing yet, and the shard is empty.
 abbrev pub IsRecorderOf : Sizes → Ends Far → Acting → Type 0
 IsRecorderOf sizes ends recorder =
     IsRecordOf sizes ends (λ seat. record { seat = seat; shard = shard_of recorder.role; name = recorder.name })

@@ -23,21 +23,22 @@ use Rattle.mc_serve.specs.declared.connection_slot.SlotState.{SlotState}
 use Rattle.mc_serve.specs.declared.connection_slot.SlotState.TheVariants as slot_state
 use Rattle.mc_command.specs.declared.rules.Rules.{Rules}
 
--- The line was served between these ends, and each reply was the answer to the piece in its place.
+-- The connection was served, which took the slot's ends from the first state to the second. Each reply answered the
+-- piece at its index.
 pub record ServesSourceLine (shards : ℕ) (rules : Rules) (may_answer : ℕ → Type 0) (line : LineTold)
     (before after : Ends Near) : Type 0 where
   pub conn : Conn
   pub served : LineServed shards rules may_answer line.begin line.now before after conn line.commands line.broke
   pub fits : KeysFit served.told.shards served.told.taken served.received
 
--- The lines were served, one after another.
+-- The connections were served, one after another.
 abbrev pub ServesLines : ℕ → Rules → (ℕ → Type 0) → List LineTold → Ends Near → Ends Near → Type 0
 ServesLines shards rules may_answer [] before after = after ≡ before
 ServesLines shards rules may_answer (line ∷ lines) before after =
     (mid : Ends Near) × ServesSourceLine shards rules may_answer line before mid
     × ServesLines shards rules may_answer lines mid after
 
--- a seat: its source, its ends and its clerk
+-- a slot: its source, its ends and its clerk
 pub record SeatAt : Type 0 where
   pub source : SourceTold
   pub ends : Ends Near
@@ -46,16 +47,16 @@ pub record SeatAt : Type 0 where
 abbrev pub seat_at : SourceTold → Ends Near → Acting → SeatAt
 seat_at source ends clerk = record { source = source; ends = ends; clerk = clerk }
 
--- The clerk has recorded each piece that was sent on these ends, and each reply that was received.
+-- The clerk has recorded each piece that was sent on these ends, and each reply that was received there.
 abbrev pub HasRecorded : Acting → Ends Near → Type 0
 HasRecorded clerk ends = IsUpToDate (work_at clerk) (answers_at clerk) ends
 
--- The source said that no more lines come.
+-- The source has returned that no more connections will come.
 pub record SourceIsClosed (before after : SourceTold) : Type 0 where
   pub done : IsDone before
   pub now : after ≡ closed before
 
--- Lines of the source were served, until it said that no more come.
+-- Connections of the source were served, until it returned that no more will come.
 pub record ServesSource (shards : ℕ) (rules : Rules) (may_answer : ℕ → Type 0) (sat rose : SeatAt) : Type 0 where
   pub lines : List LineTold
   pub passed : SourceTold
@@ -63,20 +64,20 @@ pub record ServesSource (shards : ℕ) (rules : Rules) (may_answer : ℕ → Typ
   pub lines_are : ServesLines shards rules may_answer lines sat.ends rose.ends
   pub over : SourceIsClosed passed rose.source
 
--- Lines of the source were served, until it said that no more come, and then each channel was closed.
+-- Connections of the source were served, until it returned that no more will come; then each channel was closed.
 pub record SeatServes (shards : ℕ) (rules : Rules) (may_answer : ℕ → Type 0) (sat rose : SeatAt) : Type 0 where
   pub lines : List LineTold
   pub passed : SourceTold
   pub source : Passes sat.source lines passed
   pub served : Ends Near
   pub lines_are : ServesLines shards rules may_answer lines sat.ends served
-  -- All of it is in the clerk's record.
+  -- The clerk has recorded all of it.
   pub recorded : HasRecorded rose.clerk served
   pub over : SourceIsClosed passed rose.source
   pub closed : EndsAll served rose.ends
 
 module _ {T C : Type 0} {w : Warrants T} {g : Ghosts C T} where
-  -- Lines of the source were served, none is out, and the seat may serve another.
+  -- A free slot: connections of the source were served, none is out, and the session may begin another.
   pub record SitsFree (shards : ℕ) (rules : Rules) (may_answer : ℕ → Type 0) (sat : SeatAt) (source : SourceTold)
       (session : Session T C w g) : Type 0 where
     pub free : IsFree sat.source
@@ -88,22 +89,22 @@ module _ {T C : Type 0} {w : Warrants T} {g : Ghosts C T} where
     pub vacant : IsVacant rules window session
     pub ruled : IsRuled rules session
 
-  -- Lines of the source were served, and one came in, which is out and so now; nothing was done with it yet.
+  -- A slot whose connection has not begun: connections were served, and one more was accepted.
   pub record SitsBeginning (shards : ℕ) (rules : Rules) (may_answer : ℕ → Type 0) (sat : SeatAt) (source : SourceTold)
       (place : Place) (now : Sight) (session : Session T C w g) : Type 0 where
-    -- the source before the line came in
+    -- the source before it was accepted
     pub before : SourceTold
     pub sits : SitsFree shards rules may_answer sat before session
     pub next : IsNext now before
     pub came : source ≡ let_in now before
     pub new : place ≡ unbegun (session_history session)
 
-  -- Lines of the source were served, and the one that is out is being served; it is so now.
+  -- A slot that serves: connections were served, and the one that is out is being served.
   pub record SitsServing (shards : ℕ) (rules : Rules) (may_answer : ℕ → Type 0) (sat : SeatAt) (source : SourceTold)
       (place : Place) (now : Sight) (session : Session T C w g) : Type 0 where
     pub free : IsFree sat.source
     pub lines : List LineTold
-    -- the source before the line came in, and the line and the ends as it came in
+    -- the source before the connection was accepted; the connection and the ends when it began
     pub before : SourceTold
     pub begin : Sight
     pub ends : Ends Near
@@ -115,7 +116,8 @@ module _ {T C : Type 0} {w : Warrants T} {g : Ghosts C T} where
     pub serving : IsServingLine shards rules may_answer begin now ends session
     pub line : IsLineAt rules place begin session
 
--- Lines of the source were served, until it said that no more come, and then the first count channels were closed.
+-- Connections of the source were served, until it returned that no more will come; then the first `count` channels were
+-- closed.
 pub record SitsClosing (shards : ℕ) (rules : Rules) (may_answer : ℕ → Type 0) (count : ℕ) (sat : SeatAt)
     (source : SourceTold) (ends : Ends Near) (clerk : Acting) : Type 0 where
   pub served : Ends Near
@@ -124,7 +126,7 @@ pub record SitsClosing (shards : ℕ) (rules : Rules) (may_answer : ℕ → Type
   pub closed : EndsFirst count served ends
 
 module _ {T : Type 0} {w : Warrants T} {g : Ghosts Acting T} where
-  -- The state of a seat between two steps, since it began like this.
+  -- The invariant of a slot between two steps, by its state. The first argument of type `SeatAt` is how it began.
   abbrev pub SeatStands : {L : Type 0} → (L → Place) → (L → Sight) → ℕ → Rules → (ℕ → Type 0) → SeatAt → SourceTold
       → Session T Acting w g → SlotState L → Type 0
   SeatStands place sight shards rules may_answer sat source session slot_state.Free =
@@ -139,7 +141,7 @@ module _ {T : Type 0} {w : Warrants T} {g : Ghosts Acting T} where
       SeatServes shards rules may_answer sat (seat_at source (seat_ends session) (seat_clerk session))
 
 module _ {T C : Type 0} {w : Warrants T} {g : Ghosts C T} where
-  -- A seat before its first step.
+  -- A slot before its first step.
   pub record HasSatDown {L : Type 0} (shards : ℕ) (rules : Rules) (source : SourceTold) (session : Session T C w g)
       (now : SlotState L) : Type 0 where
     pub none : now ≡ slot_state.Free
@@ -149,7 +151,8 @@ module _ {T C : Type 0} {w : Warrants T} {g : Ghosts C T} where
     pub vacant : IsVacant rules window session
     pub ruled : IsRuled rules session
 
-  -- A line that is out has not begun and is of the session's history, or the session serves it.
+  -- A step may be made: a connection that is out has not begun and is of the session's history, or the session serves
+  -- it.
   abbrev pub CanStep : {L : Type 0} → (L → Place) → (L → Sight) → (ℕ → Type 0) → SlotState L → Session T C w g → Type 0
   CanStep place sight may_answer slot_state.Free session = Unit {0}
   CanStep place sight may_answer (slot_state.Out line false) session = place line ≡ unbegun (session_history session)

@@ -1,4 +1,4 @@
--- What is known of all sources once their threads are joined.
+-- The theorem about all sources, once all threads are joined.
 use Rattle.std.specs.Prelude.{ℕ, ◌≡◌, ◌<◌, List, [], ◌∷◌, length, map, Some}
 use Rattle.std.specs.List.{AllByRecursion, flat_map, slice_get}
 use Rattle.mc_sizes.specs.Sizes.{rules_of}
@@ -16,34 +16,34 @@ use Rattle.mc_seat.specs.Reads.{ReadsOwingNothing}
 use Rattle.mc_seat.specs.Explains.{IsLogOfLines, LineTold, log_of}
 use Rattle.mc_doors.specs.Told.{SourceTold, IsDone, Passes, closed}
 
--- The line's commands, each with its moment and answers, explain what was read of it and what it took.
+-- The commands, each with its moment and answers, explain what was read from the connection and what was written to it.
 pub record ExplainsHistory (sizes : Sizes) (may_answer : ℕ → Type 0) (line : LineTold)
     (history : List AnsweredCommand) : Type 0 where
-  -- The commands are those of the bytes read, and the line took the texts of their replies.
+  -- The commands are those of the bytes read, and the texts of their replies were written.
   pub story : Story (rules_of sizes) line.begin line.now line.broke (map taken_of history) (map text_done history)
-  -- It was read only where all replies to the bytes read so far were written out.
+  -- Each read came after all replies to the bytes read before it were written.
   pub reads : ReadsOwingNothing (rules_of sizes) line.begin line.now (entries_of history) (map text_done history)
   pub answered : AllByRecursion (IsAnswered sizes.shards) history
   pub moments : AllByRecursion (λ done. may_answer done.moment) history
   pub counted : line.commands ≡ length history
 
--- The log explains the lines of a seat by a history each.
+-- The log explains each connection of a slot by a list of commands.
 pub record ExplainsSeat (sizes : Sizes) (may_answer : ℕ → Type 0) (log : List Entry) (seat : ℕ)
     (lines : List LineTold) : Type 0 where
   pub histories : List (List AnsweredCommand)
   pub each : Zips (ExplainsHistory sizes may_answer) lines histories
-  -- What a shard ran for the seat is just what was due there for the first line, then for the second, and so on.
+  -- A shard ran for the slot exactly the operations of the first connection, then of the second, and so on.
   pub ran : (shard : ℕ) → shard < sizes.shards → of_asker seat (on_shard shard log)
       ≡ flat_map (λ history. on_shard shard (log_of sizes.shards seat history)) histories
 
--- The lines of one source came in and went back, until it said that no more come.
+-- One source accepted these connections and took them back, until it returned that no more will come.
 pub record PassesAll (before : SourceTold) (lines : List LineTold) (after : SourceTold) : Type 0 where
   pub passed : SourceTold
   pub passes : Passes before lines passed
   pub done : IsDone passed
   pub over : after ≡ closed passed
 
--- So did the lines of each source.
+-- Each source did so with its connections.
 abbrev pub PassEach : List SourceTold → List (List LineTold) → List SourceTold → Type 0
 PassEach [] [] [] = Unit {0}
 PassEach [] [] (after ∷ afters) = ⊥
@@ -57,14 +57,14 @@ PassEach (before ∷ befores) (lines ∷ seats) (after ∷ afters) =
 abbrev pub log_by : List Event → List Entry
 log_by events = map (seated (seats_in events)) (ran_in events)
 
--- The log is what the shards ran in the lawful history that evidence shows, each entry with its slot in place of its
--- connection.
+-- The log is what the shards ran in the lawful history that the evidence shows. Its entries have slots in place of
+-- connections.
 pub record IsOfHistory (sizes : Sizes) (shown : Shown) (log : List Entry) : Type 0 where
   pub lawful : IsHistory sizes shown.events
   pub log_is : log ≡ log_by shown.events
 
--- Each source accepted its lines and took them back, until it returned that no more come, and one log, of the history
--- that evidence shows, explains them all.
+-- Each source accepted its connections and took them back, until it returned that no more will come. One log, of the
+-- history that the evidence shows, explains them all.
 pub record ServesSources (sizes : Sizes) (may_answer : ℕ → Type 0) (before after : List SourceTold) (shown : Shown) :
     Type 0 where
   pub seats : List (List LineTold)

@@ -1,21 +1,21 @@
-//! Why a server doesn't serve.
+//! The errors of a server.
 use mc_ring::RingError;
 use mc_wake::ThreadGroupError;
 use std::alloc::AllocError;
 use thiserror::Error;
 
-/// Why lines were not served. Of `Memory` and `Thread` nothing was read of any line nor written to
-/// it.
+/// Why a server didn't serve. With `Memory` or `Thread`, nothing was read from any connection or
+/// written to it.
 #[derive(Clone, Copy, Debug, Error)]
 pub enum ServeError {
-    /// There is no memory for the shards, the connections or the rings, or the system returns no
-    /// random bytes for a hash.
+    /// Memory for the shards, the slots or the rings was refused, or the system has no random bytes
+    /// for a hash.
     #[error("out of memory for the shards, the connections or the rings, or no random bytes from the system")]
     Memory,
-    /// A thread could not be started.
+    /// A thread or its poll could not be created.
     #[error("a thread can't be started: fewer shards, or a higher limit of threads")]
     Thread,
-    /// The listener can't be made, or accepts no more connections.
+    /// The listener can't be created, or accepts no more connections.
     #[error("the address can't be listened on, or its listener accepts no more connections")]
     Bind,
 }
@@ -56,7 +56,7 @@ impl From<RingError> for ServeError {
     ghost from_gives = { λ _ refusal. refusal ≡ Memory };
 
     fn from(_refusal: RingError) -> ServeError {
-        // The caller hands sizes within the limits, so no ring is refused for its size.
+        // Callers pass sizes within the limits, so no ring is refused for its size.
         ServeError::Memory
     }
 }

@@ -1,5 +1,5 @@
-//! Has each seat look again at a connection of which nothing comes, so that one that is idle for
-//! too long is found, and each one where the server is to end.
+//! The idle reaper: a thread that wakes slots without events, so that they find idle connections
+//! and requests for shutdown.
 use crate::error::ServeError;
 use mc_doors::AcceptorHandle;
 use mc_wake::{Poller, Wakers};
@@ -10,37 +10,38 @@ use std::thread::{JoinHandle, Threads};
 use std::time::{Duration, Instant};
 use std::{thread, time};
 
-/// Milliseconds from one look at the clock and the signals to the next.
+/// Interval between two looks at the clock and the requests, in milliseconds.
 const LOOK_MILLIS: u64 = 250;
 
-/// Shows the seconds to all lines and wakes each seat once a second, and has all lines end once a
-/// signal or a client asks for it.
+/// The thread's task. Once a second it publishes the time to the connections and wakes all slots.
+/// After a request for shutdown by a signal or a client, it ends the connections.
 #[derive(Drop)]
 struct ReaperTask {
-    /// If there is an idle timeout.
+    /// The clock that it publishes, if there is an idle timeout.
     seconds: Option<CoarseClock>,
-    /// Where a signal or a client may ask the server to end.
+    /// The requests for shutdown, if a signal or a client may send them.
     drain: Option<Drain>,
     acceptor: AcceptorHandle,
     seats: Wakers,
     count: usize,
     stop_token: Arc<StopToken, Global>,
-    /// The seconds that were said last.
+    /// The last published second.
     said: u64,
-    /// Since the beginning, when the connections are cut off that have not ended: once the end is
-    /// asked for.
+    /// When the remaining connections are cut off, as a time since the start of the thread; `None`
+    /// before shutdown is requested.
     until: Option<Duration>,
 }
 
-/// A thread that makes its rounds if there is an idle timeout, or the server may be asked to end;
-/// else none.
+/// The thread, if there is an idle timeout or shutdown may be requested.
 #[derive(Drop)]
 pub(crate) struct IdleReaper {
     working: Option<(JoinHandle<()>, Arc<StopToken, Global>)>,
 }
 
 impl IdleReaper {
-    /// Starts the thread, where it is needed. The pollers are those of the threads of the seats.
+    /// Starts the thread if it is needed. The pollers are those of the slots' threads.
+    ///
+    /// Errors: `Memory`, or `Thread` if the thread can't be created.
     pub(crate) fn start<R: Threads + Wait + time::Clock + Copy + Send + Drop + 'static>(
         rt: &R,
         alloc: Global,
@@ -72,7 +73,7 @@ impl IdleReaper {
         }
     }
 
-    /// Ends the thread.
+    /// Ends and joins the thread.
     pub(crate) fn dismiss<R: Threads>(self, rt: &R) {
         let IdleReaper { working } = self;
         if let Some((going, stop_token)) = working {
@@ -83,7 +84,8 @@ impl IdleReaper {
 }
 
 impl ReaperTask {
-    /// Makes its rounds until it is dismissed. Where the clock can't be read none is made.
+    /// Looks at regular intervals until it is dismissed. Returns at once if the clock can't be
+    /// read.
     fn run<R: Wait + time::Clock>(self, rt: &R) {
         let mut reaper_task = self;
         let Ok(begin) = Instant::now(rt) else {
@@ -103,8 +105,7 @@ impl ReaperTask {
         unreachable!()
     }
 
-    /// Has the seats look again, where so much time has passed that one may be idle, or where the
-    /// server is to end.
+    /// Wakes all slots if a new second has begun or the server shuts down.
     fn look(&mut self, passed: Duration) {
         let is_second = self.says_second(passed.as_secs());
         if self.drains(passed) || is_second {
@@ -114,7 +115,8 @@ impl ReaperTask {
         }
     }
 
-    /// Publishes the seconds that have passed, if they have changed and there is an idle timeout.
+    /// Publishes the time in seconds, if there is an idle timeout and a new second has begun.
+    /// Returns whether it did.
     fn says_second(&mut self, passed: u64) -> bool {
         let Some(seconds) = &self.seconds else {
             return false;
@@ -127,7 +129,7 @@ impl ReaperTask {
         true
     }
 
-    /// Whether the server is to end: then it accepts no connection more, and cuts those off that
+    /// Whether the server shuts down. If so, it stops accepting, and cuts off the connections that
     /// have not ended in time.
     fn drains(&mut self, passed: Duration) -> bool {
         let Some(drain) = &self.drain else {
@@ -153,13 +155,13 @@ impl ReaperTask {
     }
 }
 
-/// What publishes the seconds, if there is an idle timeout.
+/// The clock to publish, if there is an idle timeout.
 fn seconds_of(idle_limit: Option<IdleLimit>) -> Option<CoarseClock> {
     let IdleLimit { seconds, limit: _ } = idle_limit?;
     Some(seconds)
 }
 
-/// How many seats the threads have together.
+/// Number of slots of all threads.
 fn places(pollers: &[Poller]) -> usize {
     let mut count = 0usize;
     for poller in pollers {

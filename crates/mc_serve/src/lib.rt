@@ -1,5 +1,6 @@
-//! The server: each seat serves the lines of a source of its own, one after another, over shards in
-//! threads of their own. Lines in memory and connections over sockets come in by sources alike.
+//! The server: threads that serve connection slots and shards by an event loop each. A slot serves
+//! the connections of its source, one after another. A connection is a socket, or a line in memory
+//! for tests.
 #![tactic(auto)]
 
 mod connection_slot;

@@ -1,15 +1,15 @@
-//! What became of all connections.
+//! The report on all connections.
 use http_server::Log;
 use mc_doors::{ClosedConnection, Stream};
 use mc_history::Evidence;
 
-/// The connections that were served and have ended.
+/// The connections that were served and have ended, by slot.
 #[derive(Drop)]
 pub struct Outcome<S: Stream> {
-    /// How many, a count that stays at its greatest value.
+    /// Their number; it saturates.
     pub ended: u64,
-    /// Those of each seat, in their order. The lists take no memory: contracts alone see them.
+    /// Those of each slot, in order. Contracts alone see the lists; they take no memory.
     pub seats: Log<Log<ClosedConnection<S, Evidence>, ()>, ()>,
-    /// Shows the history in which they were served.
+    /// Evidence of the history in which they were served.
     pub evidence: Evidence,
 }

@@ -1,4 +1,4 @@
-//! Serves lines over memory, each by a source of its own.
+//! Serves lines in memory, each as the single connection of a slot.
 ghost use Rattle.std.specs.Prelude.{◌≡◌, ◌≢◌, [], IfErr, IfOk, length, map};
 ghost use Rattle.std.specs.List.{AllByRecursion};
 ghost use Rattle.mc_sizes.specs.Sizes.{MayServe};
@@ -23,19 +23,21 @@ use std::random::RandomSource;
 use std::sync::Wait;
 use std::thread::Threads;
 
-/// What became of all lines.
+/// The lines after they were served.
 #[derive(Drop)]
 pub struct Report<L> {
-    /// The lines, in the order in which they were given.
+    /// The lines, in the order of the call.
     pub lines: Vec<ServedLine<L>>,
-    /// Shows the history in which they were served.
+    /// Evidence of the history in which they were served.
     pub evidence: Evidence,
 }
 
-/// Serves the lines until each has ended, quits or has failed. All of them are of the history that
-/// was opened. Each line has a slot, whatever the sizes say, and each line and each shard has a
-/// thread of its own. Every worker passes the gate before each piece. Where it refuses, nothing was
-/// read of any line nor written to it.
+/// Serves the lines until each has ended, quit or failed, and returns them. All of them belong to
+/// the opened history. Each line has a slot, and each slot and each shard has a thread;
+/// `sizes.seats` is ignored. The workers call the gate before each piece.
+///
+/// Errors: `Memory`, or `Thread` if a thread can't be started. Nothing was read from any line or
+/// written to it then.
 pub fn serve_over<
     R: Threads + Wait + RandomSource + Copy + Send + Drop + 'static,
     L: Transport<Warrant = Evidence> + Send + Drop + 'static,
@@ -53,11 +55,11 @@ pub fn serve_over<
     requires sizes { MayServe (record sizes { seats = length lines.items }) }
     requires opening { IsOpening (record sizes { seats = length lines.items })
         opening.recorders.items opening.clerks.items opening.witness }
-    // None has begun.
+    // None of the lines has begun.
     requires new { AllByRecursion (λ line. L.place line ≡ unbegun opening.witness.name)
         lines.items }
-    // One log, of the history that the evidence shows, explains what was read of all lines, what was
-    // written to them and what the shards did.
+    // One log, of the history that the evidence shows, explains what was read from all lines, what
+    // was written to them and what the shards ran.
     ensures explained { IfOk result (λ report.
         ServesAll (record sizes { seats = length lines.items }) (K.may_answer clock)
         (map (λ line. L.sight line) lines.items)
@@ -66,7 +68,7 @@ pub fn serve_over<
     ensures shown { IfOk result (λ report. report.evidence.name ≡ opening.witness.name) }
     ensures refused { IfErr result (λ refusal. refusal ≢ Bind) }
 {
-    // The room for the report comes first: the lines are not lost once they were served.
+    // Space for the report is reserved first, so that no line can be lost after it was served.
     let room = Vec::with_capacity(alloc, lines.len())?;
     let mut opening = opening;
     let shown = opening.show();
@@ -76,7 +78,7 @@ pub fn serve_over<
     gather(back, room, evidence)
 }
 
-/// A thread for each of `seats` seats, and one for each of `shards` shards.
+/// Pollers of a thread for each of `seats` slots, and then of one for each of `shards` shards.
 pub(crate) fn pollers_for<R: Threads>(
     rt: &R,
     alloc: Global,
@@ -97,7 +99,7 @@ pub(crate) fn pollers_for<R: Threads>(
     Ok(pollers)
 }
 
-/// A source for each line of the token's history.
+/// Creates a source for each line. The lines are of the token's history.
 fn sources_for<L: Transport<Warrant = Evidence> + Drop>(
     alloc: Global,
     lines: Vec<L>,
@@ -117,7 +119,7 @@ fn sources_for<L: Transport<Warrant = Evidence> + Drop>(
     Ok(sources)
 }
 
-/// The lines that went back to their sources. The room is for as many.
+/// Reports the lines that were returned to their sources. `room` has space for them.
 fn gather<L: Transport + Drop>(
     sources: Vec<SingleSource<L>>,
     room: Vec<ServedLine<L>>,

@@ -1,4 +1,4 @@
-//! A line over memory that notes which connection it is.
+//! A line in memory that records which connection of a history it is.
 ghost use Rattle.std.specs.Prelude.{◌≡◌};
 ghost use Rattle.mc_seat.specs.Place.{unbegun};
 
@@ -8,16 +8,16 @@ use mc_wire::SinkError;
 use std::io::IoSlice;
 use std::snapshot::Snapshot;
 
-/// A line that any bytes may be written to, as one of a history, which is written by evidence of it.
-/// Which connection it is, contracts alone see.
+/// A line of a history, over a line that accepts any writes. A write needs evidence of the history.
+/// Contracts alone see which connection it is.
 #[derive(Drop)]
 pub struct PlacedLine<L> {
     pub line: L,
     /// Evidence of its history.
     history: Snapshot<Evidence>,
-    /// What was shown when it began, if it has.
+    /// The evidence with which it began; `None` before that.
     seen: Snapshot<Option<Evidence>>,
-    /// The line then.
+    /// The line in the state in which it began.
     begin: Snapshot<L>,
 }
 
@@ -25,7 +25,7 @@ impl<L: Transport<Warrant = ()> + Drop> PlacedLine<L> {
     ghost use Rattle.mc_seat.specs.Place.{bytes_seen, place_by};
     ghost use Rattle.mc_history.specs.Places.{place_in};
 
-    /// The line, as one of this history that has not begun.
+    /// A line of this token's history that has not begun.
     pub fn new(line: L, history: &Evidence) -> PlacedLine<L>
         ensures line { result.line ≡ line }
         ensures new { place_by place_in result.history.value.name result.seen.value
@@ -41,7 +41,7 @@ impl<L: Transport<Warrant = ()> + Drop> PlacedLine<L> {
         }
     }
 
-    /// The line itself.
+    /// Returns the inner line.
     pub fn into_line(self) -> L
         ensures { result ≡ self.line }
     {

@@ -1,4 +1,4 @@
-//! What one thread serves.
+//! The event loop of one thread.
 ghost use Rattle.mc_sizes.specs.Sizes.{rules_of};
 ghost use Rattle.std.specs.Prelude.{◌≡◌, IfOk, IsTrue, map};
 ghost use Rattle.std.specs.List.{AllByRecursion};
@@ -20,9 +20,9 @@ use mc_worker::Gate;
 use std::alloc::{AllocError, Global};
 use std::sync::Wait;
 
-/// Any number of seats and any number of workers, which one thread serves. In each turn the seats
-/// come first: what they send is on the channels before a worker waits at its gate. They come once
-/// more behind the workers, for the replies given in this turn.
+/// The slots and the shards' workers that one thread serves. In each turn the slots come first, so
+/// that their pieces are on the rings before the workers look. They come again after the workers,
+/// for the replies of this turn.
 pub struct Reactor<D: ConnectionSource, G, K> {
     pub(crate) seats: SlotTable<D>,
     pub(crate) workers: Vec<Working<G, Evidence, Recorder>>,
@@ -33,7 +33,7 @@ pub struct Reactor<D: ConnectionSource, G, K> {
 }
 
 impl<D: ConnectionSource + Drop, G: Drop, K: Drop> Drop for Reactor<D, G, K> {
-    /// By hand, so that to drop one is one call for its owner (docs/DECISIONS.md).
+    /// Written by hand, so that its owners drop it by a single call (docs/DECISIONS.md, F20).
     fn drop(self) {
         let Reactor {
             seats: _seats,
@@ -50,8 +50,8 @@ impl<D: ConnectionSource + Drop, G: Gate + Drop, K: Clock + Drop> Reactor<D, G, 
 where
     D::Transport: Transport<Warrant = Evidence>,
 {
-    /// The part that serves these seats and these workers, which any seat of the server may call.
-    /// The poller is its thread's.
+    /// A reactor for these slots and workers. The poller is that of the thread that will run it;
+    /// any slot of the server may ring for the workers. Fails if memory for the buffers is refused.
     pub(crate) fn new(
         alloc: Global,
         seats: Vec<ConnectionSlot<D>>,
@@ -81,7 +81,8 @@ where
         })
     }
 
-    /// Serves by turns until each seat has closed its channels and each worker has ended.
+    /// Runs turns until each slot has closed its channels and each worker has ended. A turn that
+    /// finds nothing to do ends with a wait of the poller.
     fn run<R: Wait>(&mut self, rt: &R)
         requires { AllByRecursion (λ one.
             HasSatDown self.old.sizes.shards (rules_of self.old.sizes) (D.told one.source)
@@ -114,7 +115,7 @@ where
         unreachable!()
     }
 
-    /// Whether each seat has closed its channels and each worker has ended.
+    /// Whether each slot has closed its channels and each worker has ended.
     fn is_done(&self) -> bool
         ensures { IsTrue result →
             AllByRecursion (λ one. one.slot_state ≡ slot_state.Over) self.now.seats.all.items }
@@ -125,7 +126,7 @@ where
         have_ended(&self.workers)
     }
 
-    /// The seats, once they were served. The workers are dropped.
+    /// Returns the slots after the run. The workers are dropped.
     pub(crate) fn into_seats(self) -> Vec<ConnectionSlot<D>>
         ensures { result ≡ self.seats.all }
     {
@@ -141,7 +142,7 @@ where
     }
 }
 
-/// Has each worker serve the seats that called. Whether one had called.
+/// Has each worker run the pieces of the slots that rang. Returns whether one may have.
 fn serve_callers<G: Gate + Drop>(
     workers: &mut Vec<Working<G, Evidence, Recorder>>,
     poller: &Poller,
@@ -154,8 +155,8 @@ fn serve_callers<G: Gate + Drop>(
     first < end
 }
 
-/// Has each worker serve those of the 64 seats of a word that have a bit. It returns those that may
-/// have more for one of them.
+/// Does so for those of the 64 slots of one word whose bits are set. Returns those that may have
+/// more pieces.
 fn serve_word<G: Gate + Drop>(
     workers: &mut Vec<Working<G, Evidence, Recorder>>,
     word: usize,

@@ -1,4 +1,4 @@
-//! New channels, and who records what is sent over them.
+//! New channels, with the actors that record what is sent over them.
 ghost use Rattle.std.specs.Prelude.{◌≡◌, IfOk};
 ghost use Rattle.mc_ring.specs.Made.{AreChannels};
 ghost use Rattle.mc_wake.specs.Zips.{Zips};
@@ -11,8 +11,8 @@ use mc_ring::{SeatEnds, ShardEnds, channels_with};
 use mc_sizes::Sizes;
 use std::alloc::{AllocError, Global};
 
-/// The ends of new channels between all seats and all shards, with the clerk of each seat and the
-/// recorder of each shard. All of them record in one history, of which there is a witness.
+/// The ends of new channels between all slots and all shards, with the clerk of each slot and the
+/// recorder of each shard. All of them record in one history, and the witness closes it.
 #[derive(Drop)]
 pub(crate) struct RecordedChannels {
     pub(crate) near: Vec<SeatEnds<Evidence>>,
@@ -23,8 +23,8 @@ pub(crate) struct RecordedChannels {
 }
 
 impl RecordedChannels {
-    /// The channels of a server of these sizes, on which nothing was sent. They are recorded in the
-    /// history that was opened.
+    /// Creates the channels of a server of these sizes. What is sent there is recorded in the
+    /// opened history. Fails if memory is refused.
     pub(crate) fn new(
         alloc: Global,
         opening: Opening,
@@ -47,7 +47,7 @@ impl RecordedChannels {
             witness,
         } = opening;
         let Ok((near, far)) = channels_with(alloc, sizes, &mut source) else {
-            // The sizes are within the limits.
+            // The sizes are within the limits, so the cause is memory.
             return Err(AllocError);
         };
         Ok(RecordedChannels {

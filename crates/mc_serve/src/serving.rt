@@ -1,5 +1,5 @@
-//! Serves the lines of sources, over shards, in threads that each serve some of the seats and some
-//! of the shards.
+//! Serves the connections of sources over shards, in threads that each serve some of the slots and
+//! some of the shards.
 ghost use Rattle.std.specs.Prelude.{◌≡◌, ◌≢◌, [], ◌++◌, IfErr, IfOk, IsTrue, OnOk, length, map};
 ghost use Rattle.std.specs.List.{AllByRecursion, flat_map};
 ghost use Rattle.std.specs.Vec.Iter.{into_iter_items};
@@ -33,13 +33,16 @@ use std::sync::{Arc, Wait};
 use std::thread::Threads;
 use std::vec::IntoIter;
 
-/// Serves the lines of the sources until no more come. All of them are of the history that was
-/// opened, in which each slot's clerk records what the slot's connections take, and each shard's
-/// recorder what the shard runs. There is a thread for each poller, which serves as many of the
-/// slots and of the shards as the poller has places and workers: in their order, so that each slot
-/// and each shard has its thread. Each source has a slot, whatever the sizes say. Every worker
-/// passes the gate before each piece. Where it refuses, no source was called; `Thread` is returned
-/// also where the pollers have places or workers for more or fewer.
+/// Serves the connections of the sources until no more come, and returns the sources with evidence
+/// of the history. All connections belong to the opened history. Each slot's clerk records there
+/// what the slot's connections take, and each shard's recorder what the shard runs.
+///
+/// Each source has a slot; `sizes.seats` is ignored. Each poller has a thread. The threads get
+/// slots and shards in order, as many as their pollers have places and workers. The workers call
+/// the gate before each piece.
+///
+/// Errors: `Memory`, or `Thread` if a thread can't be started, or if the pollers' places or workers
+/// are not as many as the slots or shards. No source was called then.
 pub fn serve<
     R: Threads + Wait + RandomSource + Copy + Send + Drop + 'static,
     D: ConnectionSource + Send + Drop + 'static,
@@ -63,8 +66,8 @@ where
     requires history { AllByRecursion (λ source. D.history source ≡ opening.witness.name)
         sources.items }
     requires free { AllByRecursion (λ source. IsFree (D.told source)) sources.items }
-    // One log, of the history that the evidence shows, explains what was read of all lines, what was
-    // written to them and what the shards did.
+    // One log, of the history that the evidence shows, explains what was read from all connections,
+    // what was written to them and what the shards ran.
     ensures explained { IfOk result (λ back.
         ServesSources (record sizes { seats = length sources.items }) (K.may_answer clock)
         (map (λ source. D.told source) sources.items) (map (λ source. D.told source) back.0.items)
@@ -80,7 +83,7 @@ where
     }
 }
 
-/// Serves the lines of the sources, in threads that begin together or not at all.
+/// Starts the threads, all or none, joins them, and closes the history.
 fn serve_all<
     R: Threads + Wait + RandomSource + Copy + Send + Drop + 'static,
     D: ConnectionSource + Send + Drop + 'static,
@@ -140,9 +143,9 @@ where
     Ok((back, evidence))
 }
 
-/// Starts a thread for each poller, with as many of the seats and of the workers as it has places
-/// and workers for, as far as they can be started. Any seat of the server may call a worker.
-/// `Thread`: some are left. It returns the history's witness.
+/// Starts a thread for each poller, with as many slots and workers as the poller has places for,
+/// and returns the history's witness. Errors: `Memory`; `Thread` if a thread can't be created, or
+/// if slots or workers are left.
 fn start<
     R: Threads + Wait + RandomSource + Copy + Send + 'static,
     D: ConnectionSource + Send + Drop + 'static,
@@ -193,8 +196,8 @@ where
     Err(ThreadGroupError::Thread)
 }
 
-/// A seat for each source, over the ends in the same place and with the clerk there. The wakers are
-/// those of the shards.
+/// Creates a slot for each source, with the ends and the clerk at the same index. The wakers are
+/// those of the shards' threads. Fails if memory is refused.
 fn sit_down<D: ConnectionSource + Drop>(
     alloc: Global,
     sources: Vec<D>,
@@ -240,8 +243,8 @@ where
     Ok(seats)
 }
 
-/// The workers with what their turns need: the gate is theirs together, the wakers are those of the
-/// seats.
+/// Adds to the workers what their turns need: the shared gate, and the wakers of the slots'
+/// threads.
 fn set_working<G: Gate + Drop>(
     alloc: Global,
     workers: Vec<Worker<Evidence, Recorder>>,
@@ -257,7 +260,7 @@ fn set_working<G: Gate + Drop>(
     Ok(all)
 }
 
-/// The seats and the workers that no thread serves yet, and the history's witness.
+/// The slots and workers that no thread has yet, and the history's witness.
 #[derive(Drop)]
 struct Unassigned<D: ConnectionSource, G> {
     seats: IntoIter<ConnectionSlot<D>>,
@@ -269,8 +272,8 @@ impl<D: ConnectionSource + Drop, G: Gate + Drop> Unassigned<D, G>
 where
     D::Transport: Transport<Warrant = Evidence>,
 {
-    /// A seat for each source and a worker for each shard, over new channels, which record in the
-    /// history that was opened. The pollers are those of their threads.
+    /// Creates a slot for each source and a worker for each shard, over new channels that are
+    /// recorded in the opened history. The pollers are those of their threads.
     fn new<R: RandomSource>(
         rt: &R,
         alloc: Global,
@@ -320,8 +323,8 @@ where
         })
     }
 
-    /// The part of the thread that has this poller: the next of them, as many as it has places and
-    /// workers for.
+    /// The reactor of the next thread: it takes as many slots and workers as its poller has places
+    /// for, or all that are left.
     fn next_part<K: Clock + Drop>(
         &mut self,
         alloc: Global,
@@ -348,14 +351,14 @@ where
         Reactor::new(alloc, seats, workers, poller, sizes, clock)
     }
 
-    /// Whether there are none.
+    /// Whether no slot and no worker is left.
     fn is_empty(&self) -> bool
         ensures { IsTrue result → length (into_iter_items self.now.seats) ≡ 0 }
     {
         self.seats.len() == 0 && self.workers.len() == 0
     }
 
-    /// The history's witness.
+    /// Returns the history's witness.
     fn into_witness(self) -> Member
         ensures { result ≡ self.witness }
     {
@@ -364,7 +367,7 @@ where
     }
 }
 
-/// The next `count`, or all that are left.
+/// Takes the next `count`, or all that are left.
 fn take_some<T: Drop>(
     alloc: Global,
     left: &mut IntoIter<T>,

@@ -1,4 +1,4 @@
-//! What the threads return once they are joined.
+//! Takes the joined threads apart, into sources and clerks.
 ghost use Rattle.std.specs.Prelude.{◌≡◌, [], IfOk, OnOk, map};
 ghost use Rattle.std.specs.List.{AllByRecursion, flat_map};
 ghost use Rattle.mc_record.specs.Clerk.{IsSeatActor};
@@ -16,8 +16,8 @@ use mc_wake::ThreadGroupError;
 use mc_worker::Gate;
 use std::alloc::{AllocError, Global};
 
-/// The room for what the threads return. It is made before they start: nothing is lost once the
-/// lines were served.
+/// Space for what the threads return. It is reserved before they start, so that nothing can be lost
+/// after the connections were served.
 #[derive(Drop)]
 pub(crate) struct ReturnRoom<D: ConnectionSource> {
     slots: Vec<ConnectionSlot<D>>,
@@ -32,7 +32,7 @@ impl<D: ConnectionSource + Drop> ReturnRoom<D>
 where
     D::Transport: Transport<Warrant = Evidence>,
 {
-    /// The room for as many slots.
+    /// Space for `slots` slots.
     pub(crate) fn new(alloc: Global, slots: usize) -> Result<ReturnRoom<D>, AllocError> {
         Ok(ReturnRoom {
             slots: Vec::with_capacity(alloc, slots)?,
@@ -41,8 +41,9 @@ where
         })
     }
 
-    /// The sources and the clerks of the slots of all parts, in their order. Each clerk knows the
-    /// routes of its slot's channels.
+    /// Returns the sources and the clerks of the slots of all reactors, in order. Each clerk knows
+    /// the routes of its slot's channels. Fails with `Memory` if there are more than were reserved
+    /// and memory is refused.
     pub(crate) fn take_back<G: Gate + Drop, K: Clock + Drop>(
         self,
         parts: Vec<Reactor<D, G, K>>,
@@ -71,7 +72,7 @@ where
     }
 }
 
-/// Appends the slots of all parts, in their order.
+/// Appends the slots of all reactors, in order.
 fn take_apart<D: ConnectionSource + Drop, G: Gate + Drop, K: Clock + Drop>(
     parts: Vec<Reactor<D, G, K>>,
     slots: &mut Vec<ConnectionSlot<D>>,
@@ -89,7 +90,7 @@ where
     Ok(())
 }
 
-/// Appends the sources and the clerks of the slots.
+/// Appends the sources and the clerks of the slots, in order.
 fn finish_all<D: ConnectionSource + Drop>(
     slots: Vec<ConnectionSlot<D>>,
     sources: &mut Vec<D>,

@@ -1,4 +1,4 @@
-//! What is watched of the shards: the gate of their workers shows what each has counted.
+//! Statistics of the shards, published by the gate of their workers.
 use crossbeam_utils::CachePadded;
 use mc_reply::Ticket;
 use mc_store::Shard;
@@ -7,11 +7,11 @@ use mc_worker::Gate;
 use std::alloc::Global;
 use std::sync::Arc;
 
-/// A gate that lets every piece through at once, and shows what a shard holds and has counted once
-/// its worker has run what was there.
+/// A gate that never delays a piece. After each turn of a worker it publishes the shard's counters
+/// and what the shard holds.
 #[derive(Drop)]
 pub(crate) struct ShardTelemetry {
-    /// Where each shard shows it, by its number; a shard without a place shows nothing.
+    /// Where each shard's counts are published, by its number; a shard without an entry has none.
     pub(crate) shards: Vec<Arc<CachePadded<ShardCounts>, Global>>,
 }
 

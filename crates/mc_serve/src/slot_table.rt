@@ -1,4 +1,4 @@
-//! The seats of one thread.
+//! The slots of one thread.
 ghost use Rattle.mc_command.specs.declared.rules.Rules.{Rules};
 ghost use Rattle.std.specs.Prelude.{◌≡◌, ℕ, List, IsTrue};
 ghost use Rattle.std.specs.List.{AllByRecursion};
@@ -12,15 +12,15 @@ use mc_history::Evidence;
 use mc_seat::{BufferPool, Clock, Ready, Transport};
 use mc_wake::{Poller, Readiness, SetBits};
 
-/// Seats a word, each with a bit.
+/// Number of slots of a word, each with a bit.
 const WORD: usize = 64;
 
-/// The seats that one thread serves. It steps those that were woken, and those of which the last
-/// step did something.
+/// The slots that one thread serves. A turn steps only slots that were woken, or whose last step
+/// did something.
 #[derive(Drop)]
 pub struct SlotTable<D: ConnectionSource> {
     pub(crate) all: Vec<ConnectionSlot<D>>,
-    /// How many of them have not found yet that all their channels are closed.
+    /// Number of slots that have not reported `Over` yet.
     left: usize,
 }
 
@@ -28,7 +28,7 @@ impl<D: ConnectionSource + Drop> SlotTable<D>
 where
     D::Transport: Transport<Warrant = Evidence>,
 {
-    /// These seats. Their poller has each of them woken at first.
+    /// A table of these slots. A new poller has all of them marked, so that each is stepped once.
     pub(crate) fn new(all: Vec<ConnectionSlot<D>>) -> SlotTable<D>
         ensures { result.all ≡ all }
     {
@@ -36,8 +36,8 @@ where
         SlotTable { all, left }
     }
 
-    /// Steps the seats that were woken, or did something when they were stepped last. Whether
-    /// there may have been one.
+    /// Steps the slots that were woken, or whose last step did something. Returns whether there may
+    /// have been one.
     pub(crate) fn step<K: Clock>(
         &mut self,
         poller: &mut Poller,
@@ -66,7 +66,7 @@ where
         first < end
     }
 
-    /// Steps those of the 64 seats of a word that were woken, or did something last.
+    /// Does so for the 64 slots of one word. Slots whose step did something are marked again.
     fn step_word<K: Clock>(
         &mut self,
         word: usize,
@@ -100,8 +100,8 @@ where
         poller.rouse_again(word, again);
     }
 
-    /// Steps the seat at this place, if there is one; where it did something, once more: what it
-    /// took is sent at once.
+    /// Steps the slot at `place`, if there is one. If the step did something, it steps again: a
+    /// step reads commands, and the next one sends their pieces.
     fn step_at<K: Clock>(
         &mut self,
         place: usize,
@@ -135,7 +135,7 @@ where
         }
     }
 
-    /// Whether all channels of all seats were closed.
+    /// Whether all channels of all slots are closed.
     pub(crate) fn are_over(&self) -> bool
         ensures { IsTrue result →
             AllByRecursion (λ one. one.slot_state ≡ slot_state.Over) self.now.all.items }
@@ -151,7 +151,7 @@ where
         true
     }
 
-    /// The seats.
+    /// Returns the slots.
     pub(crate) fn into_all(self) -> Vec<ConnectionSlot<D>>
         ensures { result ≡ self.all }
     {
@@ -160,7 +160,7 @@ where
     }
 }
 
-/// What a poll has reported of a socket, for its line.
+/// The readiness of a socket as its connection takes it.
 fn ready_by(readiness: Option<Readiness>) -> Option<Ready> {
     match readiness? {
         Readiness::Ready => Some(Ready::Open),

@@ -1,4 +1,4 @@
-//! Serves streams, each as a line.
+//! Serves streams, each as a connection.
 ghost use Rattle.std.specs.Prelude.{◌≡◌, ◌^◌, ◌-◌, IfOk, length, map, min};
 ghost use Rattle.std.specs.List.{AllByRecursion};
 ghost use Rattle.mc_command.specs.Rules.{is_drop_in};
@@ -24,10 +24,12 @@ use std::sync::Wait;
 use std::thread::Threads;
 use std::time;
 
-/// Serves the streams that arrive, each as a line of the slot where it arrived, until no more come
-/// at any. All of them are of one history, which it opens. There is a slot for each of the arrivals,
-/// whatever the sizes say, and a thread for each poller, as `serve` says. `Bind`: a slot could
-/// accept no more, though more may come.
+/// Serves the streams that arrive until no more come, and reports all connections. It opens one
+/// history for all of them. Each of the arrivals has a slot; `sizes.seats` is ignored. Each poller
+/// has a thread, as in `serve`.
+///
+/// Errors: `Memory` and `Thread` as in `serve`; `Bind` if a slot could accept no more connections,
+/// though more may come.
 pub fn serve_streams<
     R: Threads + Wait + RandomSource + time::Clock + Copy + Send + Drop + 'static,
     A: Arrivals + Send + Drop + 'static,
@@ -45,12 +47,12 @@ pub fn serve_streams<
 where
     A::Stream: Send + 'static,
     requires { MayServe (record sizes { seats = length arrivals.items }) }
-    // One log, of the history that the evidence shows, explains what was read of all connections,
-    // what was written to them and what the shards did.
+    // One log, of the history that the evidence shows, explains what was read from all connections,
+    // what was written to them and what the shards ran.
     ensures explained { IfOk result
         (ServesConnections (record sizes { seats = length arrivals.items }) (K.may_answer clock)) }
-    // Where it is known which streams come, each of them was served as one connection, in their
-    // order, and no other.
+    // If the streams to come are known, each of them was served as one connection, in order, and no
+    // other was.
     ensures streams { IfOk result (λ served.
         Zips AreServed (map (λ one. A.coming one) arrivals.items) (seats_of served)) }
 {
@@ -61,8 +63,8 @@ where
     gather(back, evidence)
 }
 
-/// A source for each of the arrivals, for lines of the history that was opened. By memcached's
-/// rules other protocols are detected.
+/// Creates a source for each of the arrivals, for connections of the opened history. By memcached's
+/// rules, connections of other protocols are detected.
 fn sources_for<R: time::Clock + Copy + Drop, A: Arrivals + Drop>(
     rt: &R,
     alloc: Global,
@@ -92,7 +94,7 @@ fn sources_for<R: time::Clock + Copy + Drop, A: Arrivals + Drop>(
     Ok(sources)
 }
 
-/// How many connections came in by the sources, all of which have ended, and what they were.
+/// Reports the connections of all sources. Fails with `Bind` if one could accept no more.
 fn gather<R: time::Clock + Drop, A: Arrivals + Drop>(
     sources: Vec<StreamSource<R, A, Evidence>>,
     evidence: Evidence,

@@ -1,4 +1,4 @@
-//! Serves connections over sockets.
+//! Serves connections over TCP and Unix sockets.
 ghost use Rattle.std.specs.Prelude.{◌≡◌, ◌<◌, IfOk, length};
 ghost use Rattle.mc_sizes.specs.Sizes.{MayServe};
 ghost use Rattle.mc_serve.specs.Connections.{ServesConnections};
@@ -21,20 +21,25 @@ use std::sync::Wait;
 use std::thread::{JoinHandle, Threads};
 use std::{io, thread, time};
 
-/// A thread that waits for sockets sleeps at once where it finds nothing: to look again would take
-/// more of the processor than to wake.
+/// Spin policy of threads with sockets: block at once if there is no work. Spinning would cost more
+/// CPU time than waking.
 const AT_ONCE: SpinPolicy = SpinPolicy {
     looks: 0,
     yields: 0,
 };
 
-/// Serves the connections that come in by the listeners, over TCP or Unix sockets, each by one of
-/// the seats, until `connections` have ended, or forever. There is a thread for each shard, which
-/// serves its share of the seats too, and one that accepts; connections beyond the seats wait to be
-/// accepted, or by memcached's rules are refused. What is counted of them is reported to the watch;
-/// a connection that is idle for longer than it allows breaks. Where a signal asks for it by the
-/// watch, none is accepted any more, and each connection breaks once nothing comes and its replies
-/// are written, or time is up. `Bind`: accepts fail permanently.
+/// Serves the connections that the listeners accept, each in a free slot, until `connections` have
+/// ended; forever if it is `None`. Each shard has a thread, which also serves its share of the
+/// slots. One more thread accepts. Connections beyond the slots wait in the backlog, or are refused
+/// by memcached's rules.
+///
+/// Connections are counted in `telemetry`, which also has the idle timeout and the requests for
+/// shutdown. A connection that exceeds the timeout is closed. After a request, none is accepted any
+/// more. Each connection is closed once its input is empty and its replies are written, or when the
+/// time limit ends.
+///
+/// Errors: `Memory`; `Thread` if a thread or its poll can't be created; `Bind` if accepting has
+/// failed permanently.
 pub fn serve_tcp<
     R: Threads + Wait + RandomSource + time::Clock + Net + Copy + Send + Drop + 'static,
     K: Clock + Copy + Send + Drop + 'static,
@@ -48,8 +53,8 @@ pub fn serve_tcp<
     telemetry: Telemetry,
 ) -> Result<Outcome<Socket>, ServeError>
     requires { MayServe sizes }
-    // One log explains what was read of all connections, what was written to them and what the
-    // shards did.
+    // One log explains what was read from all connections, what was written to them and what the
+    // shards ran.
     ensures { IfOk result (ServesConnections sizes (K.may_answer clock)) }
 {
     let Ok(pollers) = socket_pollers(rt, alloc, sizes.seats, sizes.shards) else {
@@ -74,8 +79,8 @@ pub fn serve_tcp<
     served
 }
 
-/// What is there before the first connection comes: a way to each seat, what watches the shards,
-/// and what goes on beside.
+/// What is set up before the first connection: the channel from the acceptor to each slot, the gate
+/// of the workers, and the threads that serve no slot.
 #[derive(Drop)]
 struct Opened {
     handoffs: Vec<Handoff>,
@@ -84,8 +89,9 @@ struct Opened {
 }
 
 impl Opened {
-    /// Opens the ways for those who come in by the listeners. The pollers are those of the threads
-    /// of the seats.
+    /// Sets up accepting from these listeners. The pollers are those of the slots' threads.
+    ///
+    /// Errors: `Memory`, or `Thread` if a thread or a poll can't be created.
     fn to<R: Threads + Wait + time::Clock + Net + Copy + Send + Drop + 'static>(
         rt: &R,
         alloc: Global,
@@ -128,7 +134,7 @@ impl Opened {
     }
 }
 
-/// What goes on beside the serving: a thread that accepts connections, and the idle reaper's.
+/// The threads that serve no slot: the accepting thread and the idle reaper.
 #[derive(Drop)]
 struct Beside {
     handle: AcceptorHandle,
@@ -137,7 +143,7 @@ struct Beside {
 }
 
 impl Beside {
-    /// Starts both threads. The pollers are those of the threads of the seats.
+    /// Starts both threads. The pollers are those of the slots' threads.
     fn start<R: Threads + Wait + time::Clock + Copy + Send + Drop + 'static>(
         rt: &R,
         alloc: Global,
@@ -159,7 +165,7 @@ impl Beside {
         })
     }
 
-    /// Ends both threads.
+    /// Ends and joins both threads.
     fn end<R: Threads>(self, rt: &R) {
         let Beside {
             handle,
@@ -172,8 +178,8 @@ impl Beside {
     }
 }
 
-/// The sleep of each of `threads` threads, which have one shard each, and as many of the seats as
-/// another or one more.
+/// Pollers of `threads` threads. Each has one shard and an equal share of the slots; the first ones
+/// have one slot more if the division leaves a rest.
 fn socket_pollers<R: Net>(
     rt: &R,
     alloc: Global,
@@ -191,7 +197,7 @@ fn socket_pollers<R: Net>(
     Ok(pollers)
 }
 
-/// A way from the acceptor to each seat.
+/// Makes the channel from the acceptor to each slot.
 fn ways_to(
     alloc: Global,
     acceptor: &mut Acceptor,

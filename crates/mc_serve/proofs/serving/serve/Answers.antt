@@ -1,4 +1,4 @@
--- There are as many seats as sources.
+-- There are as many slots as sources.
 use Rattle.std.proofs.Common.{◌≡◌, ℕ, length, map, rules, subst, sym}
 use Rattle.mc_sizes.specs.Sizes.{MayServe}
 use Rattle.mc_record.specs.Opening.{IsOpening}

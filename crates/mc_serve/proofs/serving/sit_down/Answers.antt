@@ -1,4 +1,4 @@
--- One seat more, at last one for each source.
+-- One slot more, at last one for each source.
 use Rattle.std.proofs.Common.{◌≡◌, List, ◌∷◌, length, arith, ap, subst, sym, ◌∙◌}
 use Rattle.std.specs.Vec.Iter.{into_iter_items}
 use Rattle.mc_sizes.specs.Sizes.{rules_of}

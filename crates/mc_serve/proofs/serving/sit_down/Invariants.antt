@@ -1,4 +1,4 @@
--- The seats made so far, then the ends, the clerks and the sources that are left: as many of each.
+-- The slots made so far, then the ends, the clerks and the sources that are left: as many of each.
 use Rattle.std.proofs.Common.{◌≡◌, ◌++◌, length, map}
 use Rattle.std.specs.List.{AllByRecursion}
 use Rattle.std.specs.Vec.Iter.{into_iter_items}

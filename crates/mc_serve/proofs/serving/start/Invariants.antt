@@ -1,4 +1,4 @@
--- The seats of the parts started so far, then those that are left.
+-- The slots of the parts started so far, then those that are left.
 use Rattle.std.proofs.Common.{◌≡◌, ◌++◌, map}
 use Rattle.std.specs.List.{AllByRecursion, flat_map}
 use Rattle.std.specs.Vec.Iter.{into_iter_items}

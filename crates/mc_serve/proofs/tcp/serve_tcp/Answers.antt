@@ -1,4 +1,4 @@
--- There is a way to each seat.
+-- There is a way to each slot.
 use Rattle.std.specs.Prelude.{ℕ, IfOk}
 use Rattle.std.proofs.Common.{subst, sym}
 use Rattle.mc_sizes.specs.Sizes.{MayServe}

@@ -1,4 +1,4 @@
--- The seats are those that were handed over.
+-- The slots are those that were handed over.
 use Rattle.std.proofs.Common.{ap, refl}
 use Rattle.mc_sizes.specs.Sizes.{rules_of}
 use Rattle.mc_serve.specs.Seats.{HasSatDown}

@@ -1,4 +1,4 @@
--- Each turn steps the seats, before the workers and after them.
+-- Each turn steps the slots, before the workers and after them.
 use Rattle.std.proofs.Common.{map, refl}
 use Rattle.mc_sizes.specs.Sizes.{rules_of}
 use Rattle.mc_threads.specs.Session.{seat_clerk, seat_ends}

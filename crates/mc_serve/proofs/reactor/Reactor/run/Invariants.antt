@@ -1,4 +1,4 @@
--- The seats are as they began, some steps further.
+-- The slots are as they began, some steps further.
 use Rattle.std.proofs.Common.{◌≡◌, map}
 use Rattle.mc_sizes.specs.Sizes.{rules_of}
 use Rattle.mc_wake.specs.Zips.{Zips}

@@ -1,4 +1,4 @@
--- The seats and the workers are over new channels.
+-- The slots and the workers are over new channels.
 use Rattle.std.proofs.Common.{◌≡◌, ◌∙◌, ap, length}
 use Rattle.mc_model.proofs.Lists.{all_from}
 use Rattle.mc_threads.proofs.Fresh.{all_fresh}

@@ -1,4 +1,4 @@
--- One seat more is over.
+-- One slot more is over.
 use Rattle.std.proofs.Common.{◌<◌, ◌≤◌, ◌≡◌, length, refl, arith}
 use Rattle.std.proofs.lemmas.Option.{slice_get_read}
 use Rattle.mc_serve.specs.declared.connection_slot.SlotState.TheVariants as slot_state

@@ -1,4 +1,4 @@
--- The seats looked at so far are over.
+-- The slots looked at so far are over.
 use Rattle.std.proofs.Common.{◌≡◌, length, take}
 use Rattle.std.specs.List.{AllByRecursion}
 use Rattle.mc_serve.specs.declared.connection_slot.SlotState.TheVariants as slot_state

@@ -1,4 +1,4 @@
--- The seats stepped so far, and the others, are as they began, some steps further.
+-- The slots stepped so far, and the others, are as they began, some steps further.
 use Rattle.std.proofs.Common.{ℕ, List}
 use Rattle.mc_wake.specs.Zips.{Zips}
 use Rattle.mc_serve.specs.Seats.{SeatAt, SeatStands}

@@ -1,4 +1,4 @@
--- The seat at the place is stepped, perhaps twice, and the others stay.
+-- The slot at the place is stepped, perhaps twice, and the others stay.
 use Rattle.std.proofs.Common.{◌<◌, length, refl, arith}
 use Rattle.std.proofs.lemmas.Option.{slice_get_read}
 use Rattle.mc_serve.proofs.Parts.{seat_steps}
