@@ -88,12 +88,14 @@ impl BufferedConn {
         })
     }
 
-    /// Takes commands of the line as long as there are any, and the window has room for them.
+    /// Takes commands until more bytes are needed, none comes any more or the window is full. The
+    /// clock is read once: all have the same moment.
     pub fn take_all<K: Clock>(&mut self, clock: &K)
         ensures { TakesFor (K.may_answer clock.now) self.old self.new }
     {
+        let moment = clock.now();
         for _ in 0..u64::MAX {
-            match self.conn.take(self.alloc, clock.now(), clock) {
+            match self.conn.take(self.alloc, moment, clock) {
                 Taken::Opened(ticket) => self.commands = ticket.0.saturating_add(1),
                 stop => {
                     self.stop = stop;

@@ -93,16 +93,17 @@ impl Clock for RisingClock {
     }
 }
 
-/// The clock is read once for each command taken: an item that is stored at 1000 and lives for
-/// three seconds is there at 1001 and 1002, and expired at 1003.
+/// The clock is read once for the commands of a read: an item that lives for a second is there for
+/// all commands behind the one that stores it.
 #[test]
-fn a_moment_for_each_command(rt: HostRuntime) -> Result<(), Fail> {
-    let input = b"set a 0 3 1\r\nx\r\nget a\r\nget a\r\nget a\r\nquit\r\n";
+fn a_moment_for_each_read(rt: HostRuntime) -> Result<(), Fail> {
+    let input = b"set a 0 1 1\r\nx\r\nget a\r\nget a\r\nget a\r\nquit\r\n";
     let line = MemoryLine::new(rt.alloc(), input.as_slice())?;
     let (opening, mut line) = opened(rt.alloc(), line)?;
     let clock = RisingClock(Cell::new(1000));
     serve(&rt, rt.alloc(), opening, &mut line, &clock)?;
-    let output = b"STORED\r\nVALUE a 0 1\r\nx\r\nEND\r\nVALUE a 0 1\r\nx\r\nEND\r\nEND\r\n";
+    let output =
+        b"STORED\r\nVALUE a 0 1\r\nx\r\nEND\r\nVALUE a 0 1\r\nx\r\nEND\r\nVALUE a 0 1\r\nx\r\nEND\r\n";
     equal(&rt, line.line.output.as_slice(), output.as_slice());
     Ok(())
 }

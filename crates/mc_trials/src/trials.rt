@@ -439,12 +439,12 @@ impl<R: Threads + Wait + RandomSource + Copy + Send + Drop + 'static> Server<R> 
         }
     }
 
-    /// Whether the clock is read for each command: an item with three seconds to live is found by
-    /// the next two commands, and has then expired.
+    /// Whether the clock is read again for each command of a window of one: an item with three
+    /// seconds to live is found by the next two commands, and has then expired.
     fn moments_rise(&self) -> Result<bool, AllocError> {
         let lines = self.lines_of(&[FADING.input], Cutting::NONE)?;
         let clock = Rising::new(self.alloc, MOMENT)?;
-        match self.serve_by(lines, sizes(2, 64, 256), OpenGate, clock) {
+        match self.serve_by(lines, sizes(2, 64, 1), OpenGate, clock) {
             Some(served) => Ok(served.iter().all(|one| is_right(one, FADING))),
             None => Ok(false),
         }

@@ -8,13 +8,13 @@ loop-init g c received begin now told serving = takes_none received _ begin now 
 
 pub loop-preserved : goal.loop-preserved
 loop-preserved g c received begin now told serving =
-    takes_next received _ begin now told _ _ _ _ c.now.result c.in-Opened.ticket c.now.ensures c.in-Opened.ensures.says
-    c.saturating_add-self.ensures (c.loop.invariant received begin now told serving)
+    takes_next received _ begin now told _ _ _ _ c.now-moment.result c.in-Opened.ticket c.now-moment.ensures
+    c.in-Opened.ensures.says c.saturating_add-self.ensures (c.loop.invariant received begin now told serving)
 
 pub returns-in_default : goal.returns-in_default
 returns-in_default g c received begin now told serving =
-    takes_stop _ received _ begin now told _ _ c.now.result c.take.result c.take.ensures.says c.in_default.not-Opened _
-    (c.loop.invariant received begin now told serving)
+    takes_stop _ received _ begin now told _ _ c.now-moment.result c.take.result c.take.ensures.says
+    c.in_default.not-Opened _ (c.loop.invariant received begin now told serving)
 
 pub returns : goal.returns
 returns g c received begin now told serving =
