@@ -222,14 +222,14 @@ same_number : (a b : ℕ) → IsTrue (a == b) ↔ (a ≡ b)
 same_number a b = (λ e. grind (arith, nat_tests), λ e. grind (arith, nat_tests))
 
 -- when a broken connection is at rest
-pub rest_broken : (conn : Conn) (told : Told) (passes waiting : ℕ) → conn.put_back ≡ None
-    → length conn.dispatcher.unsent.items ≡ 0 → conn.broken ≡ true →
+pub rest_broken : (conn : Conn) (told : Told) (passes waiting : ℕ) → told.out ≡ length (all_pieces told)
+    → conn.broken ≡ true →
     ((opened : List PendingReply) (accepted : List Shown) (handed : List (List ℕ))
     → IsReorderBuffer conn.dispatcher.reorder_buffer opened accepted handed → length handed + passes
     ≡ length (replies opened accepted)) →
     waiting ≡ length conn.dispatcher.reorder_buffer.pending_replies → HasBeenTold conn told → IsTrue (passes == waiting)
     ↔ IsAtRest told
-rest_broken conn told passes waiting none empty broken passed tickets h =
+rest_broken conn told passes waiting sent broken passed tickets h =
     let told_broken : told.broken ≡ true = sym h.broken ∙ broken in
     let texts = passed (all_pending_replies told) told.accepted h.texts h.joined in
     let handed = h.handed in
@@ -238,33 +238,29 @@ rest_broken conn told passes waiting none empty broken passed tickets h =
           let e = (same_number passes waiting).0 same in
           let all : length (all_texts told) ≡ length told.taken =
           omega (arith, texts, handed, pending_replies, tickets, e) in
-          record { sent = nothing_left conn told h none empty; done = rw told_broken all },
+          record { sent = sent; done = rw told_broken all },
       λ rest.
           let all : length (all_texts told) ≡ length told.taken = rw told_broken at rest.done in
           (same_number passes waiting).1 (omega (arith, texts, handed, pending_replies, tickets, all)),
     )
 
 -- when an unbroken one is
-pub rest_whole : (conn : Conn) (told : Told) (waiting : ℕ) → conn.put_back ≡ None → length conn.dispatcher.unsent.items
-    ≡ 0 → conn.broken ≡ false → IsAllTaken told →
+pub rest_whole : (conn : Conn) (told : Told) (waiting : ℕ) → told.out ≡ length (all_pieces told)
+    → conn.broken ≡ false → IsAllTaken told →
     waiting ≡ length conn.dispatcher.reorder_buffer.pending_replies → HasBeenTold conn told → IsTrue (waiting == 0)
     ↔ IsAtRest told
-rest_whole conn told waiting none empty broken all tickets h =
+rest_whole conn told waiting sent broken all tickets h =
     let told_broken : told.broken ≡ false = sym h.broken ∙ broken in
     let pending_replies = waiting_is conn told h in (
       λ same.
           let e = (same_number waiting 0).0 same in
           let handed : told.handed ≡ length told.taken = omega (arith, pending_replies, tickets, e) in
-          record { sent = nothing_left conn told h none empty; done = rw told_broken (all, handed) },
+          record { sent = sent; done = rw told_broken (all, handed) },
       λ rest.
           let done : IsAllTaken told × (told.handed ≡ length told.taken) = rw told_broken at rest.done in
           let handed = done.1 in
           (same_number waiting 0).1 (omega (arith, pending_replies, tickets, handed)),
     )
-
--- A number is 0 where it was tested to be 0.
-pub empty_is : (n : ℕ) → true ≡ (n == 0) → n ≡ 0
-empty_is n e = (same_number n 0).0 (sym e)
 
 -- what the reader's test says of the last command taken
 pub shut_is : (conn : Conn) (closed : Bool)

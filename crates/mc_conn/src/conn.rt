@@ -186,6 +186,15 @@ impl Conn {
         }
     }
 
+    /// Whether `next_piece` would return a piece. It takes no memory.
+    #[tactic(auto, unfolding(crate::specs::Conn::IsConn))]
+    pub fn has_piece(&self) -> bool
+        ensures { IfConn self.now (λ told.
+            (result ≡ false) ↔ (told.out ≡ length (all_pieces told))) }
+    {
+        self.put_back.is_some() || !self.dispatcher.unsent.is_empty()
+    }
+
     /// Takes out the oldest piece that has not left, with its shard. It takes no memory.
     #[tactic(auto, unfolding(crate::specs::Conn::IsConn))]
     pub fn next_piece(&mut self) -> Option<(usize, Piece)>
@@ -358,7 +367,7 @@ impl Conn {
     pub fn is_at_rest(&self) -> bool
         ensures { IfConn self.now (λ told. IsTrue result ↔ IsAtRest told) }
     {
-        if self.put_back.is_some() || !self.dispatcher.unsent.is_empty() {
+        if self.has_piece() {
             return false;
         }
         if self.broken {
