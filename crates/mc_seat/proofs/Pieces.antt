@@ -2,8 +2,8 @@
 use Rattle.std.proofs.Common.{◌≡◌, ◌==◌, Bool, true, false, not, IsTrue, ℕ, zero, suc, ◌+◌, ◌-◌, ◌<◌, ◌≤◌, List, []}
 use Rattle.std.proofs.Common.{◌∷◌, ◌++◌, length, length-append, take, drop, refl, sym, ap, ◌∙◌, arith, append_assoc}
 use Rattle.std.proofs.Common.{append-nil, slice_get, Some, Result, Ok, Err, IfOk}
-use Rattle.std.proofs.lemmas.Bool.{eqb-false}
-use Rattle.std.proofs.lemmas.List.{take-append-le}
+use Rattle.std.proofs.lemmas.Bool.{eqb-false, eqb-true}
+use Rattle.std.proofs.lemmas.List.{drop_all, nil_from_length, take-append-le}
 use Rattle.std.proofs.Math.Seq.{drop-append-add}
 use Rattle.std.specs.List.{flat_map}
 use Rattle.std.specs.Io.Slices.{io_slice_bytes, io_slices_bytes}
@@ -147,6 +147,34 @@ pub some_waits : (rest offered behind : List ℕ) → offered ≡ rest → false
 some_waits rest offered behind same some =
     let apart = eqb-false (length offered) 0 (sym some) in
     omega (arith, apart, ap length same, length-append rest behind)
+
+-- A test that holds shows that nothing is left of the front.
+pub is_passed : (rest offered : List ℕ) (empty : Bool) → offered ≡ rest → empty ≡ (length offered == 0) → IsTrue empty
+    → rest ≡ []
+is_passed rest offered true same is holds =
+    sym same ∙ nil_from_length offered (eqb-true (length offered) 0 (sym is))
+is_passed rest offered false same is holds = absurd cc
+
+-- Where nothing waits before the tail, only the tail waits.
+pub tail_waits : (rest : List ℕ) (chunks : List Chunk) (tail : List ℕ) → rest ≡ [] → chunks ≡ []
+    → rest ++ (flat_map bytes_of chunks ++ tail) ≡ tail
+tail_waits rest chunks tail none empty = rw (none, empty) refl
+
+-- Where all of the tail was written, nothing is left of what waited.
+pub tail_passed : (rest : List ℕ) (chunks : List Chunk) (tail after : List ℕ) (count : ℕ) → rest ≡ [] → chunks ≡ []
+    → after ≡ [] → length tail ≤ count
+    → rest ++ (flat_map bytes_of chunks ++ after) ≡ drop count (rest ++ (flat_map bytes_of chunks ++ tail))
+tail_passed rest chunks tail after count none empty cleared all =
+    tail_waits rest chunks after none empty
+    ∙ (cleared ∙ (sym (drop_all count tail all) ∙ ap (drop count) (sym (tail_waits rest chunks tail none empty))))
+
+-- Where the tail isn't empty, something waits.
+pub some_tail : (rest : List ℕ) (chunks : List Chunk) (tail : List ℕ) (len : ℕ) → len ≡ length tail
+    → false ≡ (len == 0) → 0 < length (rest ++ (flat_map bytes_of chunks ++ tail))
+some_tail rest chunks tail len is some =
+    let apart = eqb-false len 0 (sym some) in
+    let later = flat_map bytes_of chunks in
+    omega (arith, apart, is, length-append rest (later ++ tail), length-append later tail)
 
 -- A test that fails is false.
 pub not_empty : (empty count : Bool) → empty ≡ count → IsTrue (not empty) → false ≡ count

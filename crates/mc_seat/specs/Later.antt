@@ -1,5 +1,5 @@
 -- What waits for a line to take it.
-use Rattle.std.specs.Prelude.{ℕ, zero, suc, ◌+◌, ◌<◌, vec_capacity, vec_len, List, [], ◌∷◌, ◌++◌, drop, length}
+use Rattle.std.specs.Prelude.{ℕ, zero, suc, ◌≡◌, ◌+◌, ◌<◌, vec_capacity, vec_len, List, [], ◌∷◌, ◌++◌, drop, length}
 use Rattle.std.specs.List.{flat_map}
 use Rattle.mc_seat.specs.declared.write_buffer.Chunk.{Chunk}
 use Rattle.mc_seat.specs.declared.write_buffer.WriteBuffer.{WriteBuffer}
@@ -12,6 +12,14 @@ behind unwritten = flat_map bytes_of unwritten.later.items ++ unwritten.tail.ite
 -- what is left of the front, then what is behind it, and then the tail
 abbrev pub text_in : WriteBuffer → List ℕ
 text_in unwritten = drop unwritten.sent (bytes_of unwritten.front) ++ behind unwritten
+
+-- Nothing waits before the tail.
+abbrev pub IsAtTail : WriteBuffer → Type 0
+IsAtTail unwritten = (drop unwritten.sent (bytes_of unwritten.front) ≡ []) × (unwritten.later.items ≡ [])
+
+-- Nothing waits.
+abbrev pub IsAllWritten : WriteBuffer → Type 0
+IsAllWritten unwritten = IsAtTail unwritten × (unwritten.tail.items ≡ [])
 
 -- the piece at this place among the chunks and the tail behind them; nothing behind that
 abbrev pub piece_behind : List Chunk → List ℕ → ℕ → List ℕ

@@ -1,5 +1,4 @@
-//! The room that the lines of one thread are read into, and the one that their replies are gathered
-//! in.
+//! The buffers that the lines of one thread share: one to read into, and one for replies.
 ghost use Rattle.std.specs.Prelude.{◌≡◌, ◌<◌, [], OnOk, length};
 
 use std::alloc::{AllocError, Global};
@@ -8,20 +7,20 @@ use std::mem;
 /// At most this many bytes are read at once.
 const ROOM: usize = 65_536;
 
-/// A room that bytes are read into, and one that replies are gathered in. A seat takes the first to
-/// read, and returns it once the bytes were fed; a line has the one for replies until it took
-/// them all. So a line that waits for its client holds none.
+/// A buffer to read into and one for replies. A line takes the first to read, and returns it once
+/// the bytes are fed. It takes the second for its replies, and returns it once they are written. So
+/// a line that waits for its client has neither.
 #[derive(Drop)]
 pub struct BufferPool {
     alloc: Global,
-    /// Empty while a seat has it.
+    /// Empty while a line has it.
     pub(crate) input: Vec<u8>,
     replies: Vec<u8>,
     ghost empty: { replies.items ≡ [] },
 }
 
 impl BufferPool {
-    /// Both rooms. The one for replies has no memory yet.
+    /// Both buffers. The one for replies has no memory yet.
     pub fn new(alloc: Global) -> Result<BufferPool, AllocError> {
         Ok(BufferPool {
             alloc,
@@ -30,7 +29,7 @@ impl BufferPool {
         })
     }
 
-    /// Has a room to read into: a new one where a seat has it.
+    /// Makes sure that there is a buffer to read into: a new one where a line has it.
     pub(crate) fn prepare_input(&mut self) -> Result<(), AllocError>
         ensures { OnOk result (0 < length self.new.input.items) }
     {
@@ -40,26 +39,26 @@ impl BufferPool {
         Ok(())
     }
 
-    /// Takes the room with what was read into it.
+    /// Takes the buffer with what was read into it.
     pub(crate) fn take_input(&mut self) -> Vec<u8>
         ensures { result.items ≡ self.old.input.items }
     {
         mem::replace(&mut self.input, Vec::new(self.alloc))
     }
 
-    /// Keeps the room to read into where there is none; else it is dropped.
+    /// Keeps the buffer to read into if there is none, else drops it.
     pub(crate) fn keep_input(&mut self, room: Vec<u8>) {
         if self.input.is_empty() {
             self.input = room;
         }
     }
 
-    /// How many bytes the room for replies has.
+    /// Size of the buffer for replies, in bytes.
     pub(crate) fn reply_bytes(&self) -> usize {
         self.replies.capacity()
     }
 
-    /// Hands the room for replies out, and keeps this one in its place.
+    /// Exchanges the buffer for replies and this one, which has no bytes.
     pub(crate) fn exchange(&mut self, room: &mut Vec<u8>)
         requires { room.old.items ≡ [] }
         ensures { room.new.items ≡ [] }

@@ -11,39 +11,38 @@ use mc_conn::{Conn, Taken};
 use mc_sizes::Sizes;
 use std::alloc::{AllocError, Global};
 
-/// What became of a line.
+/// How a line ended.
 #[derive(Clone, Copy)]
 pub struct Served {
-    /// How many commands it took.
+    /// Number of commands taken.
     pub commands: u64,
-    /// Whether it has failed.
+    /// Whether the line failed.
     pub broke: bool,
 }
 
-/// What a step did.
+/// The result of a step.
 #[derive(Clone, Copy)]
 pub enum LineStep {
-    /// Something: the next step may follow at once.
+    /// There was progress: the next step may follow at once.
     Did,
-    /// Nothing: replies of a shard or bytes of the line have to come first, or the line has to take
-    /// replies that wait.
+    /// Nothing can be done until a shard replies, bytes arrive, or the line takes pending replies.
     Waits,
-    /// The line was served.
+    /// The line has ended.
     Ended(Served),
 }
 
-/// What one line is served by, and how far it is with the line.
+/// The state of one line: its connection, the bytes that were read and not fed to it, and the
+/// replies that are not written yet.
 pub struct BufferedConn {
     alloc: Global,
-    /// The caller, which has the shards or channels to them, takes its pieces and has them answered
-    /// there.
+    /// The caller takes its pieces, has them run on their shards, and returns the answers to it.
     pub conn: Conn,
     seat: ReadSide,
-    /// Replies that were handed out, and which the line didn't take yet.
+    /// Replies that are due and not written yet.
     unwritten: WriteBuffer,
-    /// How many commands of the line were taken.
+    /// Number of commands taken.
     commands: u64,
-    /// Why no further command was.
+    /// Why no further command was taken.
     stop: Taken,
 }
 
@@ -68,7 +67,8 @@ impl BufferedConn {
     ghost use Rattle.mc_seat.specs.BufferedConn.{GoOnSays, IsNew, MayGoOn, TakesFor, WaitsForLine};
     ghost use Rattle.mc_seat.specs.internal.Reading.{ReadingSays};
 
-    /// Of a line of which nothing was taken yet.
+    /// For a line of which nothing was read. Allocates what the open commands and small replies
+    /// need.
     pub fn new(alloc: Global, sizes: Sizes) -> Result<BufferedConn, AllocError>
         requires { SuitLines sizes }
         ensures { IfOk result
@@ -106,11 +106,11 @@ impl BufferedConn {
         self.stop = Taken::Full;
     }
 
-    /// Goes on once all commands taken are answered: hands their replies out, and once the line
-    /// took them all, reads on and takes commands. Nothing waits here, where the line doesn't.
-    /// Where memory for replies that the line doesn't take at once is refused, the line is given
-    /// up: nothing more is read of it or written to it. The rooms are those of the thread, to read
-    /// into. The replies may be written, by what the warrant shows.
+    /// One step, once all commands taken are answered: writes their replies and, once all are
+    /// written, reads more bytes and takes commands. It blocks only where the line's own calls do.
+    /// Where memory for replies is refused, the line ends as failed: nothing more is read or
+    /// written. The buffers are the thread's. The replies may be written, by what the warrant
+    /// shows.
     pub fn go_on<L: Transport, K: Clock>(
         &mut self,
         line: &mut L,
@@ -144,7 +144,7 @@ impl BufferedConn {
         }
     }
 
-    /// Goes on once the line took all replies.
+    /// Reads more bytes and takes commands, once all replies are written.
     fn go_on_reading<L: Transport, K: Clock>(
         &mut self,
         line: &mut L,
@@ -183,7 +183,7 @@ impl BufferedConn {
         }
     }
 
-    /// What became of the line.
+    /// The result for a line that has ended.
     fn ended(&self, broke: bool) -> LineStep
         ensures { result ≡ LineStep.Ended (record { commands = self.now.commands; broke = broke }) }
     {

@@ -1,4 +1,4 @@
-//! A seat serves one line: it reads its commands, has them answered, and hands out the replies.
+//! A seat serves one line: it reads its commands, has them answered, and writes the replies.
 #![tactic(auto)]
 
 mod buffer_pool;

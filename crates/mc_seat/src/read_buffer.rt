@@ -1,4 +1,4 @@
-//! The bytes that were read of a line and not fed to its connection yet.
+//! The bytes that were read from a line and not fed to its connection yet.
 ghost use Rattle.std.specs.Prelude.{◌≡◌, ◌≢◌, ◌==◌, ◌≤◌, [], OnErr, IfOk, length, drop};
 ghost use Rattle.mc_wire.specs.Sink.{asked, broke, gave};
 ghost use Rattle.mc_seat.specs.declared.read_buffer.Refilled.TheVariants.{Bytes};
@@ -9,7 +9,7 @@ use std::alloc::Global;
 use std::marker::Model;
 use std::mem;
 
-/// Bytes that were read and not fed yet. It has a room only while there are some.
+/// Bytes that were read and not fed yet. It has a buffer only while there are some.
 #[derive(Drop)]
 pub(crate) struct ReadBuffer {
     alloc: Global,
@@ -18,14 +18,14 @@ pub(crate) struct ReadBuffer {
     end: usize,
 }
 
-/// What a line gave.
+/// The result of a read.
 #[derive(Clone, Copy)]
 pub(crate) enum Refilled {
     /// Some bytes, or none at the end of its input.
     Bytes,
     /// Nothing yet.
     Nothing,
-    /// It wasn't asked, since there is no memory for a room.
+    /// The line was not read, since memory for a buffer was refused.
     NoRoom,
 }
 
@@ -77,7 +77,7 @@ impl ReadBuffer {
         self.start += count;
     }
 
-    /// Drops those that are there, and the room.
+    /// Drops them and the buffer.
     pub(crate) fn clear(&mut self)
         ensures { self.new ≡ [] }
     {
@@ -86,7 +86,7 @@ impl ReadBuffer {
         self.end = 0;
     }
 
-    /// Returns the room to the pool, if no bytes are in it.
+    /// Returns the buffer to the pool, if all its bytes were fed.
     pub(crate) fn give_back(&mut self, pool: &mut BufferPool)
         ensures { self.new ≡ self.old }
     {
@@ -97,7 +97,8 @@ impl ReadBuffer {
         }
     }
 
-    /// Reads more bytes in place of those that are there: none only at the end of the line.
+    /// Reads more bytes, in place of those that are there: none only at the end of the input. An
+    /// error is one of the line.
     pub(crate) fn refill<L: Transport>(
         &mut self,
         line: &mut L,

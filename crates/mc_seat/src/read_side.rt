@@ -1,4 +1,4 @@
-//! The steps of a seat: once the replies to the commands taken are written, it reads on.
+//! How a seat reads its line: once the replies to the commands taken are written.
 ghost use Rattle.std.specs.Prelude.{◌≡◌, []};
 
 use crate::buffer_pool::BufferPool;
@@ -7,12 +7,12 @@ use crate::transport::Transport;
 use mc_conn::{Conn, Taken};
 use std::alloc::Global;
 
-/// What comes after a turn.
+/// What comes next.
 #[derive(Clone, Copy, Debug, PartialEq, Eq)]
 pub(crate) enum AfterTurn {
     /// Another turn.
     Continues,
-    /// Another turn, once the line has more to give.
+    /// Another turn, once the line has more bytes.
     Waits,
     /// Nothing: the line has ended, or was closed.
     Ended,
@@ -20,7 +20,7 @@ pub(crate) enum AfterTurn {
     Failed,
 }
 
-/// What a seat keeps of the line that it serves: the bytes that its connection did not take yet.
+/// The bytes that were read of a line and that its connection did not take yet.
 #[derive(Drop)]
 pub(crate) struct ReadSide {
     unread: ReadBuffer,
@@ -29,7 +29,7 @@ pub(crate) struct ReadSide {
 impl ReadSide {
     ghost use Rattle.mc_seat.specs.internal.Steps.{FeedSays, HandedSays, ReadOnSays};
 
-    /// A seat before its first line.
+    /// No bytes. It takes no memory.
     pub(crate) fn new(alloc: Global) -> ReadSide
         ensures { result.unread ≡ [] }
     {
@@ -38,15 +38,15 @@ impl ReadSide {
         }
     }
 
-    /// The seat before its next line, in the room that it has.
+    /// Drops the bytes of the last line.
     pub(crate) fn renew(&mut self)
         ensures { self.new.unread ≡ [] }
     {
         self.unread.clear();
     }
 
-    /// Goes on once the line took the replies to all commands taken: it reads, where no further
-    /// command was taken because more bytes are needed.
+    /// One turn, once all replies are written: reads more bytes if that is why no further command
+    /// was taken.
     pub(crate) fn go_on<L: Transport>(
         &mut self,
         conn: &mut Conn,
@@ -66,8 +66,8 @@ impl ReadSide {
         }
     }
 
-    /// Reads on, once all replies are handed out: what was read is fed to the connection as far as
-    /// it takes it, and where all of it was fed, more is read first.
+    /// Feeds the connection what was read, as far as it takes it. Where all was fed, more is read
+    /// first. A read that fails breaks the connection.
     fn read_on<L: Transport>(
         &mut self,
         conn: &mut Conn,
@@ -100,7 +100,7 @@ impl ReadSide {
         AfterTurn::Continues
     }
 
-    /// Feeds what was read to the connection, as far as it takes it.
+    /// Feeds the connection what was read, as far as it takes it.
     fn feed(&mut self, conn: &mut Conn, pool: &mut BufferPool)
         ensures { FeedSays conn.old self.old.unread conn.new self.new.unread }
     {

@@ -17,7 +17,7 @@ use thiserror::Error;
 #[error("the line has failed: it gives no more bytes")]
 pub struct TransportError;
 
-/// What came for a line that had nothing to give, or took nothing.
+/// What became possible on a line that had no bytes, or took none.
 #[derive(Clone, Copy)]
 pub enum Ready {
     /// It may give bytes, or take some.
@@ -74,16 +74,16 @@ pub trait Transport {
             Self.Warrant.place_at seen (bytes_seen (Self.sight self.old)) }
         ensures sight { Self.sight self.new ≡ Self.sight self.old };
 
-    /// Reads some bytes into the front of the room, and returns how many: none only at the end of the
-    /// input. At a fault it reads none, and has failed.
+    /// Reads some bytes into the front of the room, and returns how many: none only at the end of
+    /// the input. At a fault it reads none, and has failed.
     fn read(&mut self, room: &mut [u8]) -> Result<usize, TransportError>
         requires { 0 < length room.old }
         ensures within { IfOk result (λ count. count ≤ length room.old) }
         ensures read { ReadsIntoRoom room.new result (Self.sight self.old) (Self.sight self.new) }
         ensures place { Self.place self.new ≡ Self.place self.old };
 
-    /// Reads as `read` does, of a line that may have nothing to give yet: then it returns `None`, and
-    /// is as it was. By default a line waits until there is something.
+    /// Reads as `read` does, of a line that may have nothing to give yet: then it returns `None`,
+    /// and is as it was. By default a line waits until there is something.
     fn read_if_ready(&mut self, room: &mut [u8]) -> Result<Option<usize>, TransportError>
         requires { 0 < length room.old }
         ensures within { IfOk result (λ given. IfSome given (λ count. count ≤ length room.old)) }

@@ -1,4 +1,4 @@
-//! Replies that were handed out, and which their line didn't take yet.
+//! Replies that are due and that their line has not taken yet.
 ghost use Rattle.std.specs.Prelude.{◌≡◌, ◌<◌, ◌≤◌, ◌++◌, [], false, IfOk, IsTrue, OnErr, OnOk, drop, length, take};
 ghost use Rattle.std.specs.Arc.{arc_slice_items};
 ghost use Rattle.mc_wire.specs.Sink.{Listed, broke, sight_out, took};
@@ -18,11 +18,11 @@ use std::sync::ArcSlice;
 /// freed. It holds the replies to a full window of commands, unless these are longer than most.
 const KEPT_TEXT: usize = 262_144;
 
-/// The most places for what is written later that a line keeps, in chunks.
+/// The largest queue of chunks that a line keeps for later replies, in chunks.
 const KEPT_CHUNKS: usize = 64;
 
-/// The room, in bytes, that is there for a line's replies from the beginning, and the most that it
-/// keeps while nothing waits.
+/// The size of the buffer that a line has for its replies from the start, and the most that it
+/// keeps while nothing waits, in bytes.
 const OWN_ROOM: usize = 1_024;
 
 /// Bytes that are contiguous.
@@ -46,15 +46,15 @@ impl Chunk {
     }
 }
 
-/// The replies that a line is to take: they wait in memory, so that no write waits for a peer that
+/// The replies that a line is to take. They wait in memory, so that no write blocks on a peer that
 /// reads slowly. As a sink it fails where memory is refused.
 #[derive(Drop)]
 pub struct WriteBuffer {
     alloc: Global,
-    /// What is written first, and how many bytes of it were.
+    /// What is written first, and how many of its bytes were written.
     pub(crate) front: Chunk,
     pub(crate) sent: usize,
-    /// What is written after it, and then the tail.
+    /// What is written after the front, before the tail.
     pub(crate) later: VecDeque<Chunk>,
     pub(crate) tail: Vec<u8>,
     /// Memory was refused.
@@ -63,7 +63,7 @@ pub struct WriteBuffer {
 }
 
 impl WriteBuffer {
-    ghost use Rattle.mc_seat.specs.Later.{LacksRoom, ahead, behind, piece_behind, text_in};
+    ghost use Rattle.mc_seat.specs.Later.{IsAllWritten, IsAtTail, LacksRoom, ahead, behind, piece_behind, text_in};
 
     /// No replies. It takes no memory.
     pub fn new(alloc: Global) -> WriteBuffer
@@ -79,7 +79,7 @@ impl WriteBuffer {
         }
     }
 
-    /// No replies, with room for small ones, so that they need no memory when they come.
+    /// No replies, with a buffer for small ones, so that they take no memory when they are due.
     pub fn with_room(alloc: Global) -> Result<WriteBuffer, AllocError>
         ensures { IfOk result (λ unwritten. text_in unwritten ≡ []) }
     {
@@ -95,7 +95,7 @@ impl WriteBuffer {
         *self = WriteBuffer::new(self.alloc);
     }
 
-    /// Has the thread's room for the replies to come, where it is larger than its own.
+    /// Takes the thread's buffer for the next replies, where it is larger than its own.
     pub fn borrow_room(&mut self, pool: &mut BufferPool)
         ensures { text_in self.new ≡ text_in self.old }
     {
@@ -104,8 +104,8 @@ impl WriteBuffer {
         }
     }
 
-    /// Returns its room to the thread, once all is written, or another one that is larger than the
-    /// thread's: so a line at rest has a small one.
+    /// Returns the thread's buffer once all is written, or its own where that is larger, so that an
+    /// idle line has a small one.
     pub fn return_room(&mut self, pool: &mut BufferPool)
         ensures { text_in self.new ≡ text_in self.old }
     {
@@ -132,6 +132,17 @@ impl WriteBuffer {
         ensures { IsTrue result → (self.now.later.items ≡ []) × (self.now.tail.items ≡ []) }
     {
         self.later.is_empty() && self.tail.is_empty()
+    }
+
+    /// Whether nothing waits before the tail.
+    fn at_tail(&self) -> bool
+        ensures front { IsTrue result → drop self.now.sent (bytes_of self.now.front) ≡ [] }
+        ensures later { IsTrue result → self.now.later.items ≡ [] }
+    {
+        if !self.later.is_empty() {
+            return false;
+        }
+        self.rest().is_empty()
     }
 
     /// Whether the line has to take some of them at once.
@@ -189,6 +200,21 @@ impl WriteBuffer {
         self.sent += left;
     }
 
+    /// The first `count` bytes of the tail were written, and nothing waits before it. Written
+    /// whole, the tail keeps its room; else it becomes the front.
+    fn pass_tail(&mut self, count: usize)
+        requires first { IsAtTail self.old }
+        requires within { count ≤ length self.old.tail.items }
+        ensures { text_in self.new ≡ drop count (text_in self.old) }
+    {
+        if count == self.tail.len() {
+            self.tail.clear();
+            return;
+        }
+        self.go_on();
+        self.pass(count);
+    }
+
     /// What is behind the front becomes the front, and the old front is freed.
     fn go_on(&mut self)
         ensures text { text_in self.new ≡ behind self.old }
@@ -201,21 +227,33 @@ impl WriteBuffer {
         self.sent = 0;
     }
 
-    /// All is written: the front is freed, so that an idle line keeps no share of a value. Its
-    /// room of text becomes the tail's, for the next replies, where it is the larger one and not
-    /// too large to be kept.
+    /// Frees the front, so that an idle line keeps no share of a value. Its room of text becomes
+    /// the tail's, for the next replies, where it is the larger one.
     fn free_front(&mut self)
-        requires { (self.old.later.items ≡ []) × (self.old.tail.items ≡ []) }
-        ensures { text_in self.new ≡ [] }
+        requires { IsAllWritten self.old }
+        ensures { IsAllWritten self.new }
     {
         let front = mem::replace(&mut self.front, Chunk::Text(Vec::new(self.alloc)));
         self.sent = 0;
         if let Chunk::Text(mut text) = front
             && text.capacity() > self.tail.capacity()
-            && text.capacity() <= KEPT_TEXT
         {
             text.clear();
             self.tail = text;
+        }
+    }
+
+    /// All is written: frees what the next replies don't need, which is the front and what is
+    /// larger than `KEPT_TEXT` or `KEPT_CHUNKS`.
+    fn free_spare(&mut self)
+        requires { IsAllWritten self.old }
+        ensures { text_in self.new ≡ [] }
+    {
+        if self.sent > 0 {
+            self.free_front();
+        }
+        if self.tail.capacity() > KEPT_TEXT {
+            self.tail = Vec::new(self.alloc);
         }
         if self.later.capacity() > KEPT_CHUNKS {
             self.later = VecDeque::new(self.alloc);
@@ -229,9 +267,7 @@ impl WriteBuffer {
         ensures full { OnErr result (LacksRoom (length text.now) self.old) }
         ensures refused { self.new.refused ≡ self.old.refused }
     {
-        self.tail.reserve(text.len())?;
-        self.tail.extend_from_slice(text)?;
-        Ok(())
+        self.tail.extend_from_slice(text)
     }
 
     /// The block waits too, behind the rest, and isn't copied. Where memory is refused, the rest
@@ -274,17 +310,22 @@ impl WriteBuffer {
         ensures place { L.place line.new ≡ L.place line.old }
     {
         for _ in 0..u64::MAX {
-            if !self.rest().is_empty() {
+            if self.at_tail() {
+                // Most replies: text alone, which the line takes whole from where it is.
+                if self.tail.is_empty() {
+                    self.free_spare();
+                    return Ok(true);
+                }
+                let wrote = line.write_if_ready(self.tail.as_slice(), seen)?;
+                self.pass_tail(wrote);
+            } else if self.rest().is_empty() {
+                self.go_on();
+            } else {
                 let count = self.offer(line, seen)?;
                 if count == 0 {
                     return Ok(false);
                 }
                 self.pass(count);
-            } else if self.is_last() {
-                self.free_front();
-                return Ok(true);
-            } else {
-                self.go_on();
             }
         }
         Ok(false)

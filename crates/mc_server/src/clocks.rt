@@ -21,7 +21,7 @@ impl Clock for FixedClock {
     }
 }
 
-/// It knows only its time.
+/// It shows only its time.
 impl StatsSource for FixedClock {
     ghost may_show = { λ clock shown. shown ≡ record no_server { time = clock.0 } };
 
@@ -54,7 +54,7 @@ impl<R: time::Clock> MachineClock<R> {
     }
 }
 
-/// It knows only the time.
+/// It shows only the time.
 impl<R: time::Clock> StatsSource for MachineClock<R> {
     ghost may_show = { λ _ _. Unit {0} };
 

@@ -23,8 +23,8 @@ use mc_worker::Scribe;
 use std::alloc::{AllocError, Global};
 use std::snapshot::Snapshot;
 
-/// Opens the history of one line over shards of these sizes, with one slot. Returns it with evidence
-/// of it, for the line that is made. It fails if memory is refused.
+/// Opens the history of one line over shards of these sizes, with one slot. Returns it with
+/// evidence of it, for the line that is made. It fails if memory is refused.
 pub fn open_one(alloc: Global, sizes: Sizes) -> Result<(Opening, Evidence), AllocError>
     ensures opening { IfOk result (λ opened. IsOpening (record sizes { seats = 1 })
         opened.0.recorders.items opened.0.clerks.items opened.0.witness) }

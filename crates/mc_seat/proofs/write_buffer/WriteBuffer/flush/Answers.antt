@@ -1,18 +1,21 @@
 -- The line took the first bytes of what waits, or what is behind the front becomes the front.
-use Rattle.std.proofs.Common.{◌≡◌, ℕ, ◌≤◌, List, [], ◌++◌, OnErr, Result, Ok, Err, take, drop, refl, sym, ap}
-use Rattle.std.proofs.Common.{subst, ◌∙◌, arith, append_assoc}
+use Rattle.std.proofs.Common.{◌≡◌, ℕ, ◌≤◌, List, [], ◌++◌, OnErr, Result, Ok, Err, length, take, drop, vec_len, refl}
+use Rattle.std.proofs.Common.{sym, ap, subst, ◌∙◌, arith, append_assoc}
 use Rattle.std.specs.Result.{IsErr}
+use Rattle.std.proofs.lemmas.Bool.{eqb-true}
 use Rattle.std.proofs.lemmas.List.{nil_from_length, take-append-drop}
 use Rattle.mc_wire.specs.Sink.{Sight, took}
 use Rattle.mc_wire.proofs.Sinks.{took-append, took-nil}
+use Rattle.mc_seat.specs.declared.write_buffer.WriteBuffer.{WriteBuffer}
 use Rattle.mc_seat.specs.Chunks.{bytes_of}
-use Rattle.mc_seat.specs.Later.{behind, text_in}
+use Rattle.mc_seat.specs.Later.{IsAtTail, behind, text_in}
 use Rattle.mc_seat.specs.Lines.{TakesFront, told}
 use Rattle.mc_seat.proofs.Traces.{told-grows}
-use Rattle.mc_seat.proofs.Pieces.{some_waits}
+use Rattle.mc_seat.proofs.Pieces.{some_tail, some_waits, tail_waits}
 use Rattle.mc_seat.proofs.write_buffer.WriteBuffer.flush.Goals as goal
-use Rattle.mc_seat.proofs.write_buffer.WriteBuffer.flush.Goals.{then-not-is_empty+in_ok-count+else-count-eq0}
-use Rattle.mc_seat.proofs.write_buffer.WriteBuffer.flush.Goals.{else-not-is_empty+else-is_last}
+use Rattle.mc_seat.proofs.write_buffer.WriteBuffer.flush.Goals.{then-at_tail+else-is_empty+in_ok-wrote}
+use Rattle.mc_seat.proofs.write_buffer.WriteBuffer.flush.Goals.{else-at_tail+else-is_empty-2+in_ok-count+else-count-eq0}
+use Rattle.mc_seat.proofs.write_buffer.WriteBuffer.flush.Goals.{else-at_tail+then-is_empty-2}
 
 -- the line took the first bytes, and the rest waits
 took_front : (text left : List ℕ) (count : ℕ) (old new : Sight) → left ≡ drop count text → new
@@ -58,9 +61,62 @@ loop-init g c =
     let now = g.L.Transport.sight c.args.line.now in
     (refl, omega arith, record { front = []; parts = refl; now = sym (took-nil now) }, refl, c.requires.may)
 
+-- the text that is offered where nothing waits before the tail
+tail_offered : (waits : WriteBuffer) (offered : List ℕ) → IsAtTail waits → offered ≡ waits.tail.items
+    → offered ≡ text_in waits
+tail_offered waits offered first is =
+    is ∙ sym (tail_waits (drop waits.sent (bytes_of waits.front)) waits.later.items waits.tail.items first.0 first.1)
+
+pub write_if_ready-requires : goal.write_if_ready-requires
+write_if_ready-requires g c =
+    let first : IsAtTail c.loop.self = (c.if-at_tail.ensures.front refl, c.if-at_tail.ensures.later refl) in
+    record {
+      may = subst
+          (λ bytes.
+          g.L.Warrant.Warrant.may_write (g.L.Transport.place c.loop.line) (g.L.Transport.sight c.loop.line) bytes
+          c.args.seen.now)
+          (sym (tail_offered c.loop.self _ first c.as_slice.ensures.value)) c.loop.invariant.4;
+    }
+
+pub pass_tail-requires : goal.pass_tail-requires
+pass_tail-requires g c = record {
+  first = (c.if-at_tail.ensures.front refl, c.if-at_tail.ensures.later refl);
+  within = omega (arith, ap length c.as_slice.ensures.value, c.in_ok-wrote.ensures.within);
+}
+
+pub free_spare-requires : goal.free_spare-requires
+free_spare-requires g c = (
+  (c.if-at_tail.ensures.front refl, c.if-at_tail.ensures.later refl),
+  nil_from_length c.loop.self.tail.items
+      (sym c.loop.self.tail.ok.0 ∙ eqb-true (vec_len c.loop.self.tail) 0 (sym c.if-is_empty.ensures)),
+)
+
 pub loop-preserved : goal.loop-preserved
-loop-preserved g c = elim c.if-not-is_empty.branch [
-  | then-not-is_empty+in_ok-count+else-count-eq0 w ↦
+loop-preserved g c = elim c.if-at_tail.branch [
+  | then-at_tail+else-is_empty+in_ok-wrote w ↦
+      let waits = text_in c.loop.self in
+      let left = text_in w.pass_tail.new.self in
+      let count = w.in_ok-wrote.wrote in
+      let old = g.L.Transport.sight c.loop.line in
+      let new = g.L.Transport.sight w.write_if_ready.new.self in
+      let first : IsAtTail c.loop.self = (w.if-at_tail.ensures.front refl, w.if-at_tail.ensures.later refl) in
+      let offered = tail_offered c.loop.self _ first w.as_slice.ensures.value in
+      let ok : new ≡ took (take count waits) old = w.in_ok-wrote.ensures.ok
+      ∙ ap (λ bytes. took (take count bytes) old) offered in
+      let grown = grown_by old new (take count waits) ok in
+      let before = c.loop.invariant.1 in
+      let W = g.L.Warrant.Warrant in
+      let place = g.L.Transport.place w.write_if_ready.new.self in
+      rw (w.self-is, w.line-is) (
+        took_front waits left count old new w.pass_tail.ensures ok ∙ c.loop.invariant.0,
+        omega (arith, grown, before),
+        front_more _ waits left count _ old new c.loop.invariant.2 w.pass_tail.ensures ok,
+        w.in_ok-wrote.ensures.place ∙ c.loop.invariant.3,
+        may_rest (λ s bytes. W.may_write place s bytes c.args.seen.now) waits left count old new
+            (λ bytes more. W.behind place old bytes more c.args.seen.now) w.pass_tail.ensures ok
+            (subst (λ p. W.may_write p old waits c.args.seen.now) (sym w.in_ok-wrote.ensures.place) c.loop.invariant.4),
+      )
+  | else-at_tail+else-is_empty-2+in_ok-count+else-count-eq0 w ↦
       let waits = text_in c.loop.self in
       let left = text_in w.pass.new.self in
       let count = w.in_ok-count.count in
@@ -80,10 +136,10 @@ loop-preserved g c = elim c.if-not-is_empty.branch [
             (λ bytes more. W.behind place old bytes more c.args.seen.now) w.pass.ensures ok
             (subst (λ p. W.may_write p old waits c.args.seen.now) (sym w.in_ok-count.ensures.place) c.loop.invariant.4),
       )
-  | else-not-is_empty+else-is_last w ↦
+  | else-at_tail+then-is_empty-2 w ↦
       let rest = drop c.loop.self.sent (bytes_of c.loop.self.front) in
       let now = g.L.Transport.sight c.loop.line in
-      let none : rest ≡ [] = nil_from_length rest (grind (arith, w.if-not-is_empty.ensures, c.rest.ensures)) in
+      let none : rest ≡ [] = nil_from_length rest (grind (arith, w.if-is_empty-2.ensures, w.rest.ensures)) in
       let same : text_in w.go_on.new.self ≡ text_in c.loop.self = w.go_on.ensures.text
       ∙ sym (ap (λ xs. xs ++ behind c.loop.self) none) in
       rw (w.self-is, w.line-is) (
@@ -105,5 +161,12 @@ at_fault (Err fault) Known failed known = known
 pub returns-in_err-count-clause-some : goal.returns-in_err-count-clause-some
 returns-in_err-count-clause-some g c =
     let waits = c.loop.self in
+    at_fault c.from_residual-in_err-count.result _ c.from_residual-in_err-count.ensures.0
+    (some_waits (drop waits.sent (bytes_of waits.front)) _ (behind waits) c.rest.ensures c.if-is_empty-2.ensures)
+
+pub returns-in_err-wrote-clause-some : goal.returns-in_err-wrote-clause-some
+returns-in_err-wrote-clause-some g c =
+    let waits = c.loop.self in
     at_fault c.from_residual.result _ c.from_residual.ensures.0
-    (some_waits (drop waits.sent (bytes_of waits.front)) _ (behind waits) c.rest.ensures c.if-not-is_empty.ensures)
+    (some_tail (drop waits.sent (bytes_of waits.front)) waits.later.items waits.tail.items (vec_len waits.tail)
+    waits.tail.ok.0 c.if-is_empty.ensures)
