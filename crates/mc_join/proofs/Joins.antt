@@ -183,14 +183,14 @@ passed_count held opened accepted handed j =
     (handed_within pending_replies handed j.beginning) in
     omega (arith, behind, ap (prefix_len is_answered) j.rest, length-replies pending_replies)
 
--- If some held form has all its answers, not all replies whose turn has come were handed out.
-pub owes_some : (held : Held) (count : ℕ) → count ≡ prefix_len is_answered held.pending_replies → (count ≡ 0 → ⊥)
+-- If some pending reply has all its answers, not all replies whose turn has come were handed out.
+pub owes_some : (held : Held) → 0 < prefix_len is_answered held.pending_replies
     → (opened : List PendingReply) (accepted : List Shown) (handed : List (List ℕ))
     → IsReorderBuffer held opened accepted handed → length handed < length (replies opened accepted)
-owes_some held count passed some opened accepted handed j =
-    omega (arith, passed, some, passed_count held opened accepted handed j)
+owes_some held some opened accepted handed j =
+    omega (arith, some, passed_count held opened accepted handed j)
 
--- If no held form has all its answers, all replies whose turn has come were handed out.
+-- If no pending reply has all its answers, all replies whose turn has come were handed out.
 pub join_none : (held : Held) (count : ℕ) → count ≡ prefix_len is_answered held.pending_replies → count ≡ 0
     → (opened : List PendingReply) (accepted : List Shown) (handed : List (List ℕ))
     → IsReorderBuffer held opened accepted handed → IsReorderBuffer held opened accepted (replies opened accepted)

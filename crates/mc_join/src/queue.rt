@@ -1,5 +1,5 @@
 //! The queue of the open tickets' pending replies.
-ghost use Rattle.std.specs.Prelude.{◌≡◌, ◌<◌, ◌≤◌, [], ◌∷◌, ◌++◌, IsTrue, false, Some, None, drop, length, map, ◌↔◌};
+ghost use Rattle.std.specs.Prelude.{◌≡◌, ◌<◌, ◌≤◌, [], ◌∷◌, ◌++◌, IfOk, IsTrue, OnErr, false, Some, None, drop, length, map, ◌↔◌};
 ghost use Rattle.std.specs.List.{concat, prefix_len};
 ghost use Rattle.mc_ring.specs.Reply.{shown};
 ghost use Rattle.mc_reply.specs.declared.pending_reply.PendingReply.{PendingReply};
@@ -73,25 +73,33 @@ fn is_complete(pending_reply: &PendingReply) -> bool
     pending_reply.slots.is_filled()
 }
 
-/// Writes the replies of the leading answered pending replies. On an error, a prefix was written.
+/// Writes the replies of the leading answered pending replies, and returns how many these are. On an
+/// error, a prefix was written.
 pub(crate) fn put_first<O: Sink>(
     out: &mut O,
     pending_replies: &HeapCircularBuffer<PendingReply>,
-) -> Result<(), SinkError>
-    ensures { Writes (concat (map pending_reply_text (complete pending_replies.now.items))) result
-        (O.sight out.old)
-        (O.sight out.new) }
+) -> Result<usize, SinkError>
+    ensures writes { Writes (concat (map pending_reply_text (complete pending_replies.now.items)))
+        result (O.sight out.old) (O.sight out.new) }
+    ensures count { IfOk result (λ count.
+        count ≡ prefix_len is_answered pending_replies.now.items) }
+    ensures within { IfOk result (λ count. count ≤ length pending_replies.now.items) }
+    ensures owed { OnErr result (0 < prefix_len is_answered pending_replies.now.items) }
 {
+    // Read so that the count is known to fit.
+    let _len = pending_replies.len();
+    let mut count = 0;
     for pending_reply in pending_replies.iter() {
         if !is_complete(pending_reply) {
-            return Ok(());
+            return Ok(count);
         }
         put_due(out, pending_reply)?;
+        count += 1;
     }
-    Ok(())
+    Ok(count)
 }
 
-/// Writes the reply of a completely answered form.
+/// Writes the reply of a completely answered pending reply.
 fn put_due<O: Sink>(out: &mut O, pending_reply: &PendingReply) -> Result<(), SinkError>
     requires { IsDue pending_reply.now }
     ensures { Writes (pending_reply_text pending_reply.now) result (O.sight out.old)

@@ -40,7 +40,7 @@ pub struct UnexpectedReply {
 
 impl Debug for UnexpectedReply {
     fn fmt<W: fmt::Write>(&self, f: &mut Formatter<W>) -> fmt::Result {
-        f.write_str("Stranger(..)")
+        f.write_str("UnexpectedReply(..)")
     }
 }
 
@@ -124,7 +124,7 @@ impl ReorderBuffer {
         Ok(())
     }
 
-    /// The index of an open ticket's form.
+    /// The index of an open ticket's pending reply.
     fn place_of(&self, ticket: Ticket) -> Option<usize>
         ensures numbered { AreNumbered self.now.handed self.now.pending_replies }
         ensures some { IfSome result
@@ -288,13 +288,15 @@ impl ReorderBuffer {
         if self.gone {
             return Ok(0);
         }
-        let count = count_complete(&self.pending_replies);
+        let count = match put_first(out, &self.pending_replies) {
+            Ok(count) => count,
+            Err(_fault) => {
+                self.gone = true;
+                return Err(Gone);
+            }
+        };
         if count == 0 {
             return Ok(0);
-        }
-        if let Err(_fault) = put_first(out, &self.pending_replies) {
-            self.gone = true;
-            return Err(Gone);
         }
         drop_first(&mut self.pending_replies, count);
         self.handed += count as u128;
