@@ -52,8 +52,8 @@ def wide(file, text):
 
 
 def is_text(line, columns):
-    """Whether a line is a text in quotes that by itself is wider, with at most what is said of its end."""
-    found = re.match(r' *(?:codes )?"(?:[^"\\]|\\.)*"\S*', line)
+    """Whether a line is a text in quotes, with at most what follows its end, or the import of one name: neither can be broken."""
+    found = re.match(r' *(?:codes )?"(?:[^"\\]|\\.)*"\S*|use [^,]*\{[^,]*\}', line)
     return bool(found) and found[0] == line.rstrip() and len(line) > columns
 
 
