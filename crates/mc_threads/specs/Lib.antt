@@ -1,5 +1,4 @@
 pub mod Workers
-pub mod Working
 pub mod Serving
 pub mod Credit
 pub mod Routes

@@ -1,5 +1,5 @@
-//! Seats and shards in threads of their own: what a seat's thread does on its channels, and what a
-//! worker's does.
+//! What a thread does for its seats and its workers: sessions that carry pieces and replies over the
+//! channels, and a worker's turns.
 #![tactic(auto)]
 
 mod session;
@@ -9,5 +9,5 @@ mod working;
 
 pub use session::Session;
 pub use shard_link::ShardLink;
-pub use workers::{make_recorded_workers, make_workers};
+pub use workers::make_recorded_workers;
 pub use working::Working;

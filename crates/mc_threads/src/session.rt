@@ -1,4 +1,4 @@
-//! A seat serves lines step by step, one after another.
+//! Serves the lines of a seat one after another, step by step.
 ghost use Rattle.mc_command.specs.declared.rules.Rules.{Rules};
 ghost use Rattle.std.specs.Prelude.{◌≡◌, ◌<◌, ◌↔◌, ◌⊎◌, ℕ, Some, IfOk, IsSomeAnd, IsTrue, OnErr, OnOk, length};
 ghost use Rattle.std.specs.Bool.{OnFalse, OnTrue};
@@ -13,22 +13,22 @@ use mc_sizes::Sizes;
 use mc_wake::Wakers;
 use std::alloc::{AllocError, Global};
 
-/// What a seat needs to serve lines, one after another. Until the first line comes it has its ends
-/// of the channels alone; the room that a line is served in is made then, and kept for the lines
-/// that follow. A clerk records what the lines' connections take.
+/// A seat that serves lines one after another. Until the first line comes it has only its ends of
+/// the channels; the buffers of a line are allocated then, and reused for the lines that follow. A
+/// clerk records what the lines' connections take.
 pub struct Session<T: Warrant = (), C: Clerk<T> = ()> {
     alloc: Global,
     pub(crate) shard_link: ShardLink<T, C>,
-    /// What the room is made for.
+    /// By which its buffers are allocated.
     sizes: Sizes,
-    /// What lines are served by, once the first has come.
+    /// The connection and the buffers of the line, once the first has come.
     buffered_conn: Option<BufferedConn>,
     ghost suited: { SuitLines sizes },
     ghost ring: { shard_link.places ≡ sizes.ring },
 }
 
 impl<T: Warrant + Drop, C: Clerk<T> + Drop> Drop for Session<T, C> {
-    /// By hand, so that to drop one is one call for its holder (docs/DECISIONS.md).
+    /// Written by hand, so that its owners drop it by a single call (docs/DECISIONS.md, F20).
     fn drop(self) {
         let Session {
             alloc: _alloc,
@@ -36,28 +36,6 @@ impl<T: Warrant + Drop, C: Clerk<T> + Drop> Drop for Session<T, C> {
             sizes: _sizes,
             buffered_conn: _buffered_conn,
         } = self;
-    }
-}
-
-impl Session<(), ()> {
-    ghost use Rattle.mc_threads.specs.Session.{IsVacant, seat_ends, seat_ring};
-
-    /// A seat that serves no line yet, over new ends of its channels. The wakers are those of the
-    /// shards. Nothing is recorded.
-    pub fn new(
-        alloc: Global,
-        ends: SeatEnds,
-        shards: Wakers,
-        sizes: Sizes,
-    ) -> Result<Session, AllocError>
-        requires sizes { SuitLines sizes }
-        requires width { length ends.channels ≡ sizes.shards }
-        ensures vacant { IfOk result
-            (λ session. IsVacant (rules_of sizes) sizes.window session) }
-        ensures ends { IfOk result (λ session. seat_ends session ≡ ends) }
-        ensures ring { IfOk result (λ session. seat_ring session ≡ sizes.ring) }
-    {
-        Session::recorded(alloc, ends, (), shards, sizes)
     }
 }
 
@@ -75,8 +53,8 @@ impl<T: Warrant + Drop, C: Clerk<T> + Drop> Session<T, C> {
     ghost use Rattle.mc_threads.specs.Records.{RecordsPastOf};
     ghost use Rattle.mc_threads.specs.Session.{IsLineAt, IsRuled, IsServingLine, IsVacant, MayStep, StepSays, seat_clerk, seat_ends, seat_ring, session_history};
 
-    /// A seat that serves no line yet, with a clerk whose record is of these ends of its channels.
-    /// The wakers are those of the shards.
+    /// A seat that serves no line yet. The clerk's record is of these ends of its channels, and
+    /// `shards` has the wakers of the shards. `AllocError`: memory ran out.
     pub fn recorded(
         alloc: Global,
         ends: SeatEnds<T>,
@@ -107,8 +85,9 @@ impl<T: Warrant + Drop, C: Clerk<T> + Drop> Session<T, C> {
         })
     }
 
-    /// Begins to serve a line of the slot's history, as the next connection of the slot. Where memory
-    /// for its room is refused nothing has changed, and it may be tried again.
+    /// Begins to serve a line of the slot's history, as the next connection of the slot.
+    /// `AllocError`: memory for its buffers ran out. Nothing has changed, and the call may be
+    /// repeated.
     pub fn begin<L: Transport<Warrant = T>, K: Clock>(
         &mut self,
         line: &mut L,
@@ -136,7 +115,7 @@ impl<T: Warrant + Drop, C: Clerk<T> + Drop> Session<T, C> {
         Ok(())
     }
 
-    /// Takes out what lines are served by; where no line has come yet, it is made.
+    /// Takes out the connection and the buffers of the line, which are allocated for the first line.
     fn take_buffered_conn(&mut self) -> Result<BufferedConn, AllocError>
         ensures new { IfOk result (λ buffered_conn.
             (rules : Rules) (window : ℕ) → IsVacant rules window self.old →
@@ -224,14 +203,14 @@ impl<T: Warrant + Drop, C: Clerk<T> + Drop> Session<T, C> {
         ensures full { OnFalse result (StandsStill (seat_ends self.old) (seat_ends self.new)) }
         ensures ring { seat_ring self.new ≡ seat_ring self.old }
         ensures history { session_history self.new ≡ session_history self.old }
-        // What the clerk has recorded stays: an End is no work.
+        // The clerk's record is unchanged: an End is no work.
         ensures recorded { (ends : Ends Near) → RecordsPastOf self.old.shard_link ends →
             RecordsPastOf self.new.shard_link ends }
     {
         self.shard_link.end_channel(shard)
     }
 
-    /// The clerk, once the seat serves no more. Its ends of its channels are dropped.
+    /// Returns the clerk, once the seat serves no more lines, and drops its ends of the channels.
     pub fn into_clerk(self) -> C
         ensures clerk { result ≡ seat_clerk self }
         ensures routes { C.keeps → AreOnRoutes (C.route result) (seat_ends self) }

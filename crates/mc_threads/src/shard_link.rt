@@ -14,16 +14,17 @@ use mc_seat::{BufferPool, BufferedConn, Clerk, Clock, LineStep, Transport, Warra
 use mc_wake::{Doorbell, Wakers};
 use std::alloc::{AllocError, Global};
 
-/// A seat's ends of its channels, and what is under way on them. A clerk records what the seat's
-/// connections take. Its tokens go with the requests, and it hears those of the replies.
+/// A seat's ends of its channels, and how many pieces are under way on each. A clerk records what the
+/// seat's connections take: a request carries a token of the clerk, and the clerk checks the token of
+/// each reply.
 #[derive(Drop)]
 pub struct ShardLink<T: Warrant = (), C: Clerk<T> = ()> {
     pub(crate) ends: SeatEnds<T>,
     pub(crate) clerk: C,
     /// How many pieces were sent to each shard whose replies were not received yet.
     under_way: Vec<usize>,
-    /// How many places each ring has. No more pieces are under way on a channel, so that a shard
-    /// never finds its ring of replies full.
+    /// The capacity of each ring. No more pieces are under way on a channel, so that a shard never
+    /// finds its ring of replies full.
     places: usize,
     /// A piece could not be sent yet.
     blocked: bool,
@@ -54,8 +55,8 @@ impl<T: Warrant + Drop, C: Clerk<T> + Drop> ShardLink<T, C> {
     ghost use Rattle.mc_threads.specs.Serving.{IsIdle};
     ghost use Rattle.mc_threads.specs.internal.Carrying.{AllOutWhere, AnyOut, CanCarry, CanRecord, ShardLinkGoesOn, NoneOut};
 
-    /// Nothing is under way on the ends, whose rings have `places` places. The wakers are those of
-    /// the shards.
+    /// A link with nothing under way, whose rings have `places` places. `shards` has the wakers of
+    /// the shards. `AllocError`: memory ran out.
     pub(crate) fn new(
         alloc: Global,
         ends: SeatEnds<T>,
@@ -82,7 +83,7 @@ impl<T: Warrant + Drop, C: Clerk<T> + Drop> ShardLink<T, C> {
         })
     }
 
-    /// Has the clerk record that a line of its history begins, and shows it to the line.
+    /// Records that a line of the clerk's history begins, and shows it to the line.
     pub(crate) fn begin_line<L: Transport<Warrant = T>>(&mut self, line: &mut L)
         requires new { L.place line.old ≡ unbegun (C.route self.old.clerk 0).name }
         ensures begins { (before : Ends Near) (told : Told) → told.taken ≡ [] →
@@ -101,7 +102,7 @@ impl<T: Warrant + Drop, C: Clerk<T> + Drop> ShardLink<T, C> {
         line.begin(seen);
     }
 
-    /// Has the clerk record what the connection took since it recorded last.
+    /// Records what the connection took since the last record.
     fn note_taken(&mut self, conn: &Conn)
         requires { CanRecord self.old conn.now }
         ensures records { (before : Ends Near) (told : Told) (received : ℕ → List Shown) →
@@ -116,7 +117,7 @@ impl<T: Warrant + Drop, C: Clerk<T> + Drop> ShardLink<T, C> {
         self.clerk.take_all(conn);
     }
 
-    /// Evidence by which the line is sent what its connection hands out.
+    /// Evidence that the replies due to the line may be written to it.
     fn evidence(&mut self) -> T
         ensures may { (place : Place) (begin now : Sight) (bytes : List ℕ) →
             (C.keeps → (place ≡ C.place self.old.clerk begin) × C.opened self.old.clerk
@@ -170,6 +171,24 @@ impl<T: Warrant + Drop, C: Clerk<T> + Drop> ShardLink<T, C> {
         ensures places { self.new.places ≡ self.old.places }
         ensures kept { KeepsPlace self.old self.new }
     {
+        // Mostly none is left, and to ask costs less than to take one out.
+        if !conn.has_piece() {
+            self.blocked = false;
+            return false;
+        }
+        self.send_piece(conn)
+    }
+
+    /// Sends the next piece, as `send_next` does.
+    #[inline(never)]
+    fn send_piece(&mut self, conn: &mut Conn) -> bool
+        requires { CanCarry self.old conn.old }
+        ensures goes { ShardLinkGoesOn (AllOutWhere ((result ≡ false) × (self.new.blocked ≡ false)))
+            self.old conn.old self.new conn.new }
+        ensures noted { IsTrue result → self.new.shards ≡ [] }
+        ensures places { self.new.places ≡ self.old.places }
+        ensures kept { KeepsPlace self.old self.new }
+    {
         self.blocked = false;
         let Some((shard, piece)) = conn.next_piece() else {
             return false;
@@ -198,8 +217,8 @@ impl<T: Warrant + Drop, C: Clerk<T> + Drop> ShardLink<T, C> {
         }
     }
 
-    /// Calls the shards of which replies are awaited, where that wasn't done since the last piece
-    /// was sent.
+    /// Calls each shard whose replies are awaited, unless that was done since the last piece was
+    /// sent.
     fn call_shards(&mut self)
         ensures called { self.new.uncalled ≡ false }
         ensures ends { self.new.ends ≡ self.old.ends }
@@ -219,7 +238,7 @@ impl<T: Warrant + Drop, C: Clerk<T> + Drop> ShardLink<T, C> {
         self.uncalled = false;
     }
 
-    /// Takes in the replies that have come.
+    /// Receives the replies that have come.
     fn receive_all(&mut self, conn: &mut Conn)
         requires { CanCarry self.old conn.old }
         ensures goes { ShardLinkGoesOn NoneOut self.old conn.old self.new conn.new }
@@ -233,7 +252,7 @@ impl<T: Warrant + Drop, C: Clerk<T> + Drop> ShardLink<T, C> {
         }
     }
 
-    /// Takes in the replies that have come from one shard.
+    /// Receives the replies that have come from one shard.
     fn receive_from(&mut self, conn: &mut Conn, shard: usize)
         requires shard { shard < length self.old.under_way.items }
         requires carries { CanCarry self.old conn.old }
@@ -276,11 +295,11 @@ impl<T: Warrant + Drop, C: Clerk<T> + Drop> ShardLink<T, C> {
         true
     }
 
-    /// Makes a step with the line: receives the replies that have come, and sends pieces while
-    /// there is room. Once every reply has come it goes on with the line, as
-    /// [`BufferedConn::go_on`] does. It waits for no shard. It receives before it sends: where a
-    /// channel is full then, replies are still to come on it, which end the wait. What was taken is
-    /// recorded first, and the replies are written by the clerk's evidence.
+    /// Serves the line a step further: receives the replies that have come, and sends pieces while
+    /// there is room. Once every reply has come, it reads and writes as [`BufferedConn::go_on`]
+    /// does. It never blocks. It receives before it sends: where a channel is full then, replies
+    /// are still to come on it, which end the wait. What was taken is recorded first, and the
+    /// replies are written with the clerk's evidence.
     pub(crate) fn step<L: Transport<Warrant = T>, K: Clock>(
         &mut self,
         buffered_conn: &mut BufferedConn,
@@ -320,7 +339,7 @@ impl<T: Warrant + Drop, C: Clerk<T> + Drop> ShardLink<T, C> {
         buffered_conn.go_on(line, clock, pool, &seen)
     }
 
-    /// The clerk, once the seat serves no more.
+    /// Returns the clerk, once the seat serves no more lines.
     pub(crate) fn into_clerk(self) -> C
         ensures clerk { result ≡ self.clerk }
         ensures routes { C.keeps → AreOnRoutes (C.route result) self.ends }

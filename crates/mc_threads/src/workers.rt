@@ -1,4 +1,4 @@
-//! The workers of a server.
+//! Makes the workers of a server.
 ghost use Rattle.std.specs.Prelude.{◌≡◌, IfOk, map};
 ghost use Rattle.std.specs.List.{AllByRecursion};
 ghost use Rattle.mc_sizes.specs.Sizes.{SuitShards};
@@ -11,28 +11,9 @@ use mc_worker::{Scribe, Worker};
 use std::alloc::{AllocError, Global};
 use std::random::RandomSource;
 
-/// A worker for the ends of each shard, over an empty shard. Nothing is recorded.
-pub fn make_workers<R: RandomSource>(
-    rt: &R,
-    alloc: Global,
-    ends: Vec<ShardEnds>,
-    sizes: Sizes,
-) -> Result<Vec<Worker>, AllocError>
-    requires sizes { SuitShards sizes }
-    requires fresh { AllByRecursion (AreFresh sizes.shards) ends.items }
-    ensures ends { IfOk result (λ workers. map ends_of workers.items ≡ ends.items) }
-    ensures fresh { IfOk result (λ workers. AllByRecursion (IsFresh sizes) workers.items) }
-{
-    let mut workers = Vec::with_capacity(alloc, ends.len())?;
-    for ends in ends {
-        let worker = Worker::start(rt, alloc, ends, sizes)?;
-        workers.push(worker)?;
-    }
-    Ok(workers)
-}
-
-/// A worker for the ends of each shard, over an empty shard, with the scribe in the same place. The
-/// scribes have recorded nothing, and are for the channels of these ends.
+/// Makes a worker with an empty shard for the ends of each shard. Each worker gets the scribe at the
+/// same index, which has recorded nothing and is for the channels of these ends. `AllocError`: memory
+/// ran out, or there are fewer scribes than ends.
 pub fn make_recorded_workers<R: RandomSource, T: Token + Drop, S: Scribe<T> + Drop>(
     rt: &R,
     alloc: Global,

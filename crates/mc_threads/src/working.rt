@@ -1,16 +1,13 @@
-//! A worker, and which of its seats it has to serve.
-ghost use Rattle.std.specs.Prelude.{◌≡◌, ◌≢◌, ◌<◌, ◌%◌, ◌⊎◌, ℕ, Some, true, false, IfOk, length};
+//! Serves the seats that called a worker.
+ghost use Rattle.std.specs.Prelude.{◌≡◌, ◌≢◌, ◌<◌, ◌%◌, ◌⊎◌, ◌↔◌, ℕ, Some, None, true, false, IfOk, IsTrue, length};
 ghost use Rattle.std.specs.Bool.{OnTrue};
 ghost use Rattle.std.specs.Int.{bit_at};
 ghost use Rattle.std.specs.List.{slice_get};
-ghost use Rattle.mc_ring.specs.Ends.{AreSameEnds};
-ghost use Rattle.mc_ring.specs.Made.{IsChannel, LooksAtBoth};
-ghost use Rattle.mc_worker.specs.WorkerState.{WorkerState, Goes};
+ghost use Rattle.mc_worker.specs.WorkerState.{Goes, HasEnded};
 ghost use Rattle.mc_worker.specs.Serves.{LeavesNothing, ServesSeat};
 ghost use Rattle.mc_worker.specs.Turns.{FindsNothing};
-ghost use Rattle.mc_threads.specs.Working.{Finishes};
 
-use mc_ring::{SeatEnds, Token};
+use mc_ring::Token;
 use mc_wake::{SetBits, Wakers};
 use mc_worker::{Gate, Scribe, Served, Worker};
 use std::alloc::{AllocError, Global};
@@ -19,22 +16,22 @@ use std::sync::Arc;
 /// Seats a block, each with a bit of a word.
 const BLOCK: usize = 64;
 
-/// A worker, with all that its turns need. Its scribe records what it runs, and its replies go with
-/// the scribe's tokens.
+/// A worker, its gate, and the wakers of its seats. Its scribe records what it runs; each reply
+/// carries a token of the scribe.
 pub struct Working<G, T: Token = (), S: Scribe<T> = ()> {
     pub worker: Worker<T, S>,
     gate: Arc<G, Global>,
     seats: Wakers,
-    /// Per seat: a reply was sent to it since it was last woken.
+    /// For each seat, whether a reply was sent to it since it was last woken.
     given: Vec<bool>,
     alloc: Global,
     ghost each_seat: { length given.items ≡ length worker.ends.channels },
-    // Between two turns none is left to be woken.
+    // After a turn no seat is left to be woken.
     ghost none_left: { (seat : ℕ) → slice_get given.items seat ≢ Some true },
 }
 
 impl<G: Drop, T: Token + Drop, S: Scribe<T> + Drop> Drop for Working<G, T, S> {
-    /// By hand, so that to drop one is one call for its holder (docs/DECISIONS.md).
+    /// Written by hand, so that its owners drop it by a single call (docs/DECISIONS.md, F20).
     fn drop(self) {
         let Working {
             worker: _worker,
@@ -47,8 +44,8 @@ impl<G: Drop, T: Token + Drop, S: Scribe<T> + Drop> Drop for Working<G, T, S> {
 }
 
 impl<G: Gate + Drop, T: Token + Drop, S: Scribe<T> + Drop> Working<G, T, S> {
-    /// The worker before its first turn. It passes the gate before each piece; the wakers are those
-    /// of the seats.
+    /// A worker before its first turn. It calls the gate before each piece, and `seats` has the
+    /// wakers of its seats. `AllocError`: memory ran out.
     pub fn new(
         alloc: Global,
         worker: Worker<T, S>,
@@ -68,9 +65,9 @@ impl<G: Gate + Drop, T: Token + Drop, S: Scribe<T> + Drop> Working<G, T, S> {
         })
     }
 
-    /// Serves those of the 64 seats from `64 * block` on that have a bit, and wakes the seats that it
-    /// sent a reply to; then it shows its shard to the gate. It returns a bit for each of them whose
-    /// channel may hold more.
+    /// Serves the seats of a block of 64, from `64 * block` on, whose bit is set in `called`, and wakes
+    /// each seat that it sends a reply to. Where it served something, it shows its shard to the gate.
+    /// Returns a bit for each seat whose channel may hold more.
     pub fn turn(&mut self, block: usize, called: u64) -> u64
         ensures { Goes self.old.worker self.new.worker }
     {
@@ -87,9 +84,9 @@ impl<G: Gate + Drop, T: Token + Drop, S: Scribe<T> + Drop> Working<G, T, S> {
         more
     }
 
-    /// Serves the seat, where there is one of this number, and wakes each seat that a reply was sent
-    /// to. It marks the seat in the word where its channel may hold more. Whether there was
-    /// anything to do.
+    /// Serves the seat, if there is one of this number, and wakes each seat that a reply was sent to.
+    /// Sets the seat's bit in `more` if its channel may hold more. Returns whether it served
+    /// anything.
     fn serve_seat(&mut self, seat: usize, more: &mut u64) -> bool
         ensures goes { Goes self.old.worker self.new.worker }
         ensures rests { seat < length self.old.worker.ends.channels → result ≡ false →
@@ -121,28 +118,16 @@ impl<G: Gate + Drop, T: Token + Drop, S: Scribe<T> + Drop> Working<G, T, S> {
         }
     }
 
-    /// Whether the End of every channel has come.
+    /// Whether the `End` of every channel was received; no reply is pending then.
     pub fn ended(&self) -> bool
-        ensures { OnTrue result
-            ((begun : WorkerState) → Goes begun self.now.worker → Finishes begun self.now.worker) }
+        ensures ended { IsTrue result ↔ HasEnded self.now.worker }
+        ensures given { OnTrue result (self.now.worker.hand ≡ None) }
     {
         self.worker.ended()
     }
-
-    /// How many requests and how many replies wait on its channel of a seat, whose ends must be of
-    /// the same call of `channels`.
-    pub fn beside(&mut self, seat: &mut SeatEnds<T>) -> (usize, usize)
-        requires { IsChannel seat.old self.old.worker.ends }
-        ensures looked { LooksAtBoth seat.old seat.new self.old.worker.ends self.new.worker.ends
-            result.0 result.1 }
-        ensures seat { AreSameEnds seat.old seat.new }
-        ensures keeps { AreSameEnds self.old.worker.ends self.new.worker.ends }
-    {
-        self.worker.beside(seat)
-    }
 }
 
-/// Wakes the seat, if there is one, where it is marked as sent a reply, and takes its mark.
+/// Wakes the seat, if there is one, if it is marked as having been sent a reply, and clears its mark.
 fn wake_given(given: &mut [bool], seats: &Wakers, seat: Option<usize>)
     ensures many { length given.new ≡ length given.old }
     ensures taken { (one : ℕ) → seat ≡ Some one → slice_get given.new one ≢ Some true }
@@ -162,7 +147,7 @@ fn wake_given(given: &mut [bool], seats: &Wakers, seat: Option<usize>)
     seats.rouse(seat);
 }
 
-/// The word, with a mark at the place of the seat.
+/// The word with the seat's bit set.
 fn marked(word: u64, seat: usize) -> u64
     ensures seat { bit_at result (seat % 64) ≡ 1 }
     ensures others { (place : ℕ) → place ≢ seat % 64 → bit_at result place ≡ bit_at word place }
