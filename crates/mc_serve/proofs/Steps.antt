@@ -1,7 +1,7 @@
--- A seat's steps, one by one.
-use Rattle.std.proofs.Common.{◌≡◌, ℕ, Bool, true, false, [], length, Some, Ok, Err, OnErr, OnOk, Result, refl, sym}
+-- Each step of a slot keeps its invariant.
+use Rattle.std.proofs.Common.{◌≡◌, ℕ, Bool, true, false, [], length, Ok, Err, OnErr, OnOk, Result, refl, sym}
 use Rattle.std.proofs.Common.{ap, subst, ◌∙◌}
-use Rattle.std.specs.Prelude.{◌↔◌, IsTrue}
+use Rattle.std.specs.Prelude.{IsTrue}
 use Rattle.std.specs.Result.{is_ok}
 use Rattle.mc_wire.specs.Sink.{Sight}
 use Rattle.mc_ring.specs.Channel.{Near}
@@ -10,28 +10,24 @@ use Rattle.mc_ring.specs.Route.{Name}
 use Rattle.mc_sizes.specs.Sizes.{rules_of}
 use Rattle.mc_history.specs.Tokens.{Acting}
 use Rattle.mc_conn.specs.declared.conn.Conn.{Conn}
-use Rattle.mc_conn.specs.Conn.{IsConn}
-use Rattle.mc_conn.specs.Told.{IsAtRest, IsOver, Told}
 use Rattle.mc_seat.specs.declared.clerk.Clerk.{Ghosts}
 use Rattle.mc_seat.specs.declared.warrant.Warrant.{Ghosts as Warrants}
-use Rattle.mc_seat.specs.Place.{Place, unbegun}
+use Rattle.mc_seat.specs.Place.{Place}
 use Rattle.mc_seat.specs.LineServed.{LineServed}
 use Rattle.mc_seat.specs.Explains.{LineTold}
-use Rattle.mc_seat.specs.declared.buffered_conn.BufferedConn.{BufferedConn}
 use Rattle.mc_threads.specs.declared.session.Session.{Session}
-use Rattle.mc_threads.specs.Serving.{IsIdle}
-use Rattle.mc_threads.specs.Ending.{EndsFirst}
 use Rattle.mc_threads.specs.Records.{RecordsPastOf}
 use Rattle.mc_threads.specs.Service.{WasServedBy}
 use Rattle.mc_threads.specs.Session.{HasServed, IsLineAt, IsRuled, IsServingLine, IsVacant, seat_clerk, seat_ends}
 use Rattle.mc_threads.specs.Session.{session_history}
+use Rattle.mc_threads.specs.Ending.{EndsFirst}
 use Rattle.mc_threads.proofs.Ending.{ends_none}
 use Rattle.mc_threads.proofs.Sessions.{SomeAnd, may_serve, some_and}
-use Rattle.mc_doors.specs.Told.{SourceTold, IsDone, IsFree, IsNext, closed, let_in, took_back}
+use Rattle.mc_doors.specs.Told.{SourceTold, IsFree, took_back}
 use Rattle.mc_serve.specs.declared.connection_slot.SlotState.{SlotState}
 use Rattle.mc_serve.specs.declared.connection_slot.SlotState.TheVariants as slot_state
-use Rattle.mc_serve.specs.Seats.{CanStep, ClosesOn, HasRecorded, SeatAt, SeatStands, ServesSourceLine, SitsBeginning}
-use Rattle.mc_serve.specs.Seats.{SitsClosing, SitsFree, SitsServing, seat_at}
+use Rattle.mc_serve.specs.Seats.{Accepts, CanBegin, CanStep, ClosesOn, HasRecorded, Renews, SeatAt, SeatStands}
+use Rattle.mc_serve.specs.Seats.{ServesSourceLine, SitsBeginning, SitsClosing, SitsFree, SitsServing, seat_at}
 use Rattle.mc_serve.proofs.Chain.{OneMore, one_more, passes_none}
 use Rattle.mc_command.specs.declared.rules.Rules.{Rules}
 
@@ -59,23 +55,46 @@ module _ (shards : ℕ) (rules : Rules) (may_answer : ℕ → Type 0) where
         ruled = ruled;
       }
 
-  -- The source had no line.
-  pub stays_free : {T C : Type 0} {w : Warrants T} {g : Ghosts C T} (sat : SeatAt) (source source' : SourceTold)
-      (session : Session T C w g) → source' ≡ source → SitsFree shards rules may_answer sat source session
-      → SitsFree shards rules may_answer sat source' session
-  stays_free sat source source' session same sits = let S : SourceTold → Type 0 =
+  -- A free slot has accepted a connection, or none, or its source has no more.
+  pub accepted : {L : Type 0} {T : Type 0} {w : Warrants T} {g : Ghosts Acting T} (place : L → Place)
+      (sight : L → Sight) (sat : SeatAt) (source source' : SourceTold) (session : Session T Acting w g)
+      (now : SlotState L)
+      → (RecordsPastOf session.shard_link (seat_ends session) → HasRecorded (seat_clerk session) (seat_ends session))
+      → Accepts place sight (session_history session) now source source'
+      → SitsFree shards rules may_answer sat source session
+      → SeatStands place sight shards rules may_answer sat source' session now
+  accepted place sight sat source source' session slot_state.Free reads same sits = let S : SourceTold → Type 0 =
       λ d. SitsFree shards rules may_answer sat d session in subst S (sym same) sits
+  accepted place sight sat source source' session (slot_state.Out line false) reads came sits =
+      record { before = source; sits = sits; next = came.1; came = came.2; new = came.0 }
+  accepted place sight sat source source' session (slot_state.Out line true) reads came sits = absurd came
+  accepted place sight sat source source' session (slot_state.Closing count) reads none sits =
+      let C : ℕ → Type 0 =
+      λ n. SitsClosing shards rules may_answer n sat source' (seat_ends session) (seat_clerk session) in
+      subst C (sym none.0) (record {
+        served = seat_ends session;
+        serves =
+            record {
+              lines = sits.lines;
+              passed = source;
+              source = sits.passed;
+              lines_are = sits.lines_are;
+              over = record { done = none.2; now = none.1 };
+            };
+        recorded = reads sits.vacant.recorded;
+        closed = ends_none (seat_ends session);
+      })
+  accepted place sight sat source source' session slot_state.Over reads none sits = absurd none
 
-  -- A line came in.
-  pub comes_in : {T C : Type 0} {w : Warrants T} {g : Ghosts C T} (sat : SeatAt) (source source' : SourceTold)
-      (place : Place) (begin : Sight) (session : Session T C w g) → place ≡ unbegun (session_history session)
-      → IsNext begin source
-      → source' ≡ let_in begin source → SitsFree shards rules may_answer sat source session
-      → SitsBeginning shards rules may_answer sat source' place begin session
-  comes_in sat source source' place begin session new next came sits =
-      record { before = source; sits = sits; next = next; came = came; new = new }
+  -- A connection that may begin has not begun.
+  pub unbegun_yet : {L : Type 0} {T : Type 0} {w : Warrants T} {g : Ghosts Acting T} (place : L → Place)
+      (session : Session T Acting w g) (now : SlotState L) (line : L) (begun : Bool)
+      → now ≡ slot_state.Out line begun → CanBegin place now session → begun ≡ false
+  unbegun_yet {L} {T} {w} {g} place session now line false is may = refl
+  unbegun_yet {L} {T} {w} {g} place session now line true is may = let P : SlotState L → Type 0 =
+      λ p. CanBegin place p session in absurd (subst P is may)
 
-  -- The line that came in begins to be served.
+  -- The connection that was accepted begins to be served.
   pub begins : {T C : Type 0} {w : Warrants T} {g : Ghosts C T} (sat : SeatAt) (source : SourceTold)
       (place place' : Place) (begin : Sight) (session session' : Session T C w g)
       → ((rules : Rules) (window : ℕ) (line : Sight) → IsVacant rules window session
@@ -155,27 +174,7 @@ module _ (shards : ℕ) (rules : Rules) (may_answer : ℕ → Type 0) where
       let S : Sight → Type 0 = λ seen. SitsServing shards rules may_answer sat source (place line') seen session in
       subst S (sym same) (subst A (sym placed) (subst P is stands))
 
-  -- No line comes any more.
-  pub comes_none : {T : Type 0} {w : Warrants T} {g : Ghosts Acting T} (sat : SeatAt) (source source' : SourceTold)
-      (session : Session T Acting w g) → source' ≡ closed source → IsDone source
-      → (RecordsPastOf session.shard_link (seat_ends session) → HasRecorded (seat_clerk session) (seat_ends session))
-      → SitsFree shards rules may_answer sat source session
-      → SitsClosing shards rules may_answer 0 sat source' (seat_ends session) (seat_clerk session)
-  comes_none sat source source' session now done reads sits = record {
-    served = seat_ends session;
-    serves =
-        record {
-          lines = sits.lines;
-          passed = source;
-          source = sits.passed;
-          lines_are = sits.lines_are;
-          over = record { done = done; now = now };
-        };
-    recorded = reads sits.vacant.recorded;
-    closed = ends_none (seat_ends session);
-  }
-
-  -- The line that is out was served a step further.
+  -- The connection that is out was served by one more step.
   pub serves_on : {T C : Type 0} {w : Warrants T} {g : Ghosts C T} (sat : SeatAt) (source : SourceTold)
       (place place' : Place) (now now' : Sight) (session session' : Session T C w g)
       → ((begin : Sight) (before : Ends Near) → IsServingLine shards rules may_answer begin now before session
@@ -220,18 +219,7 @@ module _ (shards : ℕ) (rules : Rules) (may_answer : ℕ → Type 0) where
     rest = served.rest;
   }
 
-  -- what renewing a session does
-  pub record Renews {T C : Type 0} {w : Warrants T} {g : Ghosts C T} (another : Bool)
-      (old new : Session T C w g) : Type 0 where
-    pub when : (buffered_conn : BufferedConn) (told : Told) → old.buffered_conn ≡ Some buffered_conn
-        → IsConn buffered_conn.conn told → IsTrue another ↔ (IsAtRest told × IsOver told)
-    pub vacant : IsTrue another → (buffered_conn : BufferedConn) (told : Told) → old.buffered_conn ≡ Some buffered_conn
-        → IsConn buffered_conn.conn told → told.shards ≡ length (seat_ends old).channels
-        → IsIdle old.shard_link.under_way.items → RecordsPastOf old.shard_link (seat_ends old)
-        → IsVacant told.rules told.window new
-    pub ends : seat_ends new ≡ seat_ends old
-
-  -- The line that was out was served and went back. Each reply was the answer to its piece, so the session is renewed.
+  -- The connection that was out was served and returned. Each reply answered its piece, so the session is renewed.
   module _ {T : Type 0} {w : Warrants T} {g : Ghosts Acting T} (sat : SeatAt) (source source' : SourceTold)
       (place place' : Place) (now now' : Sight) (commands : ℕ) (broke another : Bool)
       (session session' last : Session T Acting w g) (keeps : g.keeps)
@@ -296,7 +284,7 @@ module _ (shards : ℕ) (rules : Rules) (may_answer : ℕ → Type 0) where
           ruled = same_rules rules session' last same (stays rules sits.begin sits.line).ruled;
         }
 
-  -- One channel more was closed.
+  -- A slot that closes has closed one more channel, or none, or has found all of them closed.
   pub closes_on : {L : Type 0} {T : Type 0} {w : Warrants T} {g : Ghosts Acting T} (place : L → Place)
       (sight : L → Sight) (sat : SeatAt) (count : ℕ)
       (source : SourceTold) (old new : Session T Acting w g) (now : SlotState L)
@@ -336,7 +324,7 @@ module _ (shards : ℕ) (rules : Rules) (may_answer : ℕ → Type 0) where
         closed = closes sits.served sits.closed;
       }
 
-  -- A seat between two steps may make the next one.
+  -- A slot that satisfies its invariant may make a step.
   pub can_step : {L : Type 0} {T : Type 0} {w : Warrants T} {g : Ghosts Acting T} (place : L → Place)
       (sight : L → Sight) (sat : SeatAt) (source : SourceTold) (session : Session T Acting w g) (now : SlotState L)
       → SeatStands place sight shards rules may_answer sat source session now

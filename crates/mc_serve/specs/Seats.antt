@@ -1,24 +1,29 @@
--- What a seat's thread promises of its source.
-use Rattle.std.specs.Prelude.{ℕ, ◌≡◌, true, false, List, [], ◌∷◌, length}
+-- The states of a connection slot, and what it has served of its source in each.
+use Rattle.std.specs.Prelude.{ℕ, ◌≡◌, ◌↔◌, Bool, true, false, List, [], ◌∷◌, IsTrue, Some, length}
 use Rattle.mc_wire.specs.Sink.{Sight}
 use Rattle.mc_ring.specs.Channel.{Near}
 use Rattle.mc_ring.specs.Ends.{Ends}
+use Rattle.mc_ring.specs.Route.{Name}
 use Rattle.mc_history.specs.Tokens.{Acting}
 use Rattle.mc_record.specs.Clerk.{answers_at, work_at}
 use Rattle.mc_conn.specs.declared.conn.Conn.{Conn}
+use Rattle.mc_conn.specs.Conn.{IsConn}
 use Rattle.mc_conn.specs.Fits.{KeysFit}
+use Rattle.mc_conn.specs.Told.{IsAtRest, IsOver, Told}
+use Rattle.mc_seat.specs.declared.buffered_conn.BufferedConn.{BufferedConn}
 use Rattle.mc_seat.specs.declared.clerk.Clerk.{Ghosts}
 use Rattle.mc_seat.specs.declared.warrant.Warrant.{Ghosts as Warrants}
 use Rattle.mc_seat.specs.Place.{Place, unbegun}
 use Rattle.mc_seat.specs.LineServed.{LineServed}
 use Rattle.mc_seat.specs.Explains.{LineTold}
 use Rattle.mc_threads.specs.Ending.{EndsFirst}
+use Rattle.mc_threads.specs.Records.{RecordsPastOf}
 use Rattle.mc_threads.specs.Routes.{IsUpToDate}
-use Rattle.mc_threads.specs.Serving.{EndsAll}
+use Rattle.mc_threads.specs.Serving.{EndsAll, IsIdle}
 use Rattle.mc_threads.specs.Session.{IsLineAt, IsRuled, IsServingLine, IsVacant, MayStep, seat_clerk, seat_ends}
 use Rattle.mc_threads.specs.Session.{session_history}
 use Rattle.mc_threads.specs.declared.session.Session.{Session}
-use Rattle.mc_doors.specs.Told.{SourceTold, IsDone, IsFree, IsNext, Passes, closed, let_in}
+use Rattle.mc_doors.specs.Told.{SourceTold, IsDone, IsFree, IsNext, Passes, closed, let_in, took_back}
 use Rattle.mc_serve.specs.declared.connection_slot.SlotState.{SlotState}
 use Rattle.mc_serve.specs.declared.connection_slot.SlotState.TheVariants as slot_state
 use Rattle.mc_command.specs.declared.rules.Rules.{Rules}
@@ -161,7 +166,51 @@ module _ {T C : Type 0} {w : Warrants T} {g : Ghosts C T} where
   CanStep place sight may_answer (slot_state.Closing count) session = Unit {0}
   CanStep place sight may_answer slot_state.Over session = Unit {0}
 
--- One channel more was closed, or none; or all of them were closed before.
+module _ {T C : Type 0} {w : Warrants T} {g : Ghosts C T} where
+  -- A connection is out that has not begun, of the session's history.
+  abbrev pub CanBegin : {L : Type 0} → (L → Place) → SlotState L → Session T C w g → Type 0
+  CanBegin place slot_state.Free session = ⊥
+  CanBegin place (slot_state.Out line false) session = place line ≡ unbegun (session_history session)
+  CanBegin place (slot_state.Out line true) session = ⊥
+  CanBegin place (slot_state.Closing count) session = ⊥
+  CanBegin place slot_state.Over session = ⊥
+
+  -- The session was renewed, which succeeds if its connection has ended with nothing under way.
+  pub record Renews (another : Bool) (old new : Session T C w g) : Type 0 where
+    pub when : (buffered_conn : BufferedConn) (told : Told) → old.buffered_conn ≡ Some buffered_conn
+        → IsConn buffered_conn.conn told → IsTrue another ↔ (IsAtRest told × IsOver told)
+    pub vacant : IsTrue another → (buffered_conn : BufferedConn) (told : Told) → old.buffered_conn ≡ Some buffered_conn
+        → IsConn buffered_conn.conn told → told.shards ≡ length (seat_ends old).channels
+        → IsIdle old.shard_link.under_way.items → RecordsPastOf old.shard_link (seat_ends old)
+        → IsVacant told.rules told.window new
+    pub ends : seat_ends new ≡ seat_ends old
+    pub history : session_history new ≡ session_history old
+
+-- The result of a free slot's `accept`: no connection, one that is out and has not begun, or that no more will come.
+abbrev pub Accepts : {L : Type 0} → (L → Place) → (L → Sight) → Name → SlotState L → SourceTold → SourceTold → Type 0
+Accepts place sight history slot_state.Free old new = new ≡ old
+Accepts place sight history (slot_state.Out line false) old new =
+    (place line ≡ unbegun history) × IsNext (sight line) old × (new ≡ let_in (sight line) old)
+Accepts place sight history (slot_state.Out line true) old new = ⊥
+Accepts place sight history (slot_state.Closing count) old new =
+    (count ≡ 0) × (new ≡ closed old) × IsDone old
+Accepts place sight history slot_state.Over old new = ⊥
+
+-- A connection is out.
+abbrev pub IsOut : {L : Type 0} → SlotState L → Type 0
+IsOut slot_state.Free = ⊥
+IsOut (slot_state.Out line begun) = Unit {0}
+IsOut (slot_state.Closing count) = ⊥
+IsOut slot_state.Over = ⊥
+
+-- The connection that was out was returned to its source.
+abbrev pub IsReturned : {L : Type 0} → (L → Sight) → SlotState L → ℕ → Bool → SourceTold → SourceTold → Type 0
+IsReturned sight slot_state.Free commands broke old new = ⊥
+IsReturned sight (slot_state.Out line begun) commands broke old new = new ≡ took_back (sight line) commands broke old
+IsReturned sight (slot_state.Closing count) commands broke old new = ⊥
+IsReturned sight slot_state.Over commands broke old new = ⊥
+
+-- The result of closing a channel: one more is closed, or none was; or all of them were closed before.
 abbrev pub ClosesOn : {L : Type 0} → Ends Near → SlotState L → Ends Near → Type 0
 ClosesOn served slot_state.Free ends = ⊥
 ClosesOn served (slot_state.Out line begun) ends = ⊥

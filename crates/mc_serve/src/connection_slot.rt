@@ -1,7 +1,8 @@
-//! A seat that serves the lines of a source, one after another, by steps of which none waits.
+//! A connection slot: it serves the connections of its source, one after another, in steps that
+//! never block.
 ghost use Rattle.mc_sizes.specs.Sizes.{SuitLines, rules_of};
 ghost use Rattle.mc_command.specs.declared.rules.Rules.{Rules};
-ghost use Rattle.std.specs.Prelude.{◌≡◌, ◌<◌, ℕ, IfOk, IsTrue, length};
+ghost use Rattle.std.specs.Prelude.{◌≡◌, ◌<◌, Bool, ℕ, IfOk, IsTrue, length};
 ghost use Rattle.mc_record.specs.Clerk.{IsSeatActor};
 ghost use Rattle.mc_ring.specs.Ends.{Ends};
 ghost use Rattle.mc_ring.specs.Channel.{Near};
@@ -9,76 +10,58 @@ ghost use Rattle.mc_threads.specs.Ending.{EndsFirst};
 ghost use Rattle.mc_threads.specs.Routes.{AreOnRoutes};
 ghost use Rattle.mc_threads.specs.Session.{IsRuled, IsVacant, seat_clerk, seat_ends, session_history};
 ghost use Rattle.mc_serve.specs.Recorded.{IsClerkOf, route_from};
-ghost use Rattle.mc_serve.specs.Seats.{CanStep, ClosesOn, HasRecorded, SeatAt, SeatStands};
+ghost use Rattle.mc_serve.specs.Seats.{Accepts, CanBegin, CanStep, ClosesOn, HasRecorded, IsOut, IsReturned, Renews, SeatAt, SeatStands};
 ghost use Rattle.mc_serve.specs.declared.connection_slot.SlotState.TheVariants as slot_state;
 
 use mc_doors::{Accept, ConnectionSource};
 use mc_history::Evidence;
 use mc_record::SeatClerk;
 use mc_ring::SeatEnds;
-use mc_seat::{BufferPool, Clock, LineStep, Ready, Transport};
+use mc_seat::{BufferPool, Clock, LineStep, Ready, Served, Transport};
 use mc_sizes::Sizes;
 use mc_threads::Session;
 use mc_wake::Wakers;
 use std::alloc::{AllocError, Global};
 use std::mem;
 
-/// What a step of a seat did.
+/// The result of a step.
 #[derive(Clone, Copy, PartialEq, Eq)]
 pub enum Stepped {
-    /// Something: the next step may follow at once.
+    /// It did something; the next step may follow at once.
     Did,
-    /// Nothing: a line, replies of a shard, bytes of the line or room on a channel have to come
-    /// first.
+    /// Nothing to do until the slot is woken: by a new connection, bytes of its own, replies, or
+    /// space on a ring.
     Waits,
-    /// It found that each channel was closed: nothing follows.
+    /// All channels are closed. The slot has nothing more to do.
     Over,
 }
 
-/// What follows a try to begin the line that is out: if memory was refused, its output is ended, so
-/// that its client need not wait.
-fn after_begin<D: ConnectionSource>(begun: bool, source: &mut D, line: &mut D::Transport) -> Stepped
-    ensures told { D.told source.new ≡ D.told source.old }
-    ensures history { D.history source.new ≡ D.history source.old }
-    ensures line { D.Transport.sight line.new ≡ D.Transport.sight line.old }
-    ensures place { D.Transport.place line.new ≡ D.Transport.place line.old }
-{
-    if begun {
-        return Stepped::Did;
-    }
-    let is_reminded = source.give_up(line);
-    if is_reminded {
-        Stepped::Waits
-    } else {
-        Stepped::Did
-    }
-}
-
-/// What a seat does.
+/// The state of a slot.
 #[derive(Drop)]
 pub enum SlotState<L> {
-    /// No line is out.
+    /// It serves no connection.
     Free,
-    /// This line is out. It is served once it has begun: if memory for that is refused, its client
-    /// sees an end, and it is tried again.
+    /// This connection is out. It is served once it has begun. If memory for that is refused, its
+    /// client sees the end of the output, and the slot tries again.
     Out { line: L, begun: bool },
-    /// No line comes any more, and this number of channels were closed, the first ones.
+    /// No more connections will come. The first channels are closed, as many as this.
     Closing(usize),
-    /// All channels were closed.
+    /// All channels are closed.
     Over,
 }
 
-/// A source and its seat, with the clerk that records what the seat's connections take.
+/// A slot with its source. The session has the slot's ends of the rings, and the clerk that records
+/// what its connections take.
 pub struct ConnectionSlot<D: ConnectionSource> {
     pub(crate) session: Session<Evidence, SeatClerk>,
     pub(crate) slot_state: SlotState<D::Transport>,
     pub source: D,
-    // The source's lines are of the history in which the clerk records.
+    // The source's connections belong to the history in which the clerk records.
     ghost one_history: { D.history source ≡ session_history session },
 }
 
 impl<D: ConnectionSource + Drop> Drop for ConnectionSlot<D> {
-    /// By hand, so that to drop one is one call for its owner (docs/DECISIONS.md).
+    /// Written by hand, so that its owners drop it by a single call (docs/DECISIONS.md, F20).
     fn drop(self) {
         let ConnectionSlot {
             session: _session,
@@ -92,8 +75,9 @@ impl<D: ConnectionSource + Drop> ConnectionSlot<D>
 where
     D::Transport: Transport<Warrant = Evidence>,
 {
-    /// A seat that serves the lines of the source, with a clerk of their history whose record is of
-    /// these ends. The wakers are those of the shards.
+    /// A free slot for the connections of the source, over these ends of its channels. The clerk
+    /// has recorded all that was sent and received there. The wakers are those of the shards'
+    /// threads. Fails if memory is refused.
     pub fn new(
         alloc: Global,
         source: D,
@@ -122,9 +106,9 @@ where
         })
     }
 
-    /// Makes a step: asks the source for a line, begins to serve the line that is out, serves it
-    /// on, or closes a channel. The line is notified first of what its socket is ready for, if
-    /// something is known of that.
+    /// Makes one step, which never blocks: accepts a connection, begins it, serves it, or closes a
+    /// channel. A connection that is out is first notified of its socket's readiness, if `ready` is
+    /// given.
     pub(crate) fn step<K: Clock>(
         &mut self,
         ready: Option<Ready>,
@@ -142,39 +126,20 @@ where
             (D.told self.new.source) self.new.session self.new.slot_state }
     {
         match &mut self.slot_state {
-            SlotState::Free => {
-                self.slot_state = match self.source.accept() {
-                    Accept::Came(line) => SlotState::Out { line, begun: false },
-                    Accept::NotYet => return Stepped::Waits,
-                    Accept::Over => SlotState::Closing(0),
-                };
-                Stepped::Did
-            }
             SlotState::Out { line, begun } => {
                 if let Some(ready) = ready {
                     line.rouse(ready);
                 }
                 if !*begun {
-                    *begun = self.session.begin(line, clock).is_ok();
-                    return after_begin(*begun, &mut self.source, line);
+                    return self.begin(clock);
                 }
                 match self.session.step(line, clock, pool) {
                     LineStep::Did => Stepped::Did,
                     LineStep::Waits => Stepped::Waits,
-                    LineStep::Ended(served) => {
-                        let SlotState::Out { line, .. } = mem::replace(
-                            &mut self.slot_state,
-                            SlotState::Free,
-                        ) else {
-                            unreachable!()
-                        };
-                        self.source.give_back(line, served.commands, served.broke);
-                        // All replies have come, each to its piece, so it can be renewed.
-                        let _ = self.session.renew();
-                        Stepped::Did
-                    }
+                    LineStep::Ended(served) => self.end(served),
                 }
             }
+            SlotState::Free => self.accept(),
             SlotState::Closing(count) => {
                 let count = *count;
                 self.close(count)
@@ -183,7 +148,72 @@ where
         }
     }
 
-    /// Closes the next channel, where it has room for End and the first `count` are closed.
+    /// Accepts the next connection. If the source has no more, the channels are closed next.
+    #[inline(never)]
+    fn accept(&mut self) -> Stepped
+        requires { self.old.slot_state ≡ slot_state.Free }
+        ensures accepts { Accepts (λ line. D.Transport.place line) (λ line. D.Transport.sight line)
+            (session_history self.old.session) self.new.slot_state (D.told self.old.source)
+            (D.told self.new.source) }
+        ensures session { self.new.session ≡ self.old.session }
+    {
+        self.slot_state = match self.source.accept() {
+            Accept::Came(line) => SlotState::Out { line, begun: false },
+            Accept::NotYet => return Stepped::Waits,
+            Accept::Over => SlotState::Closing(0),
+        };
+        Stepped::Did
+    }
+
+    /// Begins to serve the connection that is out. If memory for that is refused, its output is
+    /// ended, so that its client doesn't wait, and a later step tries again.
+    #[inline(never)]
+    fn begin<K: Clock>(&mut self, clock: &K) -> Stepped
+        requires { CanBegin (λ line. D.Transport.place line) self.old.slot_state self.old.session }
+        ensures { (shards : ℕ) (rules : Rules) (sat : SeatAt) →
+            SeatStands (λ line. D.Transport.place line) (λ line. D.Transport.sight line) shards
+            rules (K.may_answer clock.now) sat
+            (D.told self.old.source) self.old.session self.old.slot_state →
+            SeatStands (λ line. D.Transport.place line) (λ line. D.Transport.sight line) shards
+            rules (K.may_answer clock.now) sat
+            (D.told self.new.source) self.new.session self.new.slot_state }
+    {
+        let SlotState::Out { line, begun } = &mut self.slot_state else {
+            unreachable!()
+        };
+        *begun = self.session.begin(line, clock).is_ok();
+        if *begun {
+            return Stepped::Did;
+        }
+        let is_reminded = self.source.give_up(line);
+        if is_reminded {
+            Stepped::Waits
+        } else {
+            Stepped::Did
+        }
+    }
+
+    /// Returns the connection that was served to the source, and renews the session for the next
+    /// one.
+    #[inline(never)]
+    fn end(&mut self, served: Served) -> Stepped
+        requires { IsOut self.old.slot_state }
+        ensures free { self.new.slot_state ≡ slot_state.Free }
+        ensures told { IsReturned (λ line. D.Transport.sight line) self.old.slot_state
+            served.commands served.broke (D.told self.old.source) (D.told self.new.source) }
+        ensures renewed { (another : Bool) × Renews another self.old.session self.new.session }
+    {
+        let SlotState::Out { line, .. } = mem::replace(&mut self.slot_state, SlotState::Free) else {
+            unreachable!()
+        };
+        self.source.give_back(line, served.commands, served.broke);
+        // All replies have come, each to its piece, so it can be renewed.
+        let _ = self.session.renew();
+        Stepped::Did
+    }
+
+    /// Closes the next channel, if its ring has room for the End. The first `count` are closed.
+    #[inline(never)]
     fn close(&mut self, count: usize) -> Stepped
         ensures closes { (served : Ends Near) →
             EndsFirst count served (seat_ends self.old.session) →
@@ -205,7 +235,7 @@ where
         Stepped::Waits
     }
 
-    /// Whether all its channels were closed.
+    /// Whether all of its channels are closed.
     pub(crate) fn is_over(&self) -> bool
         ensures { IsTrue result → self.now.slot_state ≡ slot_state.Over }
     {
@@ -215,7 +245,7 @@ where
         }
     }
 
-    /// The source and the clerk, once the lines were served.
+    /// Returns the source and the clerk, for the report once all threads are joined.
     pub(crate) fn finish(self) -> (D, SeatClerk)
         ensures source { result.0 ≡ self.source }
         ensures clerk { result.1 ≡ seat_clerk self.session }

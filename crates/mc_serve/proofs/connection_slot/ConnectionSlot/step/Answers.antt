@@ -1,8 +1,24 @@
--- The line that is out begins, is served on, or was served and goes back.
-use Rattle.std.proofs.Common.{◌≡◌, ◌∙◌, refl}
-use Rattle.mc_serve.proofs.Steps.{begins_where, serves_another, serves_on, stands_out}
+-- A free slot accepts; the connection that is out begins, is served, or has ended and is returned.
+use Rattle.std.proofs.Common.{◌≡◌, refl}
+use Rattle.mc_serve.proofs.Steps.{accepted, closes_on, serves_another, serves_on, stands_out}
 use Rattle.mc_serve.proofs.connection_slot.ConnectionSlot.step.Goals as goal
 use Rattle.mc_serve.proofs.connection_slot.ConnectionSlot.step.Goals.{in-Some, in_default}
+
+pub returns-in-Free : goal.returns-in-Free
+returns-in-Free g c shards rules sat stands =
+    rw c.accept.ensures.session
+    (accepted shards rules (g.K.Clock.may_answer c.args.clock.now) (λ line. g.D.Transport.Transport.place line)
+    (λ line. g.D.Transport.Transport.sight line) sat (g.D.ConnectionSource.told c.args.self.now.source)
+    (g.D.ConnectionSource.told c.accept.new.self.source) c.args.self.now.session c.accept.new.self.slot_state
+    (λ past. past tt) c.accept.ensures.accepts (rw c.in-Free.is at stands))
+
+pub returns-in-Closing : goal.returns-in-Closing
+returns-in-Closing g c shards rules sat stands =
+    rw c.close.ensures.source
+    (closes_on shards rules (g.K.Clock.may_answer c.args.clock.now) (λ line. g.D.Transport.Transport.place line)
+    (λ line. g.D.Transport.Transport.sight line) sat c.in-Closing.count
+    (g.D.ConnectionSource.told c.args.self.now.source) c.args.self.now.session c.close.new.self.session
+    c.close.new.self.slot_state c.close.ensures.closes c.close.ensures.recorded (rw c.in-Closing.is at stands))
 
 pub returns-then-not-begun : goal.returns-then-not-begun
 returns-then-not-begun g c shards rules sat stands =
@@ -21,16 +37,10 @@ returns-then-not-begun g c shards rules sat stands =
     (λ line. g.D.Transport.Transport.sight line)
     sat (g.D.ConnectionSource.told c.args.self.now.source) c.args.self.now.session c.args.self.now.slot_state
     c.in-Out.line c.match-ready.line c.in-Out.begun c.in-Out.is place line stands in
-    rw c.is_ok.ensures.value
-    (begins_where shards rules may_answer (λ line. g.D.Transport.Transport.place line)
-    (λ line. g.D.Transport.Transport.sight line) sat _ _ c.match-ready.line c.begin.new.line _
-    c.args.self.now.session c.begin.new.self c.begin.result c.begin.ensures.serving c.begin.ensures.line
-    c.begin.ensures.refused c.begin.ensures.unplaced
-    c.after_begin.ensures.told c.after_begin.ensures.place
-    (c.after_begin.ensures.line ∙ c.begin.ensures.sight) (rw c.if-not-begun.true at out))
+    c.begin.ensures shards rules sat out
 
-pub returns-in-Out-replace : goal.returns-in-Out-replace
-returns-in-Out-replace g c shards rules sat stands =
+pub returns-in-Ended : goal.returns-in-Ended
+returns-in-Ended g c shards rules sat stands =
     let may_answer = g.K.Clock.may_answer c.args.clock.now in
     let line : g.D.Transport.Transport.sight c.match-ready.line ≡ g.D.Transport.Transport.sight c.in-Out.line =
     elim c.match-ready.branch [
@@ -46,14 +56,10 @@ returns-in-Out-replace g c shards rules sat stands =
     (λ line. g.D.Transport.Transport.sight line)
     sat (g.D.ConnectionSource.told c.args.self.now.source) c.args.self.now.session c.args.self.now.slot_state
     c.in-Out.line c.match-ready.line c.in-Out.begun c.in-Out.is place line stands in
-    let held : c.in-Out-replace.line ≡ c.step.new.line =
-    (let had = c.replace.ensures.value in let is = c.in-Out-replace.is in cc) in
-    rw c.replace.ensures.after
-    (serves_another shards rules may_answer sat _ _ _ _ _ _ _ _ _ c.args.self.now.session c.step.new.self
-    c.renew.new.self
-    tt (λ begin before. c.in-Ended.ensures.says shards rules begin before) (rw held at c.give_back.ensures.told)
-    (record { when = c.renew.ensures.when; vacant = c.renew.ensures.vacant; ends = c.renew.ensures.ends })
-    c.step.ensures.line c.renew.ensures.history
+    rw c.end.ensures.free
+    (serves_another shards rules may_answer sat _ _ _ _ _ _ _ _ c.end.ensures.renewed.0 c.args.self.now.session
+    c.step.new.self c.end.new.self.session tt (λ begin before. c.in-Ended.ensures.says shards rules begin before)
+    c.end.ensures.told c.end.ensures.renewed.1 c.step.ensures.line c.end.ensures.renewed.1.history
     (rw c.if-not-begun.false at out))
 
 pub returns-in-Did : goal.returns-in-Did
