@@ -3,3 +3,5 @@ pub mod Steps
 pub mod Turning
 pub mod Marking
 pub mod Scribing
+pub mod Taking
+pub mod Serving

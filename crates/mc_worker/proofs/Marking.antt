@@ -1,6 +1,6 @@
--- The marks of a worker's turns for one seat.
-use Rattle.std.proofs.Common.{◌≡◌, ◌≢◌, ℕ, zero, suc, ◌<◌, ◌==◌, Bool, true, false, Option, Some, None, List, [], ◌∷◌}
-use Rattle.std.proofs.Common.{◌++◌, length, refl, ap, sym, ◌∙◌, arith, slice_set, append-nil, inl, inr, ◌⊎◌}
+-- The marks of a worker's turns.
+use Rattle.std.proofs.Common.{◌≡◌, ℕ, zero, suc, ◌<◌, ◌==◌, Bool, true, false, Option, Some, None, List, [], ◌∷◌}
+use Rattle.std.proofs.Common.{◌++◌, length, refl, ap, sym, ◌∙◌, arith, slice_set, append-nil, inl, inr}
 use Rattle.std.proofs.lemmas.Bool.Decides.{eqb_tells}
 use Rattle.std.proofs.lemmas.Option.{same_Some}
 use Rattle.std.specs.List.{slice_get}
@@ -11,8 +11,8 @@ use Rattle.mc_worker.specs.WorkerState.{WorkerState, in_hand}
 use Rattle.mc_ring.specs.Reply.{Shown}
 use Rattle.mc_worker.specs.declared.worker.Turn.{Turn}
 use Rattle.mc_worker.specs.declared.worker.Turn.TheVariants.{Gave, Blocked, Nothing, Ended, Ran}
-use Rattle.mc_worker.specs.Turns.{Gives, GivesIt, Turned, given_by}
-use Rattle.mc_worker.specs.Marks.{Marks, MarksNoOther}
+use Rattle.mc_worker.specs.Turns.{Gives, given_by}
+use Rattle.mc_worker.specs.Marks.{Marks}
 
 -- the marks
 
@@ -64,7 +64,7 @@ pub marks_none : (old : WorkerState) (turn : Turn) (new : WorkerState) (marks : 
 marks_none old turn new marks no_gift gives seat =
     inl (gives seat ∙ rw (none_given turn seat old.hand no_gift) (append-nil (sent_on old.ends seat)), refl)
 
--- Whose reply is in the hand.
+-- Whose reply is pending.
 pub at_holder : (hand : Option (ℕ × Shown)) (holder : ℕ) → option_map (λ held. held.0) hand ≡ Some holder
     → (reply : Shown) × (hand ≡ Some (holder, reply))
 at_holder None holder held = absurd (cc)
@@ -98,40 +98,3 @@ marks_gave old new holder marks gives held within seat =
         get-set_other marks holder seat true (λ e. other.1 (sym e)),
       )
     ]
-
--- A worker whose hand is empty gives no reply.
-pub marks_absurd : (old new : WorkerState) (P : Type 0) → GivesIt old new → option_map (λ held. held.0) old.hand ≡ None
-    → P
-marks_absurd old new P gave held =
-    absurd (let e : Some gave.seat ≡ None = sym (ap (option_map (λ held. held.0)) gave.held) ∙ held in cc)
-
--- The reply in the hand is for this seat, or is that which was there at first.
-abbrev pub HeldStill : WorkerState → ℕ → WorkerState → Type 0
-HeldStill first seat now =
-    (other : ℕ) → option_map (λ held. held.0) now.hand ≡ Some other → (other ≡ seat)
-    ⊎ (option_map (λ held. held.0) first.hand ≡ Some other)
-
--- A turn leaves the hand empty, as it was, or with a reply for the seat.
-pub held_turn : (first old new : WorkerState) (seat : ℕ) (turn : Turn) → Turned old seat turn new
-    → HeldStill first seat old → HeldStill first seat new
-held_turn first old new seat Gave turned held other is =
-    absurd (let e : None ≡ Some other = sym (ap (λ (d : WorkerState). option_map (λ held. held.0) d.hand) turned.rest)
-    ∙ is in cc)
-held_turn first old new seat Blocked turned held other is =
-    held other (sym (ap (λ (d : WorkerState). option_map (λ held. held.0) d.hand) turned.rest) ∙ is)
-held_turn first old new seat Nothing turned held other is =
-    held other (sym (ap (λ (d : WorkerState). option_map (λ held. held.0) d.hand) turned.rest) ∙ is)
-held_turn first old new seat Ended turned held other is =
-    held other (sym (ap (λ (d : WorkerState). option_map (λ held. held.0) d.hand) turned.rest) ∙ is)
-held_turn first old new seat (Ran ticket part moment) turned held other is =
-    inl (same_Some other seat (sym is ∙ ap (λ (d : WorkerState). option_map (λ held. held.0) d.hand) turned.rest))
-
--- The seat that is given the reply in the hand is one of those that may be marked.
-pub marks_held : (first now : WorkerState) (seat holder : ℕ) (before marks : List Bool)
-    → option_map (λ held. held.0) now.hand ≡ Some holder → HeldStill first seat now
-    → MarksNoOther first seat before marks → MarksNoOther first seat before (slice_set marks holder true)
-marks_held first now seat holder before marks holds held no_other other apart apart_first =
-    let another : other ≢ holder =
-    λ same. elim (held holder holds)
-    [ inl is ↦ apart (same ∙ is) | inr is ↦ apart_first (is ∙ ap (λ k. Some k) (sym same)) ] in
-    get-set_other marks holder other true another ∙ no_other other apart apart_first

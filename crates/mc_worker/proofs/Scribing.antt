@@ -162,7 +162,7 @@ pub same_entry : (log : List Entry) (a b seat : ℕ) (p q : Piece) (answer : Ans
 same_entry log a b seat p q answer shards pieces = rw (shards, pieces) refl
 
 -- A turn leaves the worker well marked.
-turned_sound : (old : WorkerState) (seat : ℕ) (turn : Turn) (new : WorkerState) → IsWellMarked old
+pub turned_sound : (old : WorkerState) (seat : ℕ) (turn : Turn) (new : WorkerState) → IsWellMarked old
     → seat < length old.ends.channels → Turned old seat turn new → IsWellMarked new
 turned_sound old seat Gave new sound within turned =
     marked_free old new (turned_keeps old seat Gave new sound within turned) sound

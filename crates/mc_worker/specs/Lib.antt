@@ -4,3 +4,4 @@ pub mod Turns
 pub mod Marks
 pub mod Serves
 pub mod Scribe
+pub mod internal

@@ -1,35 +1,41 @@
 //! The worker of one shard: it takes pieces from the seats' channels, runs them and sends the
 //! replies.
-ghost use Rattle.std.specs.Prelude.{◌≡◌, ◌≢◌, ◌<◌, ◌↔◌, IsTrue, None, true, length, [], IfOk, IfSome};
+ghost use Rattle.std.specs.Prelude.{◌≡◌, ◌≢◌, ◌<◌, ◌↔◌, ◌++◌, ◌∷◌, [], Bool, IsTrue, List, None};
+ghost use Rattle.std.specs.Prelude.{IfOk, IfSome, length, map, true};
 ghost use Rattle.std.specs.Bool.{OnTrue};
 ghost use Rattle.std.specs.List.{AllByRecursion};
 ghost use Rattle.std.specs.Option.{option_map};
 ghost use Rattle.mc_sizes.specs.Sizes.{SuitShards};
+ghost use Rattle.mc_item.specs.Kind.{kind_of};
+ghost use Rattle.mc_ring.specs.declared.request.Request.TheVariants as request;
+ghost use Rattle.mc_ring.specs.Reply.{shown};
 ghost use Rattle.mc_ring.specs.Ends.{AreSameEnds};
 ghost use Rattle.mc_ring.specs.Made.{IsChannel, IsUnused, LooksAtBoth};
-ghost use Rattle.mc_store.specs.Shard.{IsShard};
+ghost use Rattle.mc_store.specs.Shard.{IsShard, Steps};
 ghost use Rattle.mc_store.specs.State.{State};
+ghost use Rattle.mc_model.specs.Log.{of_asker, pieces_in};
 ghost use Rattle.mc_model.specs.Sized.{empty_shard};
 ghost use Rattle.mc_worker.specs.WorkerState.{Goes, HasEnded, HasRun, RunsNoMore};
 ghost use Rattle.mc_worker.specs.Turns.{FindsNothing, Gives, LogGrows, Turned};
 ghost use Rattle.mc_worker.specs.Marks.{Marks, MarksNoOther};
 ghost use Rattle.mc_worker.specs.Serves.{LeavesNothing, ServesSeat};
 ghost use Rattle.mc_worker.specs.Scribe.{AreOnRoutes};
+ghost use Rattle.mc_worker.specs.internal.Serving.{RanOn, ServesNext, marked_after};
 
 use crate::gate::Gate;
 use crate::scribe::Scribe;
 use mc_reply::Ticket;
 use mc_ring::{Reply, Request, SeatEnds, ShardEnds, Token, beside};
 use mc_sizes::Sizes;
+use mc_split::Piece;
 use mc_store::Shard;
 use std::alloc::{AllocError, Global};
 use std::marker::Model;
 use std::random::RandomSource;
 use std::snapshot::Snapshot;
 
-/// Maximum number of turns for one seat before the worker serves the next one. A piece takes two:
-/// it is run, and its reply is sent.
-const CHANNEL_TURNS: usize = 64;
+/// Maximum number of requests of one seat before the worker serves the next one.
+const CHANNEL_REQUESTS: usize = 32;
 
 /// The outcome of a turn.
 #[derive(Clone, Copy, Debug, PartialEq, Eq)]
@@ -62,9 +68,22 @@ pub enum Served {
     Part,
 }
 
+/// What became of the next request of a seat.
+#[derive(Clone, Copy)]
+enum Next {
+    /// There was none.
+    Nothing,
+    /// It was the seat's `End`.
+    Ended,
+    /// It was a piece, which was run; its reply was sent.
+    Sent,
+    /// It was a piece, which was run; its reply is pending, since the ring was full.
+    Full,
+}
+
 /// A reply that is not sent yet, with its seat.
 #[derive(Drop)]
-struct Hand {
+struct Pending {
     seat: usize,
     reply: Reply,
 }
@@ -74,7 +93,7 @@ struct Hand {
 pub struct Worker<T: Token = (), S: Scribe<T> = ()> {
     shard: Shard,
     ends: ShardEnds<T>,
-    hand: Option<Hand>,
+    pending: Option<Pending>,
     /// Whether the `End` of each channel is still to come.
     live: Vec<bool>,
     scribe: S,
@@ -86,7 +105,7 @@ impl<T: Token + Drop, S: Scribe<T> + Drop> Drop for Worker<T, S> {
         let Worker {
             shard: _shard,
             ends: _ends,
-            hand: _hand,
+            pending: _pending,
             live: _live,
             scribe: _scribe,
         } = self;
@@ -105,21 +124,21 @@ impl<T: Token, S: Scribe<T>> Model for Worker<T, S> {
     ghost view = { λ worker. record {
       shard = held_of worker.shard;
       ends = worker.ends;
-      hand = option_map (λ hand. (hand.seat, shown hand.reply)) worker.hand;
+      hand = option_map (λ pending. (pending.seat, shown pending.reply)) worker.pending;
       live = worker.live.items;
     } };
 
     ghost invariant = { λ worker. IsWellMarked (record {
       shard = held_of worker.shard;
       ends = worker.ends;
-      hand = option_map (λ hand. (hand.seat, shown hand.reply)) worker.hand;
+      hand = option_map (λ pending. (pending.seat, shown pending.reply)) worker.pending;
       live = worker.live.items;
     })
         × (S.keeps worker.scribe →
         IsRecorded (S.route worker.scribe) (S.begin worker.scribe) (S.log worker.scribe) (record {
           shard = held_of worker.shard;
           ends = worker.ends;
-          hand = option_map (λ hand. (hand.seat, shown hand.reply)) worker.hand;
+          hand = option_map (λ pending. (pending.seat, shown pending.reply)) worker.pending;
           live = worker.live.items;
         })) };
 }
@@ -190,7 +209,7 @@ impl<T: Token + Drop, S: Scribe<T> + Drop> Worker<T, S> {
         Ok(Worker {
             shard,
             ends,
-            hand: None,
+            pending: None,
             live,
             scribe,
         })
@@ -276,8 +295,10 @@ impl<T: Token + Drop, S: Scribe<T> + Drop> Worker<T, S> {
         beside(seat, &mut self.ends)
     }
 
-    /// Makes turns for one seat while its channel has requests, at most `CHANNEL_TURNS`. Sets
-    /// `given` for each seat that a reply was sent to, so that its thread can be woken.
+    /// Sends the pending reply, if there is one, then serves requests of one seat while its channel
+    /// has some, at most `CHANNEL_REQUESTS`. Where the ring has room, the reply of a piece is sent as
+    /// soon as it is run. Sets `given` for each seat that a reply was sent to, so that its thread can
+    /// be woken.
     pub fn serve<G: Gate>(
         &mut self,
         alloc: Global,
@@ -296,22 +317,17 @@ impl<T: Token + Drop, S: Scribe<T> + Drop> Worker<T, S> {
         ensures all { result ≡ Served.All → LeavesNothing self.old seat self.new }
     {
         let _ = &self.shard;
-        let mut served = Served::Nothing;
-        for _ in 0..CHANNEL_TURNS {
-            let holder = self.holder();
-            match self.turn(alloc, seat, gate) {
-                Turn::Nothing => return served,
-                Turn::Blocked => return Served::Part,
-                Turn::Gave => {
-                    if let Some(holder) = holder {
-                        given[holder] = true;
-                    }
-                }
-                Turn::Ran { .. } | Turn::Ended => {}
-            }
-            served = Served::All;
+        let Some(holder) = self.holder() else {
+            return self.serve_requests(alloc, seat, gate, given);
+        };
+        let Turn::Gave = self.turn(alloc, seat, gate) else {
+            return Served::Part;
+        };
+        given[holder] = true;
+        match self.serve_requests(alloc, seat, gate, given) {
+            Served::Nothing | Served::All => Served::All,
+            Served::Part => Served::Part,
         }
-        Served::Part
     }
 
     /// The seat of the pending reply, if there is one.
@@ -319,8 +335,8 @@ impl<T: Token + Drop, S: Scribe<T> + Drop> Worker<T, S> {
         ensures held { result ≡ option_map (λ held. held.0) self.now.hand }
         ensures within { IfSome result (λ seat. seat < length self.now.ends.channels) }
     {
-        let hand = self.hand.as_ref()?;
-        Some(hand.seat)
+        let pending = self.pending.as_ref()?;
+        Some(pending.seat)
     }
 
     /// A turn; its contract leaves the log out.
@@ -328,14 +344,14 @@ impl<T: Token + Drop, S: Scribe<T> + Drop> Worker<T, S> {
         requires { seat < length self.old.ends.channels }
         ensures { Turned self.old seat result self.new }
     {
-        let Some(Hand { seat, reply }) = self.hand.take() else {
+        let Some(Pending { seat, reply: held }) = self.pending.take() else {
             return self.take_from(alloc, seat, gate);
         };
         let token = self.scribe.token();
-        match self.ends.give_with(seat, reply, token) {
+        match self.ends.give_with(seat, held, token) {
             Ok(()) => Turn::Gave,
             Err(reply) => {
-                self.hand = Some(Hand { seat, reply });
+                self.pending = Some(Pending { seat, reply });
                 Turn::Blocked
             }
         }
@@ -350,26 +366,137 @@ impl<T: Token + Drop, S: Scribe<T> + Drop> Worker<T, S> {
         if !self.live[seat] {
             return Turn::Nothing;
         }
-        let Some((request, token)) = self.ends.take_with(seat) else {
+        let Some((taken, token)) = self.ends.take_with(seat) else {
             return Turn::Nothing;
         };
-        let Request::Piece(piece) = request else {
+        let Request::Piece(piece) = taken else {
             self.live[seat] = false;
             return Turn::Ended;
         };
         let (ticket, part, moment) = (piece.ticket, piece.part, piece.moment);
-        let sent = Snapshot::of(&piece);
-        let op = piece.into_op();
         gate.before(self.ends.number(), ticket);
-        let kind = op.kind();
-        let answer = self.shard.run(alloc, op, moment);
-        self.scribe.runs(seat, token, sent, &answer);
-        let reply = Reply::new(ticket, part, kind, answer);
-        self.hand = Some(Hand { seat, reply });
+        let reply = run_piece(alloc, &mut self.shard, &mut self.scribe, seat, token, piece);
+        self.pending = Some(Pending { seat, reply });
         Turn::Ran {
             ticket,
             part,
             moment,
         }
     }
+
+    /// Serves the requests of a seat, while no reply is pending.
+    fn serve_requests<G: Gate>(
+        &mut self,
+        alloc: Global,
+        seat: usize,
+        gate: &G,
+        given: &mut [bool],
+    ) -> Served
+        requires seat { seat < length self.old.ends.channels }
+        requires given { length given.old ≡ length self.old.ends.channels }
+        requires free { self.old.hand ≡ None }
+        ensures goes { Goes self.old self.new }
+        ensures marks { Marks self.old self.new given.old given.new }
+        ensures others { MarksNoOther self.old seat given.old given.new }
+        ensures serves { result ≢ Served.Nothing → ServesSeat self.old seat self.new }
+        ensures rests { result ≡ Served.Nothing → FindsNothing self.old seat self.new }
+        ensures all { result ≡ Served.All → LeavesNothing self.old seat self.new }
+    {
+        let mut served = Served::Nothing;
+        for _ in 0..CHANNEL_REQUESTS {
+            match self.serve_next(alloc, seat, gate) {
+                Next::Nothing => return served,
+                Next::Full => return Served::Part,
+                Next::Sent => given[seat] = true,
+                Next::Ended => {}
+            }
+            served = Served::All;
+        }
+        Served::Part
+    }
+
+    /// Serves the next request of the seat, if there is one.
+    fn serve_next<G: Gate>(&mut self, alloc: Global, seat: usize, gate: &G) -> Next
+        requires seat { seat < length self.old.ends.channels }
+        requires free { self.old.hand ≡ None }
+        ensures goes { Goes self.old self.new }
+        ensures marks { (marks : List Bool) → seat < length marks →
+            Marks self.old self.new marks (marked_after result seat marks) }
+        ensures serves { result ≢ Next.Nothing → ServesSeat self.old seat self.new }
+        ensures nothing { result ≡ Next.Nothing → FindsNothing self.old seat self.new }
+        ensures free { result ≢ Next.Full → self.new.hand ≡ None }
+    {
+        let _ = &self.shard;
+        self.run_next(alloc, seat, gate)
+    }
+
+    /// Takes the next request of the seat, if there is one. A piece is run, and its reply is sent, or
+    /// is pending where the ring is full. Its contract leaves the log out.
+    fn run_next<G: Gate>(&mut self, alloc: Global, seat: usize, gate: &G) -> Next
+        requires seat { seat < length self.old.ends.channels }
+        requires free { self.old.hand ≡ None }
+        ensures { ServesNext self.old seat result self.new }
+    {
+        if !self.live[seat] {
+            return Next::Nothing;
+        }
+        let Some((request, token)) = self.ends.take_with(seat) else {
+            return Next::Nothing;
+        };
+        let Request::Piece(piece) = request else {
+            self.live[seat] = false;
+            return Next::Ended;
+        };
+        gate.before(self.ends.number(), piece.ticket);
+        let reply = run_piece(alloc, &mut self.shard, &mut self.scribe, seat, token, piece);
+        let token = self.scribe.token();
+        match self.ends.give_with(seat, reply, token) {
+            Ok(()) => Next::Sent,
+            Err(reply) => {
+                self.pending = Some(Pending { seat, reply });
+                Next::Full
+            }
+        }
+    }
+}
+
+/// Runs a piece of a seat on the shard, and records it.
+#[inline(never)]
+fn run_piece<T: Token, S: Scribe<T>>(
+    alloc: Global,
+    shard: &mut Shard,
+    scribe: &mut S,
+    seat: usize,
+    token: T,
+    piece: Piece,
+) -> Reply
+    requires may { S.keeps scribe.old → T.may_send (S.route scribe.old seat)
+        (map request.Piece (pieces_in (of_asker seat (S.log scribe.old))))
+        (request.Piece piece) token }
+    requires ran { S.keeps scribe.old →
+        RanOn (S.begin scribe.old) (S.log scribe.old) shard.old }
+    ensures step { Steps shard.old piece.op piece.moment result.answer shard.new }
+    ensures reply { shown result ≡ record {
+      ticket = piece.ticket;
+      part = piece.part;
+      kind = kind_of piece.op;
+      answer = result.answer;
+    } }
+    ensures log { S.keeps scribe.old → S.log scribe.new ≡ S.log scribe.old ++ record {
+      shard = (S.route scribe.old seat).shard;
+      asker = seat;
+      piece = piece;
+      answer = result.answer;
+    } ∷ [] }
+    ensures keeps { S.keeps scribe.new → S.keeps scribe.old }
+    ensures route { S.route scribe.new ≡ S.route scribe.old }
+    ensures begin { S.begin scribe.new ≡ S.begin scribe.old }
+{
+    let (ticket, part, moment) = (piece.ticket, piece.part, piece.moment);
+    let sent = Snapshot::of(&piece);
+    let op = piece.into_op();
+    let kind = op.kind();
+    let answer = shard.run(alloc, op, moment);
+    scribe.runs(seat, token, sent, &answer);
+    Reply::new(ticket, part, kind, answer)
 }

@@ -2,7 +2,7 @@ use Rattle.std.proofs.Common.{refl}
 use Rattle.std.specs.Option.{option_map}
 use Rattle.mc_ring.specs.Reply.{shown}
 use Rattle.mc_store.specs.Shard.{held_of}
-use Rattle.mc_worker.specs.declared.worker.Hand.{Hand}
+use Rattle.mc_worker.specs.declared.worker.Pending.{Pending}
 use Rattle.mc_worker.specs.WorkerState.{WorkerState}
 use Rattle.mc_worker.proofs.Scribing.{marked_still, recorded_kept}
 use Rattle.mc_worker.proofs.Turning.{past_same}
@@ -18,7 +18,7 @@ invariant_of-self g c =
     let old : WorkerState = record {
       shard = held_of c.self.inside.shard;
       ends = c.self.inside.ends;
-      hand = option_map (λ (hand : Hand). (hand.seat, shown hand.reply)) c.self.inside.hand;
+      hand = option_map (λ (pending : Pending). (pending.seat, shown pending.reply)) c.self.inside.pending;
       live = c.self.inside.live.items;
     } in
     let new : WorkerState = record old { ends = c.beside.new.shard } in (

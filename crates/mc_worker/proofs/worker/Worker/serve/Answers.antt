@@ -1,134 +1,130 @@
-use Rattle.std.proofs.Common.{◌≡◌, ◌≢◌, ◌<◌, ℕ, false, refl, sym, ◌∙◌, arith, inl, inr}
-use Rattle.mc_worker.specs.declared.worker.Served.{Served}
-use Rattle.mc_worker.specs.declared.worker.Served.TheVariants as left
+-- Where a reply is pending, a turn tries to send it, and requests are served after it.
+use Rattle.std.proofs.Common.{◌≡◌, ◌≢◌, ◌<◌, ◌∙◌, ℕ, Bool, true, false, Some, None, List, length, slice_set, refl, sym}
+use Rattle.std.proofs.Common.{ap, arith, inl, inr}
+use Rattle.std.specs.Option.{option_map}
+use Rattle.mc_ring.specs.EndsLaws.{get-set_other}
 use Rattle.mc_worker.specs.declared.worker.Turn.{Turn}
-use Rattle.mc_worker.specs.declared.worker.Turn.TheVariants.{Gave, Blocked, Nothing}
-use Rattle.mc_worker.specs.WorkerState.{WorkerState, Goes}
+use Rattle.mc_worker.specs.declared.worker.Turn.TheVariants.{Gave, Blocked, Nothing, Ended, Ran}
+use Rattle.mc_worker.specs.WorkerState.{WorkerState}
 use Rattle.mc_worker.specs.WorkerStateLaws.{goes_refl, goes_trans}
-use Rattle.mc_worker.specs.Serves.{ServesSeat}
-use Rattle.mc_worker.specs.Turns.{Turned}
+use Rattle.mc_worker.specs.Marks.{MarksNoOther}
+use Rattle.mc_worker.specs.Turns.{GivesIt, Turned}
 use Rattle.mc_worker.proofs.Turning.{goes_turn}
-use Rattle.mc_worker.proofs.Marking.{held_turn, is_gave, marks_absurd, marks_gave, marks_held, marks_none, marks_refl}
-use Rattle.mc_worker.proofs.Marking.{marks_trans}
+use Rattle.mc_worker.proofs.Marking.{is_gave, marks_gave, marks_none, marks_trans}
 use Rattle.mc_worker.proofs.worker.Worker.serve.Goals as goal
-use Rattle.mc_worker.proofs.worker.Worker.serve.Goals.{in-Gave+in-Some, in-Gave+in_default, in-Ran}
 
-none_yet : (P : Type 0) → 0 < 0 → P
-none_yet P e = absurd (omega (arith, e))
+-- A turn finds something to do where a reply is pending.
+found_held : (old : WorkerState) (seat : ℕ) (turn : Turn) (new : WorkerState) (holder : ℕ) → Turned old seat turn new
+    → option_map (λ held. held.0) old.hand ≡ Some holder → turn ≢ Nothing
+found_held old seat Gave new holder turned held e = absurd (cc e)
+found_held old seat Blocked new holder turned held e = absurd (cc e)
+found_held old seat Nothing new holder turned held e =
+    absurd (let f : None ≡ Some holder = sym (ap (option_map (λ held. held.0)) turned.free) ∙ held in cc)
+found_held old seat Ended new holder turned held e = absurd (cc e)
+found_held old seat (Ran ticket part moment) new holder turned held e = absurd (cc e)
 
--- what turns did, and one turn more
-served_on : (old mid new : WorkerState) (seat : ℕ) → ServesSeat old seat mid → Goes mid new → ServesSeat old seat new
-served_on old mid new seat served goes =
+not_gave : (turn : Turn) → (turn ≡ Gave → ⊥) → is_gave turn ≡ false
+not_gave Gave other = absurd (other refl)
+not_gave Blocked other = refl
+not_gave Nothing other = refl
+not_gave Ended other = refl
+not_gave (Ran ticket part moment) other = refl
+
+-- The seat that is sent the pending reply is one of those that may be marked.
+others_after : (old mid : WorkerState) (seat holder : ℕ) (before marks : List Bool) → GivesIt old mid
+    → option_map (λ held. held.0) old.hand ≡ Some holder → MarksNoOther mid seat (slice_set before holder true) marks
+    → MarksNoOther old seat before marks
+others_after old mid seat holder before marks gave held others other apart apart_first =
+    others other apart
+    (λ e. absurd (let f : None ≡ Some other =
+    sym (ap (λ (d : WorkerState). option_map (λ held. held.0) d.hand) gave.rest) ∙ e in cc))
+    ∙ get-set_other before holder other true (λ e. apart_first (held ∙ ap (λ (k : ℕ). Some k) (sym e)))
+
+pub returns-in_default-turn : goal.returns-in_default-turn
+returns-in_default-turn g c =
+    let old = c.args.self.now in
+    let new = c.turn.new.self in
+    let held : option_map (λ held. held.0) old.hand ≡ Some c.in-Some.holder =
+    sym c.holder.ensures.held ∙ c.in-Some.is in
     record {
-      turn = served.turn;
-      next = served.next;
-      turned = served.turned;
-      found = served.found;
-      more = goes_trans _ _ _ served.more goes;
+      goes = goes_turn old c.args.seat c.turn.result new c.turn.ensures.keeps c.turn.ensures.grows;
+      marks =
+          marks_none old c.turn.result new c.args.given.now (not_gave c.turn.result c.in_default-turn.not-Gave)
+          c.turn.ensures.gives;
+      others = λ other apart apart_first. refl;
+      serves = λ some. record {
+        turn = c.turn.result;
+        next = new;
+        turned = c.turn.ensures.turned;
+        found = found_held old c.args.seat c.turn.result new c.in-Some.holder c.turn.ensures.turned held;
+        more = goes_refl new;
+      };
+      rests = λ none. absurd (cc none);
+      all = λ all. absurd (cc all);
     }
 
--- A turn finds something to do, after those before it.
-serves_more : (old mid new : WorkerState) (seat : ℕ) (served : Served) (turn : Turn)
-    → (served ≡ left.Nothing → mid ≡ old) → (served ≢ left.Nothing → ServesSeat old seat mid) → Turned mid seat turn new
-    → turn ≢ Nothing → Goes mid new → ServesSeat old seat new
-serves_more old mid new seat left.Nothing turn begins before turned found goes =
-    record { turn = turn; next = new; turned = rw (← begins refl) turned; found = found; more = goes_refl new }
-serves_more old mid new seat left.All turn begins before turned found goes =
-    served_on old mid new seat (before (λ e. absurd (cc e))) goes
-serves_more old mid new seat left.Part turn begins before turned found goes =
-    served_on old mid new seat (before (λ e. absurd (cc e))) goes
+pub returns-in-Nothing : goal.returns-in-Nothing
+returns-in-Nothing g c =
+    let old = c.args.self.now in
+    let mid = c.turn.new.self in
+    let new = c.serve_requests-2.new.self in
+    let first = goes_turn old c.args.seat Gave mid c.in-Gave.ensures.keeps c.in-Gave.ensures.grows in
+    let held : option_map (λ held. held.0) old.hand ≡ Some c.in-Some.holder =
+    sym c.holder.ensures.held ∙ c.in-Some.is in
+    let known : c.in-Some.holder < length c.args.given.now =
+    (let a = c.in-Some.ensures.within in let b = c.requires.given in omega arith) in
+    record {
+      goes = goes_trans old mid new first c.serve_requests-2.ensures.goes;
+      marks =
+          marks_trans old mid new c.args.given.now (slice_set c.args.given.now c.in-Some.holder true)
+          c.serve_requests-2.new.given
+          (marks_gave old mid c.in-Some.holder c.args.given.now c.in-Gave.ensures.gives held known)
+          c.serve_requests-2.ensures.marks;
+      others =
+          others_after old mid c.args.seat c.in-Some.holder c.args.given.now c.serve_requests-2.new.given
+          c.in-Gave.ensures.turned held c.serve_requests-2.ensures.others;
+      serves = λ some. record {
+        turn = Gave;
+        next = mid;
+        turned = c.in-Gave.ensures.turned;
+        found = λ e. absurd (cc e);
+        more = c.serve_requests-2.ensures.goes;
+      };
+      rests = λ none. absurd (cc none);
+      all = λ all. elim c.in-Nothing.is [
+        | inl is ↦ record { last = mid; goes = first; found = c.serve_requests-2.ensures.rests is }
+        | inr is ↦ let left = c.serve_requests-2.ensures.all is in
+            record { last = left.last; goes = goes_trans old mid left.last first left.goes; found = left.found }
+      ];
+    }
 
-pub loop-init : goal.loop-init
-loop-init g c = record {
-  goes = goes_refl c.args.self.now;
-  marks = marks_refl c.args.self.now c.args.given.now;
-  others = λ other apart apart_first. refl;
-  held = λ other is. inr is;
-  begins = λ first. refl;
-  serves = λ some. absurd (some refl);
-  some = none_yet _;
-}
+pub returns-in-Part-clause-goes : goal.returns-in-Part-clause-goes
+returns-in-Part-clause-goes g c =
+    let old = c.args.self.now in
+    let mid = c.turn.new.self in
+    let new = c.serve_requests-2.new.self in
+    let first = goes_turn old c.args.seat Gave mid c.in-Gave.ensures.keeps c.in-Gave.ensures.grows in
+    goes_trans old mid new first c.serve_requests-2.ensures.goes
 
-pub returns-in-Nothing-clause-goes : goal.returns-in-Nothing-clause-goes
-returns-in-Nothing-clause-goes g c =
-    goes_trans _ _ _ c.loop.invariant.goes (goes_turn _ _ _ _ c.turn.ensures.keeps c.turn.ensures.grows)
+pub returns-in-Part-clause-marks : goal.returns-in-Part-clause-marks
+returns-in-Part-clause-marks g c =
+    let old = c.args.self.now in
+    let mid = c.turn.new.self in
+    let new = c.serve_requests-2.new.self in
+    let held : option_map (λ held. held.0) old.hand ≡ Some c.in-Some.holder =
+    sym c.holder.ensures.held ∙ c.in-Some.is in
+    let known : c.in-Some.holder < length c.args.given.now =
+    (let a = c.in-Some.ensures.within in let b = c.requires.given in omega arith) in
+    marks_trans old mid new c.args.given.now (slice_set c.args.given.now c.in-Some.holder true)
+    c.serve_requests-2.new.given
+    (marks_gave old mid c.in-Some.holder c.args.given.now c.in-Gave.ensures.gives held known)
+    c.serve_requests-2.ensures.marks
 
-pub returns-in-Nothing-clause-marks : goal.returns-in-Nothing-clause-marks
-returns-in-Nothing-clause-marks g c =
-    let none : is_gave c.turn.result ≡ false = rw c.in-Nothing.is refl in
-    marks_trans c.args.self.now c.loop.self c.turn.new.self c.args.given.now c.loop.given c.loop.given
-    c.loop.invariant.marks (marks_none c.loop.self c.turn.result c.turn.new.self c.loop.given none c.turn.ensures.gives)
-
-pub returns-in-Nothing-clause-serves : goal.returns-in-Nothing-clause-serves
-returns-in-Nothing-clause-serves g c =
-    λ some. served_on c.args.self.now c.loop.self c.turn.new.self c.args.seat (c.loop.invariant.serves some)
-    (goes_turn _ _ _ _ c.turn.ensures.keeps c.turn.ensures.grows)
-
-pub returns-in-Nothing-clause-rests : goal.returns-in-Nothing-clause-rests
-returns-in-Nothing-clause-rests g c = λ none. rw (← c.loop.invariant.begins none) c.in-Nothing.ensures.turned
-
-pub returns-in-Nothing-clause-all : goal.returns-in-Nothing-clause-all
-returns-in-Nothing-clause-all g c =
-    λ all. record { last = c.loop.self; goes = c.loop.invariant.goes; found = c.in-Nothing.ensures.turned }
-
-pub returns-in-Blocked-clause-serves : goal.returns-in-Blocked-clause-serves
-returns-in-Blocked-clause-serves g c = λ part.
-    serves_more c.args.self.now c.loop.self c.turn.new.self _ _ c.turn.result c.loop.invariant.begins
-    c.loop.invariant.serves c.turn.ensures.turned
-    (λ nothing. absurd (let e : Blocked ≡ Nothing = sym c.in-Blocked.is ∙ nothing in cc))
-    (goes_turn _ _ _ _ c.turn.ensures.keeps c.turn.ensures.grows)
-
-pub returns-in-Blocked-clause-goes : goal.returns-in-Blocked-clause-goes
-returns-in-Blocked-clause-goes g c =
-    goes_trans _ _ _ c.loop.invariant.goes (goes_turn _ _ _ _ c.turn.ensures.keeps c.turn.ensures.grows)
-
-pub returns-in-Blocked-clause-marks : goal.returns-in-Blocked-clause-marks
-returns-in-Blocked-clause-marks g c =
-    let none : is_gave c.turn.result ≡ false = rw c.in-Blocked.is refl in
-    marks_trans c.args.self.now c.loop.self c.turn.new.self c.args.given.now c.loop.given c.loop.given
-    c.loop.invariant.marks (marks_none c.loop.self c.turn.result c.turn.new.self c.loop.given none c.turn.ensures.gives)
-
-pub loop-preserved : goal.loop-preserved
-loop-preserved g c = record {
-  goes = goes_trans _ _ _ c.loop.invariant.goes (goes_turn _ _ _ _ c.turn.ensures.keeps c.turn.ensures.grows);
-  marks = elim c.match-turn.branch [
-    | in-Gave+in-Some w ↦ marks_trans c.args.self.now c.loop.self c.turn.new.self c.args.given.now c.loop.given
-        c.match-turn.given c.loop.invariant.marks
-        (rw w.given-is (marks_gave c.loop.self c.turn.new.self w.in-Some.holder c.loop.given w.in-Gave.ensures.gives
-        (sym c.holder-holder.ensures.held ∙ w.in-Some.is)
-        (let a = w.in-Some.ensures.within in let b = c.loop.auto.given in let d = c.requires.given in
-        let e = c.loop.invariant.goes.ends.count in omega arith)))
-    | in-Gave+in_default w ↦
-        marks_absurd c.loop.self c.turn.new.self _ w.in-Gave.ensures.turned
-        (sym c.holder-holder.ensures.held ∙ w.in_default.is)
-    | in-Ran w ↦ let none : is_gave c.turn.result ≡ false =
-        elim w.in-Ran.is [ inl is ↦ rw is.3 refl | inr is ↦ rw is refl ] in
-        marks_trans c.args.self.now c.loop.self c.turn.new.self c.args.given.now c.loop.given c.match-turn.given
-        c.loop.invariant.marks (rw w.given-is
-        (marks_none c.loop.self c.turn.result c.turn.new.self c.loop.given none c.turn.ensures.gives))
-  ];
-  others = elim c.match-turn.branch [
-    | in-Gave+in-Some w ↦ rw w.given-is
-        (marks_held c.args.self.now c.loop.self c.args.seat w.in-Some.holder c.args.given.now c.loop.given
-        (sym c.holder-holder.ensures.held ∙ w.in-Some.is) c.loop.invariant.held c.loop.invariant.others)
-    | in-Gave+in_default w ↦
-        marks_absurd c.loop.self c.turn.new.self _ w.in-Gave.ensures.turned
-        (sym c.holder-holder.ensures.held ∙ w.in_default.is)
-    | in-Ran w ↦ rw w.given-is c.loop.invariant.others
-  ];
-  held =
-      held_turn c.args.self.now c.loop.self c.turn.new.self c.args.seat c.turn.result c.turn.ensures.turned
-      c.loop.invariant.held;
-  begins = λ e. absurd (cc e);
-  serves =
-      λ some. serves_more c.args.self.now c.loop.self c.turn.new.self _ _ c.turn.result c.loop.invariant.begins
-      c.loop.invariant.serves c.turn.ensures.turned
-      (elim c.match-turn.branch [
-        | in-Gave+in-Some w ↦ λ nothing. absurd (let e : Gave ≡ Nothing = sym w.in-Gave.is ∙ nothing in cc)
-        | in-Gave+in_default w ↦ λ nothing. absurd (let e : Gave ≡ Nothing = sym w.in-Gave.is ∙ nothing in cc)
-        | in-Ran w ↦ λ nothing. elim w.in-Ran.is
-            [ inl is ↦ absurd (let e = sym is.3 ∙ nothing in cc) | inr is ↦ absurd (let e = sym is ∙ nothing in cc) ]
-      ])
-      (goes_turn _ _ _ _ c.turn.ensures.keeps c.turn.ensures.grows);
-  some = λ more e. absurd (cc e);
-}
+pub returns-in-Part-clause-others : goal.returns-in-Part-clause-others
+returns-in-Part-clause-others g c =
+    let old = c.args.self.now in
+    let mid = c.turn.new.self in
+    let held : option_map (λ held. held.0) old.hand ≡ Some c.in-Some.holder =
+    sym c.holder.ensures.held ∙ c.in-Some.is in
+    others_after old mid c.args.seat c.in-Some.holder c.args.given.now c.serve_requests-2.new.given
+    c.in-Gave.ensures.turned held c.serve_requests-2.ensures.others
