@@ -127,13 +127,6 @@ impl WriteBuffer {
         self.front.bytes().split_at(self.sent).1
     }
 
-    /// Whether nothing is behind the front.
-    fn is_last(&self) -> bool
-        ensures { IsTrue result → (self.now.later.items ≡ []) × (self.now.tail.items ≡ []) }
-    {
-        self.later.is_empty() && self.tail.is_empty()
-    }
-
     /// Whether nothing waits before the tail.
     fn at_tail(&self) -> bool
         ensures front { IsTrue result → drop self.now.sent (bytes_of self.now.front) ≡ [] }
@@ -164,8 +157,8 @@ impl WriteBuffer {
     }
 
     /// Offers a beginning of what waits to the line, and returns how many bytes it took, without
-    /// waiting: what is contiguous by a plain write, else the rest of the front and at most three
-    /// pieces after it, in one write. All that waits may be written.
+    /// waiting: the rest of the front and at most three pieces after it, in one write. All that
+    /// waits may be written.
     fn offer<L: Transport>(&self, line: &mut L, seen: &L::Warrant) -> Result<usize, SinkError>
         requires may { L.Warrant.may_write (L.place line.old) (L.sight line.old) (text_in self.now)
             seen.now }
@@ -175,9 +168,6 @@ impl WriteBuffer {
         ensures err { OnErr result (L.sight line.new ≡ broke (L.sight line.old)) }
         ensures place { L.place line.new ≡ L.place line.old }
     {
-        if self.is_last() {
-            return line.write_if_ready(self.rest(), seen);
-        }
         let bufs = [
             IoSlice::new(self.rest()),
             IoSlice::new(self.piece(0)),
@@ -245,6 +235,7 @@ impl WriteBuffer {
 
     /// All is written: frees what the next replies don't need, which is the front and what is
     /// larger than `KEPT_TEXT` or `KEPT_CHUNKS`.
+    #[inline(always)]
     fn free_spare(&mut self)
         requires { IsAllWritten self.old }
         ensures { text_in self.new ≡ [] }
