@@ -40,7 +40,7 @@ pub struct Poller {
     waker: Arc<Waker, Global>,
     spin_policy: SpinPolicy,
     /// Polls without work since work was last found.
-    vain: usize,
+    idle_polls: usize,
     /// Turns with work since the sockets were last polled.
     turns: u32,
     /// Polls of the sockets since reminders were last delivered.
@@ -59,7 +59,7 @@ impl Drop for Poller {
             backend: _backend,
             waker: _waker,
             spin_policy: _spin_policy,
-            vain: _vain,
+            idle_polls: _idle_polls,
             turns: _turns,
             looks: _looks,
             callers: _callers,
@@ -135,7 +135,7 @@ impl Poller {
             backend,
             waker,
             spin_policy,
-            vain: 0,
+            idle_polls: 0,
             turns: 0,
             looks: 0,
             callers,
@@ -221,7 +221,7 @@ impl Poller {
     pub fn found(&mut self)
         ensures same { self.new ≡ self.old }
     {
-        self.rise();
+        self.note_awake();
         self.turns = self.turns.saturating_add(1);
         if self.turns >= TURNS {
             self.look(Some(Duration::ZERO));
@@ -237,33 +237,33 @@ impl Poller {
             self.sleep(rt);
             return;
         }
-        if self.vain < self.spin_policy.looks {
+        if self.idle_polls < self.spin_policy.looks {
             hint::spin_loop();
-        } else if self.vain - self.spin_policy.looks < self.spin_policy.yields {
+        } else if self.idle_polls - self.spin_policy.looks < self.spin_policy.yields {
             thread::yield_now();
         } else {
             self.waker.asleep.store(true, Ordering::SeqCst);
         }
-        self.vain = self.vain.saturating_add(1);
+        self.idle_polls = self.idle_polls.saturating_add(1);
     }
 
     /// Whether the thread has published that it sleeps and is at its last look.
     fn is_last_look(&self) -> bool {
-        let spin_policy = self
+        let polls = self
             .spin_policy
             .looks
             .saturating_add(self.spin_policy.yields);
-        spin_policy < self.vain
+        polls < self.idle_polls
     }
 
-    /// Publishes that the thread is awake.
-    fn rise(&mut self)
+    /// Publishes that the thread is awake, and starts to count idle polls again.
+    fn note_awake(&mut self)
         ensures same { self.new ≡ self.old }
     {
         if self.is_last_look() {
             self.waker.asleep.store(false, Ordering::SeqCst);
         }
-        self.vain = 0;
+        self.idle_polls = 0;
     }
 
     /// Blocks until the thread is woken.
@@ -274,7 +274,7 @@ impl Poller {
             Backend::Memory(parker) => parker.park(rt),
             Backend::Sockets(_) => self.look(self.at_most()),
         }
-        self.rise();
+        self.note_awake();
     }
 
     /// The longest time to block; `None` for no limit.

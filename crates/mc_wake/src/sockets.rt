@@ -72,7 +72,7 @@ impl Sockets {
         for event in self.events.iter() {
             let place = event.token().0;
             if let Some(ready) = self.ready.get_mut(place) {
-                *ready = Some(told(*ready, event));
+                *ready = Some(merged(*ready, event));
                 roused.mark(place);
             }
         }
@@ -85,8 +85,8 @@ impl Sockets {
     }
 }
 
-/// Merges the previous state with a new event; `Closing` is kept.
-fn told(before: Option<Readiness>, event: &Event) -> Readiness {
+/// Merges the previous readiness with a new event. `Closing` is kept.
+fn merged(before: Option<Readiness>, event: &Event) -> Readiness {
     let closing = event.is_read_closed() || event.is_error() || event.is_priority();
     if closing || before == Some(Readiness::Closing) {
         Readiness::Closing

@@ -37,12 +37,12 @@ impl<T: Task> Promise<Option<T>> for Done<T> {
     ghost kept_by = { λ promise result. IfSome result (λ done. T.does promise.0.value done) };
 }
 
-/// Waits for the start signal, and runs the task if the signal is `Begin`.
-pub(crate) fn begin<T: Task, R: Wait>(rt: &R, word: Receiver<StartSignal>, task: T) -> Option<T>
+/// Waits for the start signal. Runs the task if it is `Begin`; otherwise returns `None`.
+pub(crate) fn begin<T: Task, R: Wait>(rt: &R, signal: Receiver<StartSignal>, task: T) -> Option<T>
     requires { T.is_ready task }
     ensures { IfSome result (λ done. T.does task done) }
 {
-    match word.recv(rt) {
+    match signal.recv(rt) {
         Ok(StartSignal::Begin) => Some(task.work(rt)),
         _ => None,
     }

@@ -37,7 +37,7 @@ impl From<AllocError> for ThreadGroupError {
 /// list of tasks. A group must be started and joined, or dismissed.
 #[derive(Drop)]
 pub struct ThreadGroup<T: Task> {
-    words: Vec<Sender<StartSignal>>,
+    signals: Vec<Sender<StartSignal>>,
     handles: Vec<PromisedHandle<Option<T>, Done<T>>>,
     /// Space for the results, reserved in advance so that joining can't fail for want of memory.
     room: Vec<T>,
@@ -59,7 +59,7 @@ impl<T: Task + Send + 'static> ThreadGroup<T> {
         ensures { IfOk result (λ thread_group. thread_group ≡ []) }
     {
         Ok(ThreadGroup {
-            words: Vec::with_capacity(alloc, count)?,
+            signals: Vec::with_capacity(alloc, count)?,
             handles: Vec::with_capacity(alloc, count)?,
             room: Vec::with_capacity(alloc, count)?,
         })
@@ -94,16 +94,16 @@ impl<T: Task + Send + 'static> ThreadGroup<T> {
         ensures ok { OnOk result (self.new ≡ self.old ++ task ∷ []) }
         ensures err { OnErr result (self.new ≡ self.old) }
     {
-        let (say, hear) = bounded(alloc, 1)?;
+        let (sender, receiver) = bounded(alloc, 1)?;
         // Reserved first: a thread whose handle can't be stored would never be joined.
-        self.words.reserve(1)?;
+        self.signals.reserve(1)?;
         self.handles.reserve(1)?;
         let own = *rt;
         let promise = Done(Snapshot::of(&task));
-        let Ok(handle) = builder.spawn_with(rt, promise, move || begin(&own, hear, task)) else {
+        let Ok(handle) = builder.spawn_with(rt, promise, move || begin(&own, receiver, task)) else {
             return Err(ThreadGroupError::Thread);
         };
-        let (Ok(()), Ok(())) = (self.words.push(say), self.handles.push(handle)) else {
+        let (Ok(()), Ok(())) = (self.signals.push(sender), self.handles.push(handle)) else {
             return Err(ThreadGroupError::Memory);
         };
         Ok(())
@@ -113,8 +113,8 @@ impl<T: Task + Send + 'static> ThreadGroup<T> {
     pub fn begin<R: Wait>(&mut self, rt: &R)
         ensures { self.new ≡ self.old }
     {
-        for word in &self.words {
-            let _ = word.send(rt, StartSignal::Begin);
+        for signal in &self.signals {
+            let _ = signal.send(rt, StartSignal::Begin);
         }
     }
 
@@ -125,7 +125,7 @@ impl<T: Task + Send + 'static> ThreadGroup<T> {
         ensures { IfOk result (λ tasks. Zips T.does self tasks.items) }
     {
         let ThreadGroup {
-            words: _,
+            signals: _,
             handles,
             room,
         } = self;
@@ -148,12 +148,12 @@ impl<T: Task + Send + 'static> ThreadGroup<T> {
     /// Signals all threads to end without starting their tasks, and joins them.
     pub fn dismiss<R: Threads + Wait>(self, rt: &R) {
         let ThreadGroup {
-            words,
+            signals,
             handles,
             room: _,
         } = self;
-        for word in words {
-            let _ = word.send(rt, StartSignal::Leave);
+        for signal in signals {
+            let _ = signal.send(rt, StartSignal::Leave);
         }
         for handle in handles {
             handle.join(rt);

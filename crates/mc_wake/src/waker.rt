@@ -114,6 +114,7 @@ impl Waker {
     }
 
     /// Wakes the thread from its parker or poll.
+    /// Wakes the thread from its parker or poll.
     fn ring(&self) {
         match &self.notifier {
             Notifier::Memory(unparker) => unparker.unpark(),
