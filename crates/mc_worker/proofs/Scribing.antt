@@ -119,7 +119,7 @@ on_channel-is read channels seat end here = rw here refl
 in_hand-own : (seat : ℕ) (reply : Shown) → in_hand seat (Some (seat, reply)) ≡ reply ∷ []
 in_hand-own seat reply = rw (self_equal seat) refl
 
--- The reply in the hand is the next of its seat in the record.
+-- The pending reply is the next of its seat in the record.
 pub held_next : (begin : State) (worker_state : WorkerState) (log : List Entry) (seat : ℕ) (reply : Shown) (end : Far)
     → HasRun begin worker_state log → worker_state.hand ≡ Some (seat, reply)
     → slice_get worker_state.ends.channels seat ≡ Some end
@@ -141,14 +141,14 @@ live_received begin worker_state log seat end ran live here =
     ∙ append-nil (map request.Piece (pieces_in (of_asker seat log)))))
 
 module _ (old new : WorkerState) (same : AreSameEnds old.ends new.ends) (sound : IsWellMarked old) where
-  -- marks of which none has changed, and a hand that holds what it held
+  -- marks of which none has changed, and the same pending reply
   pub marked_still : new.live ≡ old.live → new.hand ≡ old.hand → IsWellMarked new
   marked_still live hand = record {
     marked = ap length live ∙ (sound.marked ∙ sym same.count);
     holder = λ seat reply held. ap (λ marks. slice_get marks seat) live ∙ sound.holder seat reply (sym hand ∙ held);
   }
 
-  -- an empty hand
+  -- no pending reply
   marked_free : length new.live ≡ length old.live → new.hand ≡ None → IsWellMarked new
   marked_free live hand = record {
     marked = live ∙ (sound.marked ∙ sym same.count);

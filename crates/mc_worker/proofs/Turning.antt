@@ -158,7 +158,7 @@ gave_none old new gave begin log had =
       each = all_here old new log same had.each;
     }
 
--- Where the lists of every channel, what the shard holds and the hand are the same, the log is.
+-- Where the lists of every channel, what the shard holds and the pending reply are the same, the log is.
 unchanged : (old new : WorkerState) → AreSameEnds old.ends new.ends
     → ((k : ℕ) → sent_on new.ends k ≡ sent_on old.ends k) → ((k : ℕ) → received_on new.ends k ≡ received_on old.ends k)
     → new ≡ record old { ends = new.ends } → RunsNoMore old new

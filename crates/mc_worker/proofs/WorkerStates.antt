@@ -1,4 +1,4 @@
--- A worker at its beginning and at its end, and the reply in its hand.
+-- A worker at its beginning and at its end, and its pending reply.
 use Rattle.std.proofs.Common.{◌≡◌, ℕ, zero, suc, ◌<◌, ◌≤◌, Bool, true, false, not, Option, Some, None, Err, List, []}
 use Rattle.std.proofs.Common.{◌∷◌, length, refl, sym, ◌∙◌, arith, IsTrue, replicate, inl, inr}
 use Rattle.std.proofs.lemmas.Bool.{cases_lt}
@@ -37,7 +37,7 @@ not_live [] seat ended here = cc
 not_live (mark ∷ live) zero ended here = let e = ended.0 in cc
 not_live (mark ∷ live) (suc seat) ended here = not_live live seat ended.1 here
 
--- Where all have ended the hand is empty.
+-- Where all have ended, no reply is pending.
 pub none_held : (hand : Option (ℕ × Shown)) (live : List Bool)
     → ((seat : ℕ) (reply : Shown) → hand ≡ Some (seat, reply) → slice_get live seat ≡ Some true)
     → AllByRecursion (λ mark. mark ≡ false) live → hand ≡ None
@@ -63,7 +63,7 @@ unused_lists read [] seat none all = refl
 unused_lists read (far ∷ channels) zero none all = none far all.0
 unused_lists read (far ∷ channels) (suc seat) none all = unused_lists read channels seat none all.1
 
--- A worker has run nothing, where its hand is empty, its channels are unused and their Ends are still to come.
+-- A worker has run nothing, where no reply is pending, its channels are unused and their Ends are still to come.
 pub new_has_run : (worker_state : WorkerState) (begin : State) → worker_state.hand ≡ None
     → AllByRecursion IsUnused worker_state.ends.channels → AllByRecursion (λ mark. mark ≡ true) worker_state.live
     → Keeps worker_state.shard begin → HasRun begin worker_state []
@@ -106,7 +106,7 @@ full_channel reply back seat old new channel = record {
   };
 }
 
--- The seat of the reply in the hand is there.
+-- The seat of the pending reply is there.
 pub held_within : (worker_state : WorkerState) (seat : ℕ) (reply : Shown) → IsWellMarked worker_state
     → worker_state.hand ≡ Some (seat, reply) → seat < length worker_state.ends.channels
 held_within worker_state seat reply sound held =

@@ -10,8 +10,8 @@ Marks old new before after = (seat : ℕ) →
     ((sent_on new.ends seat ≡ sent_on old.ends seat) × (slice_get after seat ≡ slice_get before seat))
     ⊎ ((length (sent_on old.ends seat) < length (sent_on new.ends seat)) × (slice_get after seat ≡ Some true))
 
--- The marks of all other seats are as before: those but of the seat that was served, and of the one whose reply was in
--- the hand.
+-- The marks of all other seats are as before: those but of the seat that was served, and of the one whose reply was
+-- pending.
 abbrev pub MarksNoOther : WorkerState → ℕ → List Bool → List Bool → Type 0
 MarksNoOther old seat before after =
     (other : ℕ) → other ≢ seat → option_map (λ held. held.0) old.hand ≢ Some other → slice_get after other

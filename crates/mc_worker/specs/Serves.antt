@@ -13,7 +13,7 @@ pub record ServesSeat (old : WorkerState) (seat : ℕ) (new : WorkerState) : Typ
   pub found : turn ≢ Nothing
   pub more : Goes next new
 
--- Turns were made, and the last one found nothing: neither on the seat's channel nor in the hand.
+-- Turns were made, and the last one found nothing: no request on the seat's channel, and no pending reply.
 pub record LeavesNothing (old : WorkerState) (seat : ℕ) (new : WorkerState) : Type 0 where
   pub last : WorkerState
   pub goes : Goes old last

@@ -15,7 +15,7 @@ use Rattle.mc_worker.specs.declared.worker.Turn.TheVariants.{Gave, Blocked, Noth
 use Rattle.mc_model.specs.Log.{Entry, reply_to}
 use Rattle.mc_worker.specs.WorkerState.{WorkerState, RunsMore, RunsNoMore, in_hand}
 
--- The reply in the hand went out on its channel.
+-- The pending reply was sent on its channel.
 pub record GivesIt (old new : WorkerState) : Type 0 where
   pub seat : ℕ
   pub reply : Reply
@@ -30,7 +30,7 @@ pub record IsFull (old new : Far) : Type 0 where
   pub unknown : old.free ≡ 0
   pub sent : old.past.channel.capacity ≤ length old.past.sent
 
--- The reply stays in the hand.
+-- The reply stays pending.
 pub record KeepsIt (old new : WorkerState) : Type 0 where
   pub seat : ℕ
   pub reply : Shown
@@ -52,7 +52,7 @@ pub record TakesEnd (old : WorkerState) (seat : ℕ) (new : WorkerState) : Type 
   pub channel : AtChannel (Receives (λ request. request) (Some request.End)) seat old.ends new.ends
   pub rest : new ≡ record old { ends = new.ends; live = slice_set old.live seat false }
 
--- A piece of the seat was taken and run, by the protocol's step, and the reply is in the hand.
+-- A piece of the seat was taken and run, by the protocol's step, and its reply is pending.
 pub record RunsPiece (old : WorkerState) (seat : ℕ) (ticket : Ticket) (part moment : ℕ) (new : WorkerState) : Type 0
   where
     pub entry : Entry
@@ -75,7 +75,7 @@ Turned old seat Nothing new = FindsNothing old seat new
 Turned old seat Ended new = TakesEnd old seat new
 Turned old seat (Ran ticket part moment) new = RunsPiece old seat ticket part moment new
 
--- what a turn sends to a seat: the reply that was in the hand, where it went out and is for this seat
+-- what a turn sends to a seat: the reply that was pending, where it was sent and is for this seat
 abbrev pub given_by : Turn → ℕ → Option (ℕ × Shown) → List Shown
 given_by Gave seat hand = in_hand seat hand
 given_by Blocked seat hand = []

@@ -21,13 +21,13 @@ pub record WorkerState : Type 0 where
   -- of each channel, whether its End is still to come
   pub live : List Bool
 
--- There is a mark for each channel, and a reply in the hand is for a seat whose End is still to come.
+-- There is a mark for each channel, and a pending reply is for a seat whose End is still to come.
 pub record IsWellMarked (worker_state : WorkerState) : Type 0 where
   pub marked : length worker_state.live ≡ length worker_state.ends.channels
   pub holder : (seat : ℕ) (reply : Shown) → worker_state.hand ≡ Some (seat, reply)
       → slice_get worker_state.live seat ≡ Some true
 
--- the reply in the hand, where it is for this seat
+-- the pending reply, where it is for this seat
 abbrev pub in_hand : ℕ → Option (ℕ × Shown) → List Shown
 in_hand seat None = []
 in_hand seat (Some held) = if held.0 == seat then held.1 ∷ [] else []
@@ -39,8 +39,8 @@ end_come (Some true) = []
 end_come (Some false) = request.End ∷ []
 
 -- The log is what the worker ran, from a state on: one run of the protocol's step, which leads to what the shard holds;
--- what it took of each seat are that seat's pieces in the log, then perhaps End; what it gave to the seat, then what is
--- in its hand, are the replies to these pieces.
+-- what it took of each seat are that seat's pieces in the log, then perhaps End; what it sent to the seat, then the
+-- pending reply, are the replies to these pieces.
 pub record HasRun (begin : State) (worker_state : WorkerState) (log : List Entry) : Type 0 where
   pub state : State
   pub ran : Run begin log state
