@@ -180,7 +180,6 @@ impl<T: Warrant + Drop, C: Clerk<T> + Drop> ShardLink<T, C> {
     }
 
     /// Sends the next piece, as `send_next` does.
-    #[inline(never)]
     fn send_piece(&mut self, conn: &mut Conn) -> bool
         requires { CanCarry self.old conn.old }
         ensures goes { ShardLinkGoesOn (AllOutWhere ((result ≡ false) × (self.new.blocked ≡ false)))
