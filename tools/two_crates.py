@@ -21,7 +21,7 @@ from sources import LIST, PARTS, TOP, below, files, libraries, text_of
 # The crates that are written into the library. All others are written into the program.
 LOWER = "mcd_lower"
 OF_LOWER = """
-    mc_wake mc_watch mc_wire mc_command mc_sizes mc_plain mc_reader mc_item mc_store mc_reply mc_split mc_ring mc_join mc_conn
+    mc_poll mc_telemetry mc_wire mc_command mc_sizes mc_fast mc_reader mc_item mc_store mc_reply mc_split mc_ring mc_join mc_conn
     mc_model mc_worker
 """.split()
 
@@ -38,7 +38,7 @@ UNUSED = re.compile(
       \w+/proofs/(\w*Rows\w*|Corners) | mc_model/proofs/Crossing
     | mc_store/(src/shard/running | proofs/shard/Shard/run_all)
     | mc_serve/(src/over | specs/Over | proofs/(over|One))
-    | mc_doors/(src/single_source | specs/One | proofs/(single_source|Sent))
+    | mc_net/(src/single_source | specs/One | proofs/(single_source|Sent))
     )\b""",
     re.X,
 )

@@ -18,24 +18,24 @@ use Rattle.mc_join.specs.Joined.{IsReorderBuffer}
 use Rattle.mc_join.specs.Replies.{replies}
 use Rattle.mc_join.proofs.Joins.{opened_length, slice_get-drop}
 use Rattle.mc_conn.specs.declared.conn.Conn.{Conn}
-use Rattle.mc_conn.specs.internal.Inside.{HasBeenTold, put_first}
+use Rattle.mc_conn.specs.internal.Inside.{HasFlow, put_first}
 use Rattle.mc_join.specs.Expects.{Expects}
-use Rattle.mc_conn.specs.Told.{Told, IsAllTaken, IsAtRest, IsOver, IsShut, EndsAmidSkipped, LeavesUnread}
-use Rattle.mc_conn.specs.Told.{all_pending_replies, all_pieces, all_texts}
+use Rattle.mc_conn.specs.Flow.{Flow, IsAllTaken, IsAtRest, IsOver, IsShut, EndsAmidSkipped, LeavesUnread}
+use Rattle.mc_conn.specs.Flow.{all_pending_replies, all_pieces, all_texts}
 use Rattle.mc_conn.proofs.PendingReplies.{length-pending_replies}
 
 -- A call took no command and handed out nothing: what it made of the reader, of the answers and of the pieces is all
 -- that is new.
-pub stays_told : (old new : Conn) (told : Told) (out : ℕ) (lent : Bool) (accepted : List Shown)
-    (h : HasBeenTold old told) → new.dispatcher.planner.shards ≡ old.dispatcher.planner.shards → new.dispatcher.log
+pub stays_flow : (old new : Conn) (flow : Flow) (out : ℕ) (lent : Bool) (accepted : List Shown)
+    (h : HasFlow old flow) → new.dispatcher.planner.shards ≡ old.dispatcher.planner.shards → new.dispatcher.log
     ≡ old.dispatcher.log → new.broken ≡ old.broken →
-    IsReader new.reader told.rules told.fed told.ended h.given → new.dispatcher.reorder_buffer.window
+    IsReader new.reader flow.rules flow.fed flow.ended h.given → new.dispatcher.reorder_buffer.window
     ≡ old.dispatcher.reorder_buffer.window → new.dispatcher.reorder_buffer.gone ≡ old.dispatcher.reorder_buffer.gone
-    → IsReorderBuffer new.dispatcher.reorder_buffer (all_pending_replies told) accepted h.texts →
-    out ≤ length (all_pieces told) → put_first new.put_back new.dispatcher.unsent.items ≡ drop out (all_pieces told)
+    → IsReorderBuffer new.dispatcher.reorder_buffer (all_pending_replies flow) accepted h.texts →
+    out ≤ length (all_pieces flow) → put_first new.put_back new.dispatcher.unsent.items ≡ drop out (all_pieces flow)
     → (IsTrue lent → (new.put_back ≡ None) × (0 < out)) →
-    HasBeenTold new (record told { out = out; lent = lent; accepted = accepted })
-stays_told old new told out lent accepted h shards log broken read window gone joined within unsent lent_is = record {
+    HasFlow new (record flow { out = out; lent = lent; accepted = accepted })
+stays_flow old new flow out lent accepted h shards log broken read window gone joined within unsent lent_is = record {
   given = h.given;
   texts = h.texts;
   shards = shards ∙ h.shards;
@@ -55,16 +55,16 @@ stays_told old new told out lent accepted h shards log broken read window gone j
 }
 
 -- And the reorder buffer is the same.
-pub reorder_buffer_stays : (old new : Conn) (told : Told) (out : ℕ) (lent : Bool) (h : HasBeenTold old told)
+pub reorder_buffer_stays : (old new : Conn) (flow : Flow) (out : ℕ) (lent : Bool) (h : HasFlow old flow)
     → new.dispatcher.planner.shards ≡ old.dispatcher.planner.shards → new.dispatcher.log ≡ old.dispatcher.log
     → new.broken ≡ old.broken →
-    IsReader new.reader told.rules told.fed told.ended h.given → new.dispatcher.reorder_buffer
+    IsReader new.reader flow.rules flow.fed flow.ended h.given → new.dispatcher.reorder_buffer
     ≡ old.dispatcher.reorder_buffer →
-    out ≤ length (all_pieces told) → put_first new.put_back new.dispatcher.unsent.items ≡ drop out (all_pieces told)
+    out ≤ length (all_pieces flow) → put_first new.put_back new.dispatcher.unsent.items ≡ drop out (all_pieces flow)
     → (IsTrue lent → (new.put_back ≡ None) × (0 < out)) →
-    HasBeenTold new (record told { out = out; lent = lent })
-reorder_buffer_stays old new told out lent h shards log broken read reorder_buffer =
-    stays_told old new told out lent told.accepted h shards log broken read
+    HasFlow new (record flow { out = out; lent = lent })
+reorder_buffer_stays old new flow out lent h shards log broken read reorder_buffer =
+    stays_flow old new flow out lent flow.accepted h shards log broken read
     (ap (λ (held : Held). held.window) reorder_buffer) (ap (λ (held : Held). held.gone) reorder_buffer)
     (rw reorder_buffer h.joined)
 
@@ -79,13 +79,13 @@ pub accepts : {A B : Type 0} (result : Result A B) (old new : Conn) (reply : Sho
     OnOk result ((opened : List PendingReply) (accepted : List Shown) (handed : List (List ℕ))
     → IsReorderBuffer old.dispatcher.reorder_buffer opened accepted handed
     → IsReorderBuffer new.dispatcher.reorder_buffer opened (accepted ++ reply ∷ []) handed) →
-    OnOk result ((told : Told) → HasBeenTold old told → Expects (all_pending_replies told) told.accepted reply
-    × HasBeenTold new (record told { accepted = told.accepted ++ reply ∷ [] }))
-accepts (Ok done) old new reply reader unsent put_back shards log broken expected takes joins = λ told h. (
-  expected (all_pending_replies told) told.accepted h.texts h.joined,
-  stays_told old new told told.out told.lent (told.accepted ++ reply ∷ []) h shards log broken (rw reader h.read)
+    OnOk result ((flow : Flow) → HasFlow old flow → Expects (all_pending_replies flow) flow.accepted reply
+    × HasFlow new (record flow { accepted = flow.accepted ++ reply ∷ [] }))
+accepts (Ok done) old new reply reader unsent put_back shards log broken expected takes joins = λ flow h. (
+  expected (all_pending_replies flow) flow.accepted h.texts h.joined,
+  stays_flow old new flow flow.out flow.lent (flow.accepted ++ reply ∷ []) h shards log broken (rw reader h.read)
       (ap (λ (held : Held). held.window) takes.after) (ap (λ (held : Held). held.gone) takes.after)
-      (joins (all_pending_replies told) told.accepted h.texts h.joined) h.within (rw (put_back, unsent) h.unsent)
+      (joins (all_pending_replies flow) flow.accepted h.texts h.joined) h.within (rw (put_back, unsent) h.unsent)
       (rw put_back h.lent),
 )
 accepts (Err fault) old new reply reader unsent put_back shards log broken expected takes joins = tt
@@ -98,12 +98,12 @@ pub refuses : {A B : Type 0} (result : Result A B) (old new : Conn) (reply : Sho
     OnErr result ((opened : List PendingReply) (accepted : List Shown) (handed : List (List ℕ))
     → IsReorderBuffer old.dispatcher.reorder_buffer opened accepted handed → ¬ Expects opened accepted reply)
     → OnErr result (new.dispatcher.reorder_buffer ≡ old.dispatcher.reorder_buffer) →
-    OnErr result ((told : Told) → HasBeenTold old told → (¬ Expects (all_pending_replies told) told.accepted reply)
-    × HasBeenTold new told)
+    OnErr result ((flow : Flow) → HasFlow old flow → (¬ Expects (all_pending_replies flow) flow.accepted reply)
+    × HasFlow new flow)
 refuses (Ok done) old new reply reader unsent put_back shards log broken unexpected same = tt
-refuses (Err fault) old new reply reader unsent put_back shards log broken unexpected same = λ told h. (
-  unexpected (all_pending_replies told) told.accepted h.texts h.joined,
-  reorder_buffer_stays old new told told.out told.lent h shards log broken (rw reader h.read) same h.within
+refuses (Err fault) old new reply reader unsent put_back shards log broken unexpected same = λ flow h. (
+  unexpected (all_pending_replies flow) flow.accepted h.texts h.joined,
+  reorder_buffer_stays old new flow flow.out flow.lent h shards log broken (rw reader h.read) same h.within
       (rw (put_back, unsent) h.unsent) (rw put_back h.lent),
 )
 
@@ -127,13 +127,13 @@ pub gives : (old new : Conn) (piece : ℕ × Piece) →
     → new.dispatcher.planner.shards ≡ old.dispatcher.planner.shards → new.dispatcher.log ≡ old.dispatcher.log
     → new.broken ≡ old.broken → new.put_back ≡ None →
     put_first old.put_back old.dispatcher.unsent.items ≡ piece ∷ new.dispatcher.unsent.items →
-    (told : Told) → HasBeenTold old told → (slice_get (all_pieces told) told.out ≡ Some piece)
-    × HasBeenTold new (record told { out = told.out + 1; lent = true })
-gives old new piece reader reorder_buffer shards log broken none left told h =
-    let at = get_drop told.out (all_pieces told) piece new.dispatcher.unsent.items (sym h.unsent ∙ left) in
-    let below = slice_get_within (all_pieces told) told.out piece at.0 in (
+    (flow : Flow) → HasFlow old flow → (slice_get (all_pieces flow) flow.out ≡ Some piece)
+    × HasFlow new (record flow { out = flow.out + 1; lent = true })
+gives old new piece reader reorder_buffer shards log broken none left flow h =
+    let at = get_drop flow.out (all_pieces flow) piece new.dispatcher.unsent.items (sym h.unsent ∙ left) in
+    let below = slice_get_within (all_pieces flow) flow.out piece at.0 in (
       at.0,
-      reorder_buffer_stays old new told (told.out + 1) true h shards log broken (rw reader h.read) reorder_buffer
+      reorder_buffer_stays old new flow (flow.out + 1) true h shards log broken (rw reader h.read) reorder_buffer
           (omega (arith, below)) (rw none at.1) (λ _. (none, omega arith)),
     )
 
@@ -143,8 +143,8 @@ pub gives_front : (result : Option (ℕ × Piece)) (old new : Conn) →
     → new.dispatcher.planner.shards ≡ old.dispatcher.planner.shards → new.dispatcher.log ≡ old.dispatcher.log →
     new.broken ≡ old.broken → new.put_back ≡ None → old.put_back ≡ None →
     IfSome result (λ piece. old.dispatcher.unsent.items ≡ piece ∷ new.dispatcher.unsent.items) →
-    IfSome result (λ piece. (told : Told) → HasBeenTold old told → (slice_get (all_pieces told) told.out ≡ Some piece)
-    × HasBeenTold new (record told { out = told.out + 1; lent = true }))
+    IfSome result (λ piece. (flow : Flow) → HasFlow old flow → (slice_get (all_pieces flow) flow.out ≡ Some piece)
+    × HasFlow new (record flow { out = flow.out + 1; lent = true }))
 gives_front None old new reader reorder_buffer shards log broken none before left = tt
 gives_front (Some piece) old new reader reorder_buffer shards log broken none before left =
     gives old new piece reader reorder_buffer shards log broken none (rw before left)
@@ -155,8 +155,8 @@ pub gives_back : (result : Option (ℕ × Piece)) (old new : Conn) →
     → new.dispatcher.planner.shards ≡ old.dispatcher.planner.shards → new.dispatcher.log ≡ old.dispatcher.log
     → new.broken ≡ old.broken → new.put_back ≡ None → result ≡ old.put_back → new.dispatcher.unsent
     ≡ old.dispatcher.unsent →
-    IfSome result (λ piece. (told : Told) → HasBeenTold old told → (slice_get (all_pieces told) told.out ≡ Some piece)
-    × HasBeenTold new (record told { out = told.out + 1; lent = true }))
+    IfSome result (λ piece. (flow : Flow) → HasFlow old flow → (slice_get (all_pieces flow) flow.out ≡ Some piece)
+    × HasFlow new (record flow { out = flow.out + 1; lent = true }))
 gives_back None old new reader reorder_buffer shards log broken none taken unsent = tt
 gives_back (Some piece) old new reader reorder_buffer shards log broken none taken unsent =
     gives old new piece reader reorder_buffer shards log broken none (rw (← taken, unsent) refl)
@@ -171,37 +171,37 @@ pub takes_back : (old new : Conn) (piece : ℕ × Piece) →
     new.reader ≡ old.reader → new.dispatcher.reorder_buffer ≡ old.dispatcher.reorder_buffer
     → new.dispatcher.planner.shards ≡ old.dispatcher.planner.shards → new.dispatcher.log ≡ old.dispatcher.log
     → new.broken ≡ old.broken → new.put_back ≡ Some piece → new.dispatcher.unsent ≡ old.dispatcher.unsent →
-    (told : Told) (before : ℕ) → HasBeenTold old told → IsTrue told.lent → told.out ≡ before + 1
-    → slice_get (all_pieces told) before ≡ Some piece →
-    HasBeenTold new (record told { out = before; lent = false })
-takes_back old new piece reader reorder_buffer shards log broken back unsent told before h lent out here =
+    (flow : Flow) (before : ℕ) → HasFlow old flow → IsTrue flow.lent → flow.out ≡ before + 1
+    → slice_get (all_pieces flow) before ≡ Some piece →
+    HasFlow new (record flow { out = before; lent = false })
+takes_back old new piece reader reorder_buffer shards log broken back unsent flow before h lent out here =
     let within = h.within in
     let none = (h.lent lent).0 in
-    let items : old.dispatcher.unsent.items ≡ drop told.out (all_pieces told) = rw none at h.unsent in
-    reorder_buffer_stays old new told before false h shards log broken (rw reader h.read) reorder_buffer
+    let items : old.dispatcher.unsent.items ≡ drop flow.out (all_pieces flow) = rw none at h.unsent in
+    reorder_buffer_stays old new flow before false h shards log broken (rw reader h.read) reorder_buffer
     (omega (arith, within, out))
-    (rw (back, unsent) (ap (λ rest. piece ∷ rest) (items ∙ ap (λ n. drop n (all_pieces told)) out)
-    ∙ sym (drop_at before (all_pieces told) piece here)))
+    (rw (back, unsent) (ap (λ rest. piece ∷ rest) (items ∙ ap (λ n. drop n (all_pieces flow)) out)
+    ∙ sym (drop_at before (all_pieces flow) piece here)))
     (λ yes. absurd (false≢true yes))
 
 -- how many tickets are open
-pub waiting_is : (conn : Conn) (told : Told) → HasBeenTold conn told
-    → told.handed + length conn.dispatcher.reorder_buffer.pending_replies ≡ length told.taken
-waiting_is conn told h =
-    let opened = opened_length conn.dispatcher.reorder_buffer (all_pending_replies told) told.accepted h.texts h.joined
+pub waiting_is : (conn : Conn) (flow : Flow) → HasFlow conn flow
+    → flow.handed + length conn.dispatcher.reorder_buffer.pending_replies ≡ length flow.taken
+waiting_is conn flow h =
+    let opened = opened_length conn.dispatcher.reorder_buffer (all_pending_replies flow) flow.accepted h.texts h.joined
     in
-    let long = length-pending_replies told.shards 0 told.taken in
+    let long = length-pending_replies flow.shards 0 flow.taken in
     let count = h.joined.count in
     let handed = h.handed in
     omega (arith, opened, long, count, handed)
 
 -- no piece is left
-nothing_left : (conn : Conn) (told : Told) → HasBeenTold conn told → conn.put_back ≡ None
-    → length conn.dispatcher.unsent.items ≡ 0 → told.out ≡ length (all_pieces told)
-nothing_left conn told h none empty =
-    let items : conn.dispatcher.unsent.items ≡ drop told.out (all_pieces told) = rw none at h.unsent in
+nothing_left : (conn : Conn) (flow : Flow) → HasFlow conn flow → conn.put_back ≡ None
+    → length conn.dispatcher.unsent.items ≡ 0 → flow.out ≡ length (all_pieces flow)
+nothing_left conn flow h none empty =
+    let items : conn.dispatcher.unsent.items ≡ drop flow.out (all_pieces flow) = rw none at h.unsent in
     let within = h.within in
-    omega (arith, within, empty, ap length items, length-drop told.out (all_pieces told))
+    omega (arith, within, empty, ap length items, length-drop flow.out (all_pieces flow))
 
 -- None is left.
 pub gives_none : (result : Option (ℕ × Piece)) (old new : Conn) →
@@ -209,12 +209,12 @@ pub gives_none : (result : Option (ℕ × Piece)) (old new : Conn) →
     → new.dispatcher.planner.shards ≡ old.dispatcher.planner.shards → new.dispatcher.log ≡ old.dispatcher.log →
     new.broken ≡ old.broken → new.put_back ≡ old.put_back → old.put_back ≡ None
     → IfNone result (old.dispatcher.unsent.items ≡ []) → IfNone result (new.dispatcher.unsent.items ≡ []) →
-    IfNone result ((told : Told) → HasBeenTold old told → (told.out ≡ length (all_pieces told)) × HasBeenTold new told)
+    IfNone result ((flow : Flow) → HasFlow old flow → (flow.out ≡ length (all_pieces flow)) × HasFlow new flow)
 gives_none (Some piece) old new reader reorder_buffer shards log broken back none before left = tt
-gives_none None old new reader reorder_buffer shards log broken back none before left = λ told h.
+gives_none None old new reader reorder_buffer shards log broken back none before left = λ flow h.
     let same : new.dispatcher.unsent.items ≡ old.dispatcher.unsent.items = left ∙ sym before in (
-      nothing_left old told h none (ap length before),
-      reorder_buffer_stays old new told told.out told.lent h shards log broken (rw reader h.read) reorder_buffer
+      nothing_left old flow h none (ap length before),
+      reorder_buffer_stays old new flow flow.out flow.lent h shards log broken (rw reader h.read) reorder_buffer
           h.within (rw (back, same) h.unsent) (rw back h.lent),
     )
 
@@ -222,42 +222,42 @@ same_number : (a b : ℕ) → IsTrue (a == b) ↔ (a ≡ b)
 same_number a b = (λ e. grind (arith, nat_tests), λ e. grind (arith, nat_tests))
 
 -- when a broken connection is at rest
-pub rest_broken : (conn : Conn) (told : Told) (passes waiting : ℕ) → told.out ≡ length (all_pieces told)
+pub rest_broken : (conn : Conn) (flow : Flow) (passes waiting : ℕ) → flow.out ≡ length (all_pieces flow)
     → conn.broken ≡ true →
     ((opened : List PendingReply) (accepted : List Shown) (handed : List (List ℕ))
     → IsReorderBuffer conn.dispatcher.reorder_buffer opened accepted handed → length handed + passes
     ≡ length (replies opened accepted)) →
-    waiting ≡ length conn.dispatcher.reorder_buffer.pending_replies → HasBeenTold conn told → IsTrue (passes == waiting)
-    ↔ IsAtRest told
-rest_broken conn told passes waiting sent broken passed tickets h =
-    let told_broken : told.broken ≡ true = sym h.broken ∙ broken in
-    let texts = passed (all_pending_replies told) told.accepted h.texts h.joined in
+    waiting ≡ length conn.dispatcher.reorder_buffer.pending_replies → HasFlow conn flow → IsTrue (passes == waiting)
+    ↔ IsAtRest flow
+rest_broken conn flow passes waiting sent broken passed tickets h =
+    let flow_broken : flow.broken ≡ true = sym h.broken ∙ broken in
+    let texts = passed (all_pending_replies flow) flow.accepted h.texts h.joined in
     let handed = h.handed in
-    let pending_replies = waiting_is conn told h in (
+    let pending_replies = waiting_is conn flow h in (
       λ same.
           let e = (same_number passes waiting).0 same in
-          let all : length (all_texts told) ≡ length told.taken =
+          let all : length (all_texts flow) ≡ length flow.taken =
           omega (arith, texts, handed, pending_replies, tickets, e) in
-          record { sent = sent; done = rw told_broken all },
+          record { sent = sent; done = rw flow_broken all },
       λ rest.
-          let all : length (all_texts told) ≡ length told.taken = rw told_broken at rest.done in
+          let all : length (all_texts flow) ≡ length flow.taken = rw flow_broken at rest.done in
           (same_number passes waiting).1 (omega (arith, texts, handed, pending_replies, tickets, all)),
     )
 
 -- when an unbroken one is
-pub rest_whole : (conn : Conn) (told : Told) (waiting : ℕ) → told.out ≡ length (all_pieces told)
-    → conn.broken ≡ false → IsAllTaken told →
-    waiting ≡ length conn.dispatcher.reorder_buffer.pending_replies → HasBeenTold conn told → IsTrue (waiting == 0)
-    ↔ IsAtRest told
-rest_whole conn told waiting sent broken all tickets h =
-    let told_broken : told.broken ≡ false = sym h.broken ∙ broken in
-    let pending_replies = waiting_is conn told h in (
+pub rest_whole : (conn : Conn) (flow : Flow) (waiting : ℕ) → flow.out ≡ length (all_pieces flow)
+    → conn.broken ≡ false → IsAllTaken flow →
+    waiting ≡ length conn.dispatcher.reorder_buffer.pending_replies → HasFlow conn flow → IsTrue (waiting == 0)
+    ↔ IsAtRest flow
+rest_whole conn flow waiting sent broken all tickets h =
+    let flow_broken : flow.broken ≡ false = sym h.broken ∙ broken in
+    let pending_replies = waiting_is conn flow h in (
       λ same.
           let e = (same_number waiting 0).0 same in
-          let handed : told.handed ≡ length told.taken = omega (arith, pending_replies, tickets, e) in
-          record { sent = sent; done = rw told_broken (all, handed) },
+          let handed : flow.handed ≡ length flow.taken = omega (arith, pending_replies, tickets, e) in
+          record { sent = sent; done = rw flow_broken (all, handed) },
       λ rest.
-          let done : IsAllTaken told × (told.handed ≡ length told.taken) = rw told_broken at rest.done in
+          let done : IsAllTaken flow × (flow.handed ≡ length flow.taken) = rw flow_broken at rest.done in
           let handed = done.1 in
           (same_number waiting 0).1 (omega (arith, pending_replies, tickets, handed)),
     )
@@ -265,15 +265,15 @@ rest_whole conn told waiting sent broken all tickets h =
 -- what the reader's test says of the last command taken
 pub shut_is : (conn : Conn) (closed : Bool)
     → IfReader conn.reader (λ rules fed ended given. IsTrue closed ↔ IsClosedLine given) →
-    (told : Told) → HasBeenTold conn told → IsTrue closed ↔ IsShut told
-shut_is conn closed says told h =
+    (flow : Flow) → HasFlow conn flow → IsTrue closed ↔ IsShut flow
+shut_is conn closed says flow h =
     let P : List Command → Type 0 = λ entries. IsTrue closed ↔ IsTrue (is_closed entries) in
-    subst P h.spelled (says told.rules told.fed told.ended h.given h.read)
+    subst P h.spelled (says flow.rules flow.fed flow.ended h.given h.read)
 
 -- An ended connection continues only while some command is not taken.
-pub over_at_end : (told : Told) (whole : Bool) → told.broken ≡ false → ¬ IsShut told → IsTrue told.ended
-    → ((whole ≡ false) ↔ IsAllTaken told) → IsTrue (not whole) ↔ IsOver told
-over_at_end told true unbroken on ended says = (
+pub over_at_end : (flow : Flow) (whole : Bool) → flow.broken ≡ false → ¬ IsShut flow → IsTrue flow.ended
+    → ((whole ≡ false) ↔ IsAllTaken flow) → IsTrue (not whole) ↔ IsOver flow
+over_at_end flow true unbroken on ended says = (
   λ none. absurd (false≢true none),
   λ over. elim over [
     | inl broken ↦ absurd (false≢true (sym unbroken ∙ broken))
@@ -283,24 +283,24 @@ over_at_end told true unbroken on ended says = (
     ]
   ],
 )
-over_at_end told false unbroken on ended says = (λ _. inr (inr (ended, says.0 refl)), λ _. refl)
+over_at_end flow false unbroken on ended says = (λ _. inr (inr (ended, says.0 refl)), λ _. refl)
 
 -- A connection with a command that is not taken is not at rest.
-pub rest_unread : (told : Told) (whole : Bool) → told.broken ≡ false → not whole ≡ false
-    → ((whole ≡ false) ↔ IsAllTaken told) → IsTrue (not whole) ↔ IsAtRest told
-rest_unread told whole unbroken unread says = (
+pub rest_unread : (flow : Flow) (whole : Bool) → flow.broken ≡ false → not whole ≡ false
+    → ((whole ≡ false) ↔ IsAllTaken flow) → IsTrue (not whole) ↔ IsAtRest flow
+rest_unread flow whole unbroken unread says = (
   λ none. absurd (false≢true (sym unread ∙ none)),
   λ rest.
-      let done : IsAllTaken told × (told.handed ≡ length told.taken) = rw unbroken at rest.done in
+      let done : IsAllTaken flow × (flow.handed ≡ length flow.taken) = rw unbroken at rest.done in
       absurd (false≢true (sym unread ∙ ap not (says.1 done.0))),
 )
 
 -- What is skipped behind the commands taken is skipped behind those that the reader returned.
-pub amid_skipped : (conn : Conn) (told : Told) (h : HasBeenTold conn told) → EndsAmidSkipped told
-    → IsAmidSkipped told.rules told.fed h.given
-amid_skipped conn told h skips =
+pub amid_skipped : (conn : Conn) (flow : Flow) (h : HasFlow conn flow) → EndsAmidSkipped flow
+    → IsAmidSkipped flow.rules flow.fed h.given
+amid_skipped conn flow h skips =
     let Front : List Command → Type 0 =
-    λ entries. SpellsFront told.rules 0 told.fed entries (skips.line ++ 10 ∷ skips.skipped) in
+    λ entries. SpellsFront flow.rules 0 flow.fed entries (skips.line ++ 10 ∷ skips.skipped) in
     let On : List Command → Type 0 = λ entries. is_closed entries ≡ false in
     record {
       line = skips.line;
@@ -316,9 +316,9 @@ amid_skipped conn told h skips =
     }
 
 -- What is unread behind the commands taken is unread behind those that the reader returned.
-pub unread_behind : (conn : Conn) (told : Told) (h : HasBeenTold conn told) (unread : List ℕ) → LeavesUnread told unread
-    → SpellsFront told.rules 0 told.fed (entries_of h.given) unread × (is_closed (entries_of h.given) ≡ false)
-unread_behind conn told h unread leaves =
-    let P : List Command → Type 0 = λ entries. SpellsFront told.rules 0 told.fed entries unread
+pub unread_behind : (conn : Conn) (flow : Flow) (h : HasFlow conn flow) (unread : List ℕ) → LeavesUnread flow unread
+    → SpellsFront flow.rules 0 flow.fed (entries_of h.given) unread × (is_closed (entries_of h.given) ≡ false)
+unread_behind conn flow h unread leaves =
+    let P : List Command → Type 0 = λ entries. SpellsFront flow.rules 0 flow.fed entries unread
     × (is_closed entries ≡ false) in
     subst P (sym h.spelled) (leaves.used, leaves.goes_on)

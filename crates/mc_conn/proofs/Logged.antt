@@ -13,9 +13,9 @@ use Rattle.mc_conn.specs.History.{MayBeTaken, Taken, carried_out, planned}
 use Rattle.mc_conn.proofs.Shown.{same_pending_reply}
 
 -- The log has what was taken.
-pub log_is : (conn : Conn) → IfConn conn (λ told. taken_by conn ≡ map carried_out told.taken)
+pub log_is : (conn : Conn) → IfConn conn (λ flow. taken_by conn ≡ map carried_out flow.taken)
 unfolding IsConn taken_by
-log_is conn told h = h.logged
+log_is conn flow h = h.logged
 
 pieces_carried : (shards number : ℕ) (taken : List Taken) → pieces_from shards number (map carried_out taken)
     ≡ pieces_from shards number taken

@@ -34,6 +34,6 @@ asks_carried (one ∷ later) may =
     ∙ ap (λ (b : Bool). is_shutdown one.entry || b) (asks_carried later may.1)
 
 -- The log has a `shutdown` where one was taken.
-pub asks_told : (conn : Conn) → IfConn conn (λ told. asks_shutdown conn.dispatcher.log ≡ asks_shutdown told.taken)
+pub asks_flow : (conn : Conn) → IfConn conn (λ flow. asks_shutdown conn.dispatcher.log ≡ asks_shutdown flow.taken)
 unfolding IsConn
-asks_told conn told h = ap asks_shutdown h.logged ∙ asks_carried told.taken h.may
+asks_flow conn flow h = ap asks_shutdown h.logged ∙ asks_carried flow.taken h.may

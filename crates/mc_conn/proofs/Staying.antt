@@ -19,22 +19,22 @@ use Rattle.mc_conn.specs.Conn.{IsConn}
 use Rattle.mc_conn.specs.Due.{pending_reply_at}
 use Rattle.mc_join.specs.Expects.{Expects}
 use Rattle.mc_conn.specs.History.{Taken}
-use Rattle.mc_conn.specs.Told.{Told, IsSound, KeepsHanded, all_pending_replies, all_texts}
+use Rattle.mc_conn.specs.Flow.{Flow, IsSound, KeepsHanded, all_pending_replies, all_texts}
 use Rattle.mc_conn.proofs.Counting.{length-replies}
 use Rattle.mc_join.proofs.Expecting.{awaited_from}
 use Rattle.mc_conn.proofs.PendingReplies.{pending_replies-push, length-pending_replies}
 
 -- Every connection took only commands that its bytes spell, has no more open than its window has room for, and handed
 -- out only replies whose turn has come.
-pub is_sound : (conn : Conn) (told : Told) → IsConn conn told → IsSound told
+pub is_sound : (conn : Conn) (flow : Flow) → IsConn conn flow → IsSound flow
 unfolding IsConn IsReader
-is_sound conn told h =
-    let Begin : List Command → Type 0 = λ entries. BeginCommands told.rules told.fed entries in
-    let passed = passed_count conn.dispatcher.reorder_buffer (all_pending_replies told) told.accepted h.texts h.joined
+is_sound conn flow h =
+    let Begin : List Command → Type 0 = λ entries. BeginCommands flow.rules flow.fed entries in
+    let passed = passed_count conn.dispatcher.reorder_buffer (all_pending_replies flow) flow.accepted h.texts h.joined
     in
     let handed = h.handed in
-    let opened = all_pending_replies told in
-    let most = prefix_len-le-length is_answered (map (answered told.accepted) opened) in
+    let opened = all_pending_replies flow in
+    let most = prefix_len-le-length is_answered (map (answered flow.accepted) opened) in
     record {
       begin = subst Begin h.spelled (h.read.unread, h.read.front);
       may = h.may;
@@ -43,9 +43,9 @@ is_sound conn told h =
           omega (
             arith,
             most,
-            length-replies opened told.accepted,
-            length-map opened (answered told.accepted),
-            length-pending_replies told.shards 0 told.taken,
+            length-replies opened flow.accepted,
+            length-map opened (answered flow.accepted),
+            length-pending_replies flow.shards 0 flow.taken,
           );
       bounded = h.bounded;
       out = h.within;
@@ -92,38 +92,38 @@ joined_accept held opened accepted handed reply j expects =
           accepted handed j,
     )
 
-keeps : (told later : Told) (held new : Held) (texts : List (List ℕ)) → length texts ≡ told.handed
-    → IsReorderBuffer held (all_pending_replies told) told.accepted texts
-    → IsReorderBuffer new (all_pending_replies later) later.accepted texts → KeepsHanded told later
-keeps told later held new texts long old after =
+keeps : (flow later : Flow) (held new : Held) (texts : List (List ℕ)) → length texts ≡ flow.handed
+    → IsReorderBuffer held (all_pending_replies flow) flow.accepted texts
+    → IsReorderBuffer new (all_pending_replies later) later.accepted texts → KeepsHanded flow later
+keeps flow later held new texts long old after =
     let passed = passed_count new (all_pending_replies later) later.accepted texts after in
     record {
       within = omega (arith, passed, long);
-      same = both_begin told.handed texts (all_texts told) (all_texts later) long old.beginning after.beginning;
+      same = both_begin flow.handed texts (all_texts flow) (all_texts later) long old.beginning after.beginning;
     }
 
 -- The replies that were handed out stay the same when a reply is accepted that is expected.
-pub keeps_accept : (conn : Conn) (told : Told) (reply : Shown) → IsConn conn told
-    → Expects (all_pending_replies told) told.accepted reply
-    → KeepsHanded told (record told { accepted = told.accepted ++ reply ∷ [] })
+pub keeps_accept : (conn : Conn) (flow : Flow) (reply : Shown) → IsConn conn flow
+    → Expects (all_pending_replies flow) flow.accepted reply
+    → KeepsHanded flow (record flow { accepted = flow.accepted ++ reply ∷ [] })
 unfolding IsConn
-keeps_accept conn told reply h expects =
-    let after = joined_accept conn.dispatcher.reorder_buffer (all_pending_replies told) told.accepted h.texts reply
+keeps_accept conn flow reply h expects =
+    let after = joined_accept conn.dispatcher.reorder_buffer (all_pending_replies flow) flow.accepted h.texts reply
     h.joined expects in
-    keeps told (record told { accepted = told.accepted ++ reply ∷ [] }) conn.dispatcher.reorder_buffer after.0 h.texts
+    keeps flow (record flow { accepted = flow.accepted ++ reply ∷ [] }) conn.dispatcher.reorder_buffer after.0 h.texts
     h.handed h.joined after.1
 
 -- The replies that were handed out stay the same when a command is taken.
-pub keeps_take : (conn : Conn) (told : Told) (one : Taken) → IsConn conn told
-    → KeepsHanded told (record told { taken = told.taken ++ one ∷ [] })
+pub keeps_take : (conn : Conn) (flow : Flow) (one : Taken) → IsConn conn flow
+    → KeepsHanded flow (record flow { taken = flow.taken ++ one ∷ [] })
 unfolding IsConn
-keeps_take conn told one h =
+keeps_take conn flow one h =
     let held = conn.dispatcher.reorder_buffer in
-    let pending_reply : PendingReply = pending_reply_at told.shards (0 + length told.taken) one in
+    let pending_reply : PendingReply = pending_reply_at flow.shards (0 + length flow.taken) one in
     let new : Held = record held { pending_replies = held.pending_replies ++ pending_reply ∷ [] } in
-    let opened = opened_length held (all_pending_replies told) told.accepted h.texts h.joined in
-    let more = join_open held new pending_reply (omega (arith, opened, length-pending_replies told.shards 0 told.taken))
-    refl refl (all_pending_replies told) told.accepted h.texts h.joined in
-    let P : List PendingReply → Type 0 = λ fs. IsReorderBuffer new fs told.accepted h.texts in
-    keeps told (record told { taken = told.taken ++ one ∷ [] }) held new h.texts h.handed h.joined
-    (subst P (sym (pending_replies-push told.shards 0 told.taken one)) more)
+    let opened = opened_length held (all_pending_replies flow) flow.accepted h.texts h.joined in
+    let more = join_open held new pending_reply (omega (arith, opened, length-pending_replies flow.shards 0 flow.taken))
+    refl refl (all_pending_replies flow) flow.accepted h.texts h.joined in
+    let P : List PendingReply → Type 0 = λ fs. IsReorderBuffer new fs flow.accepted h.texts in
+    keeps flow (record flow { taken = flow.taken ++ one ∷ [] }) held new h.texts h.handed h.joined
+    (subst P (sym (pending_replies-push flow.shards 0 flow.taken one)) more)

@@ -32,7 +32,7 @@ use Rattle.mc_conn.specs.History.{Taken, MayBeTaken, carried_out, carrying_out, 
 use Rattle.mc_conn.specs.declared.dispatcher.Dispatcher.{Dispatcher}
 use Rattle.mc_conn.specs.internal.Dispatcher.{OpensPendingReply, OpensNoted, OpensStats, TakesIn}
 use Rattle.mc_conn.specs.internal.Plans.{Plans, unless_given_up}
-use Rattle.mc_conn.specs.Told.{Told, IsOver, all_pending_replies, all_pieces, commands_of}
+use Rattle.mc_conn.specs.Flow.{Flow, IsOver, all_pending_replies, all_pieces, commands_of}
 use Rattle.mc_conn.proofs.Calls.{reorder_buffer_stays, waiting_is}
 use Rattle.mc_conn.proofs.Fitting.{pieces_from-append}
 use Rattle.mc_conn.proofs.PendingReplies.{pending_replies-push, length-pending_replies}
@@ -41,14 +41,14 @@ use Rattle.mc_ring.proofs.Lists.{all_push}
 
 -- The connection is neither closed nor broken.
 abbrev pub GoesOn : Conn → Type 0
-GoesOn conn = IfConn conn (λ told. ¬ IsOver told)
+GoesOn conn = IfConn conn (λ flow. ¬ IsOver flow)
 
 -- A connection that is tested not to be over is neither closed nor broken.
-pub goes_on : (conn : Conn) (over : Bool) → over ≡ false → IfConn conn (λ told. IsTrue over ↔ IsOver told) → GoesOn conn
-goes_on conn over none says told h o = false≢true (sym none ∙ (says told h).1 o)
+pub goes_on : (conn : Conn) (over : Bool) → over ≡ false → IfConn conn (λ flow. IsTrue over ↔ IsOver flow) → GoesOn conn
+goes_on conn over none says flow h o = false≢true (sym none ∙ (says flow h).1 o)
 
-unbroken : (told : Told) → ¬ IsOver told → told.broken ≡ false
-unbroken told not_over = elim told.broken as (λ b. told.broken ≡ b → b ≡ false) [
+unbroken : (flow : Flow) → ¬ IsOver flow → flow.broken ≡ false
+unbroken flow not_over = elim flow.broken as (λ b. flow.broken ≡ b → b ≡ false) [
   | true ↦ λ e. absurd (not_over (inl e))
   | false ↦ λ e. refl
 ] refl
@@ -56,28 +56,28 @@ unbroken told not_over = elim told.broken as (λ b. told.broken ≡ b → b ≡ 
 -- A connection that continues and holds as many pending replies as its window has room for has as many commands open as
 -- may be.
 pub fills_window : (conn : Conn) → GoesOn conn → length conn.dispatcher.reorder_buffer.pending_replies
-    ≡ conn.dispatcher.reorder_buffer.window → IfConn conn (λ told. FillsWindow told conn)
+    ≡ conn.dispatcher.reorder_buffer.window → IfConn conn (λ flow. FillsWindow flow conn)
 unfolding IsConn
-fills_window conn on full told h =
-    let pending_replies = waiting_is conn told h in
+fills_window conn on full flow h =
+    let pending_replies = waiting_is conn flow h in
     let window = h.window in
     record {
       full = omega (arith, pending_replies, window, full);
-      whole = unbroken told (on told h);
-      goes_on = λ closed. on told h (inr closed);
+      whole = unbroken flow (on flow h);
+      goes_on = λ closed. on flow h (inr closed);
       now = h;
     }
 
 -- There are always numbers left.
 pub numbers_left : (conn : Conn) → GoesOn conn → opened_count conn.dispatcher.reorder_buffer ≡ 2 ^ 64
-    → IfConn conn (λ told. told.broken ≡ false → length told.taken ≤ most_commands)
-    → IfConn conn (λ told. FillsWindow told conn)
+    → IfConn conn (λ flow. flow.broken ≡ false → length flow.taken ≤ most_commands)
+    → IfConn conn (λ flow. FillsWindow flow conn)
 unfolding IsConn
-numbers_left conn on none most told h =
-    let few = most told h (unbroken told (on told h)) in
-    let opened = opened_length conn.dispatcher.reorder_buffer (all_pending_replies told) told.accepted h.texts h.joined
+numbers_left conn on none most flow h =
+    let few = most flow h (unbroken flow (on flow h)) in
+    let opened = opened_length conn.dispatcher.reorder_buffer (all_pending_replies flow) flow.accepted h.texts h.joined
     in
-    absurd (omega (arith, few, opened, none, length-pending_replies told.shards 0 told.taken))
+    absurd (omega (arith, few, opened, none, length-pending_replies flow.shards 0 flow.taken))
 
 -- A connection that continues, and whose window has room, needs more bytes where its reader does.
 pub needs_more : (old new : Conn) → GoesOn old
@@ -86,23 +86,23 @@ pub needs_more : (old new : Conn) → GoesOn old
     new.dispatcher.reorder_buffer ≡ old.dispatcher.reorder_buffer → new.dispatcher.unsent ≡ old.dispatcher.unsent
     → new.put_back ≡ old.put_back → new.dispatcher.planner.shards ≡ old.dispatcher.planner.shards → new.dispatcher.log
     ≡ old.dispatcher.log → new.broken ≡ old.broken →
-    IfConn old (λ told. NeedsMore told new)
+    IfConn old (λ flow. NeedsMore flow new)
 unfolding IsConn IsAwaiting
-needs_more old new on room says reorder_buffer unsent put_back shards log broken told h =
-    let said = says told.rules told.fed told.ended h.given h.read in
-    let pending_replies = waiting_is old told h in
+needs_more old new on room says reorder_buffer unsent put_back shards log broken flow h =
+    let said = says flow.rules flow.fed flow.ended h.given h.read in
+    let pending_replies = waiting_is old flow h in
     let window = h.window in
-    let All : List Command → Type 0 = λ entries. AreCommands told.rules told.fed entries in
+    let All : List Command → Type 0 = λ entries. AreCommands flow.rules flow.fed entries in
     let On : List Command → Type 0 = λ entries. is_closed entries ≡ false in
     record {
       all = subst All h.spelled said.1.0;
       comes = said.0;
-      whole = unbroken told (on told h);
+      whole = unbroken flow (on flow h);
       goes_on = subst On h.spelled said.1.1;
       room = omega (arith, pending_replies, window, room);
       waits = said.3;
       now =
-          reorder_buffer_stays old new told told.out told.lent h shards log broken said.2 reorder_buffer h.within
+          reorder_buffer_stays old new flow flow.out flow.lent h shards log broken said.2 reorder_buffer h.within
           (rw (put_back, unsent) h.unsent) (rw put_back h.lent);
     }
 
@@ -147,11 +147,11 @@ pub opens : (old new : Conn) (shown carried : Command) (ticket : Ticket) (moment
     accepted handed) →
     new.put_back ≡ old.put_back → new.dispatcher.planner.shards ≡ old.dispatcher.planner.shards → new.dispatcher.log
     ≡ old.dispatcher.log ++ carrying_out moment server carried ∷ [] → new.broken ≡ old.broken →
-    IfConn old (λ told. TakesCommand told moment may_show ticket new)
+    IfConn old (λ flow. TakesCommand flow moment may_show ticket new)
 unfolding IsConn
 opens old new shown carried ticket moment may_show server pending_reply on room number says plan may_be_shown
-    reorder_buffer joins put_back shards log broken told h =
-    let said = says told.rules told.fed told.ended h.given h.read in
+    reorder_buffer joins put_back shards log broken flow h =
+    let said = says flow.rules flow.fed flow.ended h.given h.read in
     let given = said.0 in
     let is = said.1.shown_is in
     let one : Taken = record {
@@ -165,39 +165,39 @@ opens old new shown carried ticket moment may_show server pending_reply on room 
     let same : carried ≡ planned one = plan.carried_is ∙ whole in
     let Shows : Command → Type 0 = λ asked. IsTrue (shows_server asked) in
     let may : MayBeTaken one = may_be given.given_up plan.given_up given.entry shown is said.1.may plan.may in
-    let pending_replies = waiting_is old told h in
+    let pending_replies = waiting_is old flow h in
     let window = h.window in
-    let opened = opened_length old.dispatcher.reorder_buffer (all_pending_replies told) told.accepted h.texts h.joined
+    let opened = opened_length old.dispatcher.reorder_buffer (all_pending_replies flow) flow.accepted h.texts h.joined
     in
-    let long = length-pending_replies told.shards 0 told.taken in
-    let place : ticket.0 ≡ length told.taken = omega (arith, number, opened, long) in
-    let behind : ticket.0 ≡ 0 + length told.taken = omega (arith, place) in
-    let below : length told.taken < told.handed + told.window = omega (arith, pending_replies, window, room) in
-    let spelled : entries_of (h.given ++ given ∷ []) ≡ commands_of (told.taken ++ one ∷ []) =
+    let long = length-pending_replies flow.shards 0 flow.taken in
+    let place : ticket.0 ≡ length flow.taken = omega (arith, number, opened, long) in
+    let behind : ticket.0 ≡ 0 + length flow.taken = omega (arith, place) in
+    let below : length flow.taken < flow.handed + flow.window = omega (arith, pending_replies, window, room) in
+    let spelled : entries_of (h.given ++ given ∷ []) ≡ commands_of (flow.taken ++ one ∷ []) =
     map-append (λ (g : Given). g.entry) h.given (given ∷ [])
-    ∙ (ap (λ es. es ++ given.entry ∷ []) h.spelled ∙ sym (map-append (λ (t : Taken). t.entry) told.taken (one ∷ []))) in
-    let Begin : List Command → Type 0 = λ entries. BeginCommands told.rules told.fed entries in
+    ∙ (ap (λ es. es ++ given.entry ∷ []) h.spelled ∙ sym (map-append (λ (t : Taken). t.entry) flow.taken (one ∷ []))) in
+    let Begin : List Command → Type 0 = λ entries. BeginCommands flow.rules flow.fed entries in
     let pending_reply_is : pending_reply_of_server server pending_reply
-    ≡ pending_reply_at told.shards (0 + length told.taken) one =
+    ≡ pending_reply_at flow.shards (0 + length flow.taken) one =
     ap (λ f. pending_reply_of_server server f)
     (plan.pending_reply_is ∙
     (ap (λ k. pending_reply_of k ticket carried) h.shards
-    ∙ (ap (λ command. pending_reply_of told.shards ticket command) same
-    ∙ ap (λ k. pending_reply_of told.shards (ticket_at k) (planned one)) behind))) in
+    ∙ (ap (λ command. pending_reply_of flow.shards ticket command) same
+    ∙ ap (λ k. pending_reply_of flow.shards (ticket_at k) (planned one)) behind))) in
     let Joined : List PendingReply → Type 0 =
-    λ fs. IsReorderBuffer new.dispatcher.reorder_buffer fs told.accepted h.texts in
-    let all_is : all_pending_replies told ++ pending_reply_of_server server pending_reply ∷ []
-    ≡ pending_replies_of told.shards (told.taken ++ one ∷ []) =
-    ap (λ f. all_pending_replies told ++ f ∷ []) pending_reply_is
-    ∙ sym (pending_replies-push told.shards 0 told.taken one) in
-    let more : List (ℕ × Piece) = pieces_from told.shards (0 + length told.taken) (one ∷ []) in
+    λ fs. IsReorderBuffer new.dispatcher.reorder_buffer fs flow.accepted h.texts in
+    let all_is : all_pending_replies flow ++ pending_reply_of_server server pending_reply ∷ []
+    ≡ pending_replies_of flow.shards (flow.taken ++ one ∷ []) =
+    ap (λ f. all_pending_replies flow ++ f ∷ []) pending_reply_is
+    ∙ sym (pending_replies-push flow.shards 0 flow.taken one) in
+    let more : List (ℕ × Piece) = pieces_from flow.shards (0 + length flow.taken) (one ∷ []) in
     let added : parts_from 0 ticket moment (pieces_of old.dispatcher.planner.shards carried) ≡ more =
     ap (λ k. parts_from 0 ticket moment (pieces_of k carried)) h.shards
-    ∙ (ap (λ command. parts_from 0 ticket moment (pieces_of told.shards command)) same
-    ∙ (ap (λ k. parts_from 0 (ticket_at k) moment (pieces_of told.shards (planned one))) behind
-    ∙ sym (append-nil (parts_from 0 (ticket_at (0 + length told.taken)) moment (pieces_of told.shards (planned one))))))
+    ∙ (ap (λ command. parts_from 0 ticket moment (pieces_of flow.shards command)) same
+    ∙ (ap (λ k. parts_from 0 (ticket_at k) moment (pieces_of flow.shards (planned one))) behind
+    ∙ sym (append-nil (parts_from 0 (ticket_at (0 + length flow.taken)) moment (pieces_of flow.shards (planned one))))))
     in
-    let longer = pieces_from-append told.shards 0 told.taken (one ∷ []) in
+    let longer = pieces_from-append flow.shards 0 flow.taken (one ∷ []) in
     let within = h.within in
     record {
       one = one;
@@ -207,7 +207,7 @@ opens old new shown carried ticket moment may_show server pending_reply on room 
       next = subst Begin spelled said.2;
       number = place;
       room = below;
-      whole = unbroken told (on told h);
+      whole = unbroken flow (on flow h);
       now = record {
         given = h.given ++ given ∷ [];
         texts = h.texts;
@@ -216,24 +216,24 @@ opens old new shown carried ticket moment may_show server pending_reply on room 
         broken = broken ∙ h.broken;
         read = said.3;
         spelled = spelled;
-        may = all_push MayBeTaken told.taken one h.may may;
+        may = all_push MayBeTaken flow.taken one h.may may;
         logged =
             log ∙ (ap (λ (l : List Taken). l ++ carrying_out moment server carried ∷ []) h.logged
-            ∙ (ap (λ (command : Command). map carried_out told.taken ++ carrying_out moment server command ∷ []) same
-            ∙ sym (map-append carried_out told.taken (one ∷ []))));
-        joined = subst Joined all_is (joins (all_pending_replies told) told.accepted h.texts h.joined);
+            ∙ (ap (λ (command : Command). map carried_out flow.taken ++ carrying_out moment server command ∷ []) same
+            ∙ sym (map-append carried_out flow.taken (one ∷ []))));
+        joined = subst Joined all_is (joins (all_pending_replies flow) flow.accepted h.texts h.joined);
         handed = h.handed;
-        bounded = omega (arith, below, length-append told.taken (one ∷ []));
+        bounded = omega (arith, below, length-append flow.taken (one ∷ []));
         works = λ whole. ap (λ (held : Held). held.gone) reorder_buffer ∙ h.works (sym broken ∙ whole);
-        within = omega (arith, within, ap length longer, length-append (all_pieces told) more);
+        within = omega (arith, within, ap length longer, length-append (all_pieces flow) more);
         unsent =
             ap (λ back. put_first back new.dispatcher.unsent.items) put_back
             ∙ (ap (λ items. put_first old.put_back items)
             (plan.unsent ∙ ap (λ ps. old.dispatcher.unsent.items ++ ps) added)
             ∙ (put_first-append old.put_back old.dispatcher.unsent.items more
             ∙ (ap (λ ps. ps ++ more) h.unsent
-            ∙ (sym (drop-append-le told.out (all_pieces told) more h.within)
-            ∙ ap (λ ps. drop told.out ps) (sym longer)))));
+            ∙ (sym (drop-append-le flow.out (all_pieces flow) more h.within)
+            ∙ ap (λ ps. drop flow.out ps) (sym longer)))));
         lent = rw put_back h.lent;
       };
     }
@@ -255,7 +255,7 @@ pub opens_plain : (old new : Conn) (shown carried : Command) (ticket : Ticket) (
     → IsReorderBuffer new.dispatcher.reorder_buffer (opened ++ pending_reply ∷ []) accepted handed) →
     new.put_back ≡ old.put_back → new.dispatcher.planner.shards ≡ old.dispatcher.planner.shards → new.dispatcher.log
     ≡ old.dispatcher.log ++ carrying_out moment no_server carried ∷ [] → new.broken ≡ old.broken →
-    IfConn old (λ told. TakesCommand told moment may_show ticket new)
+    IfConn old (λ flow. TakesCommand flow moment may_show ticket new)
 opens_plain old new shown carried ticket moment may_show pending_reply on room number says plan none reorder_buffer
     joins put_back shards log broken =
     let none_planned : shows_server carried ≡ false = ap shows_server plan.carried_is
@@ -286,7 +286,7 @@ pub gives : (old new : Conn) (some : 0 < old.dispatcher.planner.shards) (after :
       stats_asked = false;
     }) shown after →
     OpensNoted may_show after new.dispatcher → new.put_back ≡ old.put_back → new.broken ≡ old.broken →
-    IfConn old (λ told. TakesCommand told moment may_show ticket new)
+    IfConn old (λ flow. TakesCommand flow moment may_show ticket new)
 gives old new some after shown ticket moment may_show on room number says takes noted put_back broken =
     let before : Dispatcher =
     record old.dispatcher {
@@ -297,7 +297,7 @@ gives old new some after shown ticket moment may_show on room number says takes 
     elim after.stats_asked as
     (λ b. after.stats_asked ≡ b
     → MatchBool b ((server : ServerStats) × may_show server × OpensStats after server new.dispatcher)
-    (new.dispatcher ≡ after) → IfConn old (λ told. TakesCommand told moment may_show ticket new)) [
+    (new.dispatcher ≡ after) → IfConn old (λ flow. TakesCommand flow moment may_show ticket new)) [
       | true ↦ λ is_noted by.
           let is = stats_noted before after shown refl is_noted takes in
           let Opened : Dispatcher → Type 0 = λ d. OpensStats d by.0 new.dispatcher in

@@ -2,6 +2,6 @@ pub mod History
 pub mod Due
 pub mod Fits
 pub mod Shutdown
-pub mod Told
+pub mod Flow
 pub mod Conn
 pub mod internal

@@ -8,7 +8,7 @@ ghost use Rattle.mc_reader.specs.Spelling.{HasNoEnd, most_commands};
 ghost use Rattle.mc_join.specs.Length.{capped};
 ghost use Rattle.mc_join.specs.Expects.{Expects};
 ghost use Rattle.mc_conn.specs.Shutdown.{asks_shutdown};
-ghost use Rattle.mc_conn.specs.Told.{Told, IsAtRest, IsNotAllTaken, IsAllTaken, IsOpen, IsOver, IsShut, EndsAmidSkipped, IsUsedUp, LeavesUnread, all_pending_replies, all_pieces, all_texts, told_nothing, waiting_text};
+ghost use Rattle.mc_conn.specs.Flow.{Flow, IsAtRest, IsNotAllTaken, IsAllTaken, IsOpen, IsOver, IsShut, EndsAmidSkipped, IsUsedUp, LeavesUnread, all_pending_replies, all_pieces, all_texts, new_flow, waiting_text};
 
 use crate::dispatcher::Dispatcher;
 use crate::source::StatsSource;
@@ -38,8 +38,8 @@ pub enum Taken {
 /// One connection. A command is open from when it is taken until its reply is handed out; at most a
 /// window of them are open at a time.
 ///
-/// The contracts speak of a connection by what came in and what went out so far, as lists: `Told`.
-/// `IsConn conn told` says that the connection is what these make of it. `IfConn conn (λ told. ..)`
+/// The contracts speak of a connection by what came in and what went out so far, as lists: `Flow`.
+/// `IsConn conn flow` says that the connection is what these make of it. `IfConn conn (λ flow. ..)`
 /// says something of them, whatever they are. Each call says how they grow.
 pub struct Conn {
     reader: Reader,
@@ -72,7 +72,7 @@ impl Conn {
         requires shards { 0 < shards }
         requires limit { limit ≤ MAX_VALUE_LIMIT }
         requires window { 0 < window }
-        ensures { IfOk result (λ conn. IsConn conn (told_nothing shards (own limit) window)) }
+        ensures { IfOk result (λ conn. IsConn conn (new_flow shards (own limit) window)) }
     {
         Conn::under(alloc, shards, Rules::own(limit), window)
     }
@@ -85,7 +85,7 @@ impl Conn {
         requires limit { rules.value_limit ≤ MAX_VALUE_LIMIT }
         requires line { rules.line_limit ≤ MAX_LINE_LIMIT }
         requires window { 0 < window }
-        ensures { IfOk result (λ conn. IsConn conn (told_nothing shards rules window)) }
+        ensures { IfOk result (λ conn. IsConn conn (new_flow shards rules window)) }
     {
         Ok(Conn {
             reader: Reader::under(alloc, rules)?,
@@ -111,20 +111,20 @@ impl Conn {
     #[tactic(auto, unfolding(crate::specs::Conn::IsConn, crate::specs::Conn::IsAwaiting))]
     pub fn feed(&mut self, piece: &[u8]) -> usize
         ensures within { result ≤ length piece.now }
-        ensures fed { IfConn self.old (λ told.
-            IsConn self.new (record told { fed = told.fed ++ take result piece.now })) }
+        ensures fed { IfConn self.old (λ flow.
+            IsConn self.new (record flow { fed = flow.fed ++ take result piece.now })) }
         // Some byte is taken right after `take` answered `NeedMore`.
-        ensures progress { IfConn self.old (λ told. IsOpen told → IsAllTaken told →
+        ensures progress { IfConn self.old (λ flow. IsOpen flow → IsAllTaken flow →
             IsAwaiting self.old → 0 < length piece.now → 0 < result) }
         // The whole of a piece that isn't too long is taken where every byte before it is part of a
         // command taken.
-        ensures whole { IfConn self.old (λ told. IsOpen told → IsUsedUp told →
-            length piece.now ≤ told.rules.line_limit → result ≡ length piece.now) }
+        ensures whole { IfConn self.old (λ flow. IsOpen flow → IsUsedUp flow →
+            length piece.now ≤ flow.rules.line_limit → result ≡ length piece.now) }
         // After the last command everything is taken, and dropped.
-        ensures shut { IfConn self.old (λ told. IsOpen told → IsShut told →
+        ensures shut { IfConn self.old (λ flow. IsOpen flow → IsShut flow →
             result ≡ length piece.now) }
-        ensures ended { IfConn self.old (λ told. IsTrue told.ended → result ≡ 0) }
-        ensures broken { IfConn self.old (λ told. IsTrue told.broken → result ≡ 0) }
+        ensures ended { IfConn self.old (λ flow. IsTrue flow.ended → result ≡ 0) }
+        ensures broken { IfConn self.old (λ flow. IsTrue flow.broken → result ≡ 0) }
     {
         if self.broken {
             return 0;
@@ -135,7 +135,7 @@ impl Conn {
     /// Ends the input: no more bytes come. It takes no memory.
     #[tactic(auto, unfolding(crate::specs::Conn::IsConn))]
     pub fn end(&mut self)
-        ensures { IfConn self.old (λ told. IsConn self.new (record told { ended = true })) }
+        ensures { IfConn self.old (λ flow. IsConn self.new (record flow { ended = true })) }
     {
         self.reader.end();
     }
@@ -143,10 +143,10 @@ impl Conn {
     /// Whether the connection is closed or broken. It takes no memory.
     #[tactic(auto, unfolding(crate::specs::Conn::IsConn))]
     pub fn is_over(&self) -> bool
-        ensures over { IfConn self.now (λ told. IsTrue result ↔ IsOver told) }
+        ensures over { IfConn self.now (λ flow. IsTrue result ↔ IsOver flow) }
         // A stream has at most `most_commands` commands.
-        ensures most { IfConn self.now (λ told. told.broken ≡ false →
-            length told.taken ≤ most_commands) }
+        ensures most { IfConn self.now (λ flow. flow.broken ≡ false →
+            length flow.taken ≤ most_commands) }
     {
         if self.broken {
             return true;
@@ -161,7 +161,7 @@ impl Conn {
     #[tactic(auto, unfolding(crate::specs::Conn::IsConn, crate::specs::Conn::IsAwaiting))]
     pub fn take<S: StatsSource>(&mut self, alloc: Global, moment: u64, source: &S) -> Taken
         ensures says { TakeSays self.old moment (S.may_show source.now) result self.new }
-        ensures over { IfConn self.old (λ told. IsOver told → result ≡ Taken.Closed) }
+        ensures over { IfConn self.old (λ flow. IsOver flow → result ≡ Taken.Closed) }
     {
         if self.is_over() {
             return Taken::Closed;
@@ -189,8 +189,8 @@ impl Conn {
     /// Whether `next_piece` would return a piece. It takes no memory.
     #[tactic(auto, unfolding(crate::specs::Conn::IsConn))]
     pub fn has_piece(&self) -> bool
-        ensures { IfConn self.now (λ told.
-            (result ≡ false) ↔ (told.out ≡ length (all_pieces told))) }
+        ensures { IfConn self.now (λ flow.
+            (result ≡ false) ↔ (flow.out ≡ length (all_pieces flow))) }
     {
         self.put_back.is_some() || !self.dispatcher.unsent.is_empty()
     }
@@ -198,11 +198,11 @@ impl Conn {
     /// Takes out the oldest piece that has not left, with its shard. It takes no memory.
     #[tactic(auto, unfolding(crate::specs::Conn::IsConn))]
     pub fn next_piece(&mut self) -> Option<(usize, Piece)>
-        ensures some { IfSome result (λ piece. IfConn self.old (λ told.
-            (slice_get (all_pieces told) told.out ≡ Some piece) ×
-            IsConn self.new (record told { out = told.out + 1; lent = true }))) }
-        ensures none { IfNone result (IfConn self.old (λ told.
-            (told.out ≡ length (all_pieces told)) × IsConn self.new told)) }
+        ensures some { IfSome result (λ piece. IfConn self.old (λ flow.
+            (slice_get (all_pieces flow) flow.out ≡ Some piece) ×
+            IsConn self.new (record flow { out = flow.out + 1; lent = true }))) }
+        ensures none { IfNone result (IfConn self.old (λ flow.
+            (flow.out ≡ length (all_pieces flow)) × IsConn self.new flow)) }
     {
         if self.put_back.is_some() {
             return self.put_back.take();
@@ -213,9 +213,9 @@ impl Conn {
     /// Puts the piece that was taken out last back in front, with its shard. It takes no memory.
     #[tactic(auto, unfolding(crate::specs::Conn::IsConn))]
     pub fn not_sent(&mut self, shard: usize, piece: Piece)
-        ensures { (told : Told) (before : ℕ) → IsConn self.old told → IsTrue told.lent →
-            told.out ≡ before + 1 → slice_get (all_pieces told) before ≡ Some (shard, piece) →
-            IsConn self.new (record told { out = before; lent = false }) }
+        ensures { (flow : Flow) (before : ℕ) → IsConn self.old flow → IsTrue flow.lent →
+            flow.out ≡ before + 1 → slice_get (all_pieces flow) before ≡ Some (shard, piece) →
+            IsConn self.new (record flow { out = before; lent = false }) }
     {
         self.put_back = Some((shard, piece));
     }
@@ -226,14 +226,14 @@ impl Conn {
     #[inline(always)]
     #[tactic(auto, unfolding(crate::specs::Conn::IsConn))]
     pub fn accept(&mut self, reply: Reply) -> Result<(), UnexpectedReply>
-        ensures ok { OnOk result (IfConn self.old (λ told.
-            Expects (all_pending_replies told) told.accepted (shown reply) ×
-            IsConn self.new (record told { accepted = told.accepted ++ shown reply ∷ [] }))) }
+        ensures ok { OnOk result (IfConn self.old (λ flow.
+            Expects (all_pending_replies flow) flow.accepted (shown reply) ×
+            IsConn self.new (record flow { accepted = flow.accepted ++ shown reply ∷ [] }))) }
         ensures unexpected_reply { IfErr result
             (λ unexpected_reply. shown unexpected_reply.reply ≡ shown reply) }
-        ensures err { OnErr result (IfConn self.old (λ told.
-            (¬ Expects (all_pending_replies told) told.accepted (shown reply)) ×
-            IsConn self.new told)) }
+        ensures err { OnErr result (IfConn self.old (λ flow.
+            (¬ Expects (all_pending_replies flow) flow.accepted (shown reply)) ×
+            IsConn self.new flow)) }
     {
         self.dispatcher.reorder_buffer.accept(reply)
     }
@@ -242,9 +242,9 @@ impl Conn {
     /// It takes no memory.
     #[tactic(auto, unfolding(crate::specs::Conn::IsConn))]
     pub fn ready(&self) -> u64
-        ensures whole { IfConn self.now (λ told. told.broken ≡ false →
-            result ≡ capped (length (waiting_text told))) }
-        ensures broken { IfConn self.now (λ told. IsTrue told.broken → result ≡ 0) }
+        ensures whole { IfConn self.now (λ flow. flow.broken ≡ false →
+            result ≡ capped (length (waiting_text flow))) }
+        ensures broken { IfConn self.now (λ flow. IsTrue flow.broken → result ≡ 0) }
     {
         if self.broken {
             return 0;
@@ -256,9 +256,9 @@ impl Conn {
     /// connection to none. It takes no memory.
     #[tactic(auto, unfolding(crate::specs::Conn::IsConn))]
     pub fn passes(&self) -> usize
-        ensures whole { IfConn self.now (λ told. told.broken ≡ false →
-            told.handed + result ≡ length (all_texts told)) }
-        ensures broken { IfConn self.now (λ told. IsTrue told.broken → result ≡ 0) }
+        ensures whole { IfConn self.now (λ flow. flow.broken ≡ false →
+            flow.handed + result ≡ length (all_texts flow)) }
+        ensures broken { IfConn self.now (λ flow. IsTrue flow.broken → result ≡ 0) }
     {
         if self.broken {
             return 0;
@@ -270,12 +270,12 @@ impl Conn {
     /// commands they answer. A broken connection writes nothing and returns 0. Allocates nothing.
     /// `Gone`: the sink failed. It took a prefix of what was due, and the connection is broken.
     pub fn hand<O: Sink>(&mut self, out: &mut O) -> Result<u64, Gone>
-        ensures ok { IfOk result (λ count. IfConn self.old (λ told. told.broken ≡ false →
-            HandsOut told count self.new (O.sight out.old) (O.sight out.new))) }
-        ensures gone { OnErr result (IfConn self.old (λ told.
-            FailsToHand told self.new (O.sight out.old) (O.sight out.new))) }
-        ensures silent { IfOk result (λ count. IfConn self.old (λ told. IsTrue told.broken →
-            StaysSilent told count self.new (O.sight out.old) (O.sight out.new))) }
+        ensures ok { IfOk result (λ count. IfConn self.old (λ flow. flow.broken ≡ false →
+            HandsOut flow count self.new (O.sight out.old) (O.sight out.new))) }
+        ensures gone { OnErr result (IfConn self.old (λ flow.
+            FailsToHand flow self.new (O.sight out.old) (O.sight out.new))) }
+        ensures silent { IfOk result (λ count. IfConn self.old (λ flow. IsTrue flow.broken →
+            StaysSilent flow count self.new (O.sight out.old) (O.sight out.new))) }
     {
         let handed = self.hand_due(out);
         self.free_spare();
@@ -286,12 +286,12 @@ impl Conn {
     #[inline(always)]
     #[tactic(auto, using(crate::proofs::Handing::none_waits, crate::proofs::Handing::all_together), unfolding(crate::specs::Conn::IsConn))]
     fn hand_due<O: Sink>(&mut self, out: &mut O) -> Result<u64, Gone>
-        ensures ok { IfOk result (λ count. IfConn self.old (λ told. told.broken ≡ false →
-            HandsOut told count self.new (O.sight out.old) (O.sight out.new))) }
-        ensures gone { OnErr result (IfConn self.old (λ told.
-            FailsToHand told self.new (O.sight out.old) (O.sight out.new))) }
-        ensures silent { IfOk result (λ count. IfConn self.old (λ told. IsTrue told.broken →
-            StaysSilent told count self.new (O.sight out.old) (O.sight out.new))) }
+        ensures ok { IfOk result (λ count. IfConn self.old (λ flow. flow.broken ≡ false →
+            HandsOut flow count self.new (O.sight out.old) (O.sight out.new))) }
+        ensures gone { OnErr result (IfConn self.old (λ flow.
+            FailsToHand flow self.new (O.sight out.old) (O.sight out.new))) }
+        ensures silent { IfOk result (λ count. IfConn self.old (λ flow. IsTrue flow.broken →
+            StaysSilent flow count self.new (O.sight out.old) (O.sight out.new))) }
     {
         if self.broken {
             return Ok(0);
@@ -316,7 +316,7 @@ impl Conn {
     /// taken still leave and their answers are accepted. It takes no memory.
     #[tactic(auto, unfolding(crate::specs::Conn::IsConn))]
     pub fn broken(&mut self)
-        ensures { IfConn self.old (λ told. IsConn self.new (record told { broken = true })) }
+        ensures { IfConn self.old (λ flow. IsConn self.new (record flow { broken = true })) }
     {
         self.broken = true;
     }
@@ -324,7 +324,7 @@ impl Conn {
     /// Whether a command taken asks for the server's end: `shutdown`, after which nothing is read.
     /// It takes no memory.
     pub fn asks_shutdown(&self) -> bool
-        ensures { IfConn self.now (λ told. result ≡ asks_shutdown told.taken) }
+        ensures { IfConn self.now (λ flow. result ≡ asks_shutdown flow.taken) }
     {
         self.dispatcher.log.asks_shutdown()
     }
@@ -332,8 +332,8 @@ impl Conn {
     /// Whether a command that the bytes fed spell is not taken yet. It takes no memory.
     #[tactic(auto, unfolding(crate::specs::Conn::IsConn))]
     pub fn whole(&self) -> bool
-        ensures whole { IfConn self.now (λ told. IsTrue result ↔ IsNotAllTaken told) }
-        ensures all { IfConn self.now (λ told. (result ≡ false) ↔ IsAllTaken told) }
+        ensures whole { IfConn self.now (λ flow. IsTrue result ↔ IsNotAllTaken flow) }
+        ensures all { IfConn self.now (λ flow. (result ≡ false) ↔ IsAllTaken flow) }
     {
         self.reader.whole()
     }
@@ -343,18 +343,18 @@ impl Conn {
     #[tactic(auto, unfolding(crate::specs::Conn::IsConn, crate::specs::Conn::held_bytes, crate::specs::Conn::SkipsBytes))]
     pub fn held(&self) -> usize
         ensures value { result ≡ held_bytes self.now }
-        ensures most { IfConn self.now (λ told.
-            result ≤ told.rules.line_limit + told.rules.value_limit + 2) }
+        ensures most { IfConn self.now (λ flow.
+            result ≤ flow.rules.line_limit + flow.rules.value_limit + 2) }
         // No more than the bytes fed that are not part of a command taken, until the last command
         // is taken.
-        ensures unread { IfConn self.now (λ told. (unread : List ℕ) →
-            LeavesUnread told unread → result ≤ length unread) }
+        ensures unread { IfConn self.now (λ flow. (unread : List ℕ) →
+            LeavesUnread flow unread → result ≤ length unread) }
         // A line whose end has not come is held whole.
-        ensures line { IfConn self.now (λ told. (unread : List ℕ) →
-            LeavesUnread told unread → HasNoEnd unread → result ≡ length unread) }
+        ensures line { IfConn self.now (λ flow. (unread : List ℕ) →
+            LeavesUnread flow unread → HasNoEnd unread → result ≡ length unread) }
         // A block that is skipped is not held.
-        ensures skipping { IfConn self.now (λ told. EndsAmidSkipped told →
-            result ≤ told.rules.line_limit) }
+        ensures skipping { IfConn self.now (λ flow. EndsAmidSkipped flow →
+            result ≤ flow.rules.line_limit) }
         // Nor is one that memory ran out for.
         ensures skipped { SkipsBytes self.now → result ≤ self.now.reader.rules.line_limit }
     {
@@ -365,7 +365,7 @@ impl Conn {
     /// broken connection, no piece unsent and none unanswered. It takes no memory.
     #[tactic(auto, unfolding(crate::specs::Conn::IsConn))]
     pub fn is_at_rest(&self) -> bool
-        ensures { IfConn self.now (λ told. IsTrue result ↔ IsAtRest told) }
+        ensures { IfConn self.now (λ flow. IsTrue result ↔ IsAtRest flow) }
     {
         if self.has_piece() {
             return false;
@@ -380,9 +380,9 @@ impl Conn {
     /// Resets the state for the next connection if this one is at rest and closed or broken, and
     /// returns whether it did. Otherwise nothing changes. Allocates nothing.
     pub fn renew(&mut self) -> bool
-        ensures when { IfConn self.old (λ told. IsTrue result ↔ (IsAtRest told × IsOver told)) }
-        ensures new { IsTrue result → IfConn self.old (λ told.
-            IsConn self.new (told_nothing told.shards told.rules told.window)) }
+        ensures when { IfConn self.old (λ flow. IsTrue result ↔ (IsAtRest flow × IsOver flow)) }
+        ensures new { IsTrue result → IfConn self.old (λ flow.
+            IsConn self.new (new_flow flow.shards flow.rules flow.window)) }
         ensures same { result ≡ false → self.new ≡ self.old }
     {
         let renewed = self.reset();
@@ -393,9 +393,9 @@ impl Conn {
     /// Begins the next connection, as `renew` does.
     #[tactic(auto, unfolding(crate::specs::Conn::IsConn))]
     fn reset(&mut self) -> bool
-        ensures when { IfConn self.old (λ told. IsTrue result ↔ (IsAtRest told × IsOver told)) }
-        ensures new { IsTrue result → IfConn self.old (λ told.
-            IsConn self.new (told_nothing told.shards told.rules told.window)) }
+        ensures when { IfConn self.old (λ flow. IsTrue result ↔ (IsAtRest flow × IsOver flow)) }
+        ensures new { IsTrue result → IfConn self.old (λ flow.
+            IsConn self.new (new_flow flow.shards flow.rules flow.window)) }
         ensures same { result ≡ false → self.new ≡ self.old }
     {
         if !self.is_at_rest() || !self.is_over() {

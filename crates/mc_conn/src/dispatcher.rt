@@ -9,7 +9,7 @@ use crate::taken_log::TakenLog;
 use mc_command::{Command, CommandError, MetaGet, MetaSet, Profile, StatsRequest};
 use mc_item::NoMemory;
 use mc_join::ReorderBuffer;
-use mc_plain::CommandSink;
+use mc_fast::CommandSink;
 use mc_reply::{PendingReply, ServerStats};
 use mc_split::{PieceQueue, Planner};
 use std::snapshot::Snapshot;

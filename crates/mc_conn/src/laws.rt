@@ -10,7 +10,7 @@ ghost use Rattle.mc_conn.specs.Due.{Ran, due, pending_replies_of, ran_on};
 ghost use Rattle.mc_join.specs.Expects.{Expects};
 ghost use Rattle.mc_conn.specs.declared.conn.Conn.{Conn};
 ghost use Rattle.mc_conn.specs.Conn.{IfConn, IsConn, taken_by};
-ghost use Rattle.mc_conn.specs.Told.{Told, IsSound, KeepsHanded, all_pending_replies};
+ghost use Rattle.mc_conn.specs.Flow.{Flow, IsSound, KeepsHanded, all_pending_replies};
 ghost use Rattle.mc_conn.specs.Fits.{CameFrom, Fits, HasCome, IsReplyTo, KeysFit, ReceivesFromShard, Serves, Tells, counts, reply_of};
 
 /// What holds of every connection, whatever came in.
@@ -22,8 +22,8 @@ pub fn connections_are_sound()
 /// in place of one that was given up. What is due for these is due for those, with the same pending
 /// replies of replies, and each of them may be taken.
 pub fn connections_log_what_they_take()
-    ensures log { (conn : Conn) → IfConn conn (λ told.
-        taken_by conn ≡ map carried_out told.taken) }
+    ensures log { (conn : Conn) → IfConn conn (λ flow.
+        taken_by conn ≡ map carried_out flow.taken) }
     ensures due { (shards s : ℕ) (taken : List Taken) →
         due shards s (map carried_out taken) ≡ due shards s taken }
     ensures pending_replies { (shards : ℕ) (taken : List Taken) →
@@ -35,11 +35,11 @@ pub fn connections_log_what_they_take()
 /// when a command is taken. So the bytes of several hands, one after another, are one beginning of
 /// the texts, and no text is begun twice.
 pub fn handed_replies_stay()
-    ensures accept { (conn : Conn) (told : Told) (reply : Shown) → IsConn conn told →
-        Expects (all_pending_replies told) told.accepted reply →
-        KeepsHanded told (record told { accepted = told.accepted ++ reply ∷ [] }) }
-    ensures take { (conn : Conn) (told : Told) (one : Taken) → IsConn conn told →
-        KeepsHanded told (record told { taken = told.taken ++ one ∷ [] }) }
+    ensures accept { (conn : Conn) (flow : Flow) (reply : Shown) → IsConn conn flow →
+        Expects (all_pending_replies flow) flow.accepted reply →
+        KeepsHanded flow (record flow { accepted = flow.accepted ++ reply ∷ [] }) }
+    ensures take { (conn : Conn) (flow : Flow) (one : Taken) → IsConn conn flow →
+        KeepsHanded flow (record flow { taken = flow.taken ++ one ∷ [] }) }
 {}
 
 /// The ticket and the part of a piece that is due determine its shard, and its place among what is

@@ -1,6 +1,6 @@
 //! Replies of a few commands, whose answers come in any order, and sinks that count or fail.
 ghost use Rattle.std.specs.Prelude.{◌≡◌, ◌+◌, Some, IfOk, IfSome, OnOk, false};
-ghost use Rattle.mc_wire.specs.Sink.{Listed, Untold, sight_out};
+ghost use Rattle.mc_wire.specs.Sink.{Listed, Unlisted, sight_out};
 ghost use Rattle.mc_join.specs.Held.{opened_count};
 
 use crate::asserting::{equal, holds};
@@ -480,7 +480,7 @@ struct WriteTally {
 }
 
 impl Sink for WriteTally {
-    ghost sight = { λ _. sight_out Untold false };
+    ghost sight = { λ _. sight_out Unlisted false };
 
     fn write(&mut self, bytes: &[u8]) -> Result<usize, SinkError> {
         let (small, large) = if bytes.len() < LARGE { (1, 0) } else { (0, 1) };

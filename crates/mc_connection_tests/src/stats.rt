@@ -95,8 +95,8 @@ fn the_shards_are_counted_together(rt: HostRuntime) -> Result<(), Fail> {
     holds(&rt, reorder_buffer.open(stats(alloc)?).is_ok());
     for shard in [2, 0, 1] {
         equal(&rt, reorder_buffer.ready(), 0);
-        let told = reply(&rt, shard, counts(alloc, shard)?);
-        equal(&rt, unexpected_reply_of(reorder_buffer.accept(told)), None);
+        let flow = reply(&rt, shard, counts(alloc, shard)?);
+        equal(&rt, unexpected_reply_of(reorder_buffer.accept(flow)), None);
     }
     let mut out = sink(alloc, usize::MAX);
     equal(&rt, reorder_buffer.hand(&mut out), Ok(1));

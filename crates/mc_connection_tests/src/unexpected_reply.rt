@@ -4,7 +4,7 @@ use mc_join::UnexpectedReply;
 use mc_reply::Ticket;
 
 /// The ticket, part and kind of a refused reply; `None` if it was accepted.
-fn told(accepted: &Result<(), UnexpectedReply>) -> Option<(Ticket, usize, Kind)> {
+fn flow(accepted: &Result<(), UnexpectedReply>) -> Option<(Ticket, usize, Kind)> {
     match accepted {
         Ok(()) => None,
         Err(UnexpectedReply { reply }) => Some((reply.ticket, reply.part, reply.kind)),
@@ -13,5 +13,5 @@ fn told(accepted: &Result<(), UnexpectedReply>) -> Option<(Ticket, usize, Kind)>
 
 /// The ticket, part and kind of a refused reply, which is dropped.
 pub fn unexpected_reply_of(accepted: Result<(), UnexpectedReply>) -> Option<(Ticket, usize, Kind)> {
-    told(&accepted)
+    flow(&accepted)
 }

@@ -6,7 +6,7 @@ use Rattle.std.specs.List.{concat, slice_get}
 use Rattle.std.specs.Prelude.{MatchBool}
 use Rattle.std.proofs.lemmas.List.{length-map}
 use Rattle.std.proofs.lemmas.Option.{same_Some}
-use Rattle.mc_wire.specs.Sink.{Counted, Listed, Sight, Trace, Untold, gave, took as wrote}
+use Rattle.mc_wire.specs.Sink.{Counted, Listed, Sight, Trace, Unlisted, gave, took as wrote}
 use Rattle.mc_item.specs.declared.answer.Answer.TheVariants as answer
 use Rattle.mc_item.specs.Expiry.{expiry_of}
 use Rattle.mc_item.specs.Kind.{key_of, kind_of}
@@ -25,7 +25,7 @@ use Rattle.mc_split.specs.Pieces.{pieces_of}
 use Rattle.mc_store.specs.State.{State, empty_state}
 use Rattle.mc_store.specs.Step.{Answers, IsStep, noted_in, step_of}
 use Rattle.mc_conn.specs.History.{Taken, carried_out, planned}
-use Rattle.mc_conn.specs.Told.{commands_of}
+use Rattle.mc_conn.specs.Flow.{commands_of}
 use Rattle.mc_model.specs.Events.{RunsNext}
 use Rattle.mc_model.specs.Headline.{replies_to}
 use Rattle.mc_model.specs.World.{new_link}
@@ -184,7 +184,7 @@ reply_may =
     }
 
 abbrev how_long : Trace → ℕ
-how_long Untold = 0
+how_long Unlisted = 0
 how_long (Counted count) = count
 how_long (Listed bytes) = length bytes
 
@@ -209,9 +209,9 @@ not_to_another may = none_may one_each 1 has_read 79 whole refl may
 not_twice_written : MayWrite one_each 0 begun (wrote (codes "OK\r\n") has_read) (79 ∷ []) whole → ⊥
 unfolding pieces_of reply_kind_of reply_kind_text kind_of
 not_twice_written may =
-    let told : 4 ≡ length may.written = ap how_long may.written_is in
+    let flow : 4 ≡ length may.written = ap how_long may.written_is in
     let long : length (may.written ++ (79 ∷ may.rest)) ≡ 4 = ap length may.next in
-    absurd (omega (arith, told, long, length-append may.written (79 ∷ may.rest)))
+    absurd (omega (arith, flow, long, length-append may.written (79 ∷ may.rest)))
 
 empty_front : {X : Type 0} (xs ys : List X) → [] ≡ xs ++ ys → xs ≡ []
 empty_front [] ys is = refl

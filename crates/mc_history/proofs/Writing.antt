@@ -13,12 +13,12 @@ use Rattle.mc_reply.specs.declared.pending_reply.PendingReply.{PendingReply}
 use Rattle.mc_ring.specs.Reply.{Shown}
 use Rattle.mc_join.specs.Replies.{replies}
 use Rattle.mc_conn.specs.Due.{pending_replies_of}
-use Rattle.mc_conn.specs.Told.{commands_of}
+use Rattle.mc_conn.specs.Flow.{commands_of}
 use Rattle.mc_model.specs.Grows.{Lengthens}
 use Rattle.mc_model.specs.Headline.{replies_to}
 use Rattle.mc_model.specs.Log.{Entry, of_asker, replies_in, reply_to}
 use Rattle.mc_model.proofs.Growing.{concat-append, replies_stay}
-use Rattle.mc_seat.specs.Place.{bytes_seen}
+use Rattle.mc_transport.specs.Place.{bytes_seen}
 use Rattle.mc_history.specs.declared.event.Event.{Event}
 use Rattle.mc_history.specs.Worlds.{entries_of, link_in, ran_in, taken_in, world_in}
 use Rattle.mc_history.specs.Lawful.{IsHistory}

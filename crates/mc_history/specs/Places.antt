@@ -1,7 +1,7 @@
 -- Which connection a line is by a history that was shown when the line began.
 use Rattle.std.specs.Prelude.{◌-◌, length, true}
 use Rattle.mc_wire.specs.Sink.{Sight}
-use Rattle.mc_seat.specs.Place.{Place}
+use Rattle.mc_transport.specs.Place.{Place}
 use Rattle.mc_history.specs.Tokens.{Sight as Shown}
 use Rattle.mc_history.specs.Worlds.{seats_in}
 

@@ -6,7 +6,7 @@ use Rattle.mc_sizes.specs.Sizes.{rules_of}
 use Rattle.mc_sizes.specs.declared.sizes.Sizes.{Sizes}
 use Rattle.mc_reader.specs.Spelling.{BeginCommands}
 use Rattle.mc_conn.specs.History.{MayBeTaken, Taken, carried_out}
-use Rattle.mc_conn.specs.Told.{commands_of}
+use Rattle.mc_conn.specs.Flow.{commands_of}
 use Rattle.mc_model.specs.Log.{IsLawful}
 use Rattle.mc_model.specs.Headline.{RanAsDue, replies_to}
 use Rattle.mc_history.specs.declared.event.Event.{Event}

@@ -8,7 +8,7 @@ use crate::knowledge::Knowledge;
 use crate::rule::{Hears, Looks};
 use atomic_table::Seat;
 use mc_ring::Token;
-use mc_seat::Warrant;
+use mc_transport::Warrant;
 use std::marker::Model;
 
 /// Evidence that these events happened first, in this order. It has a size of 0 bytes.

@@ -281,16 +281,16 @@ world_of (suc (suc (suc (suc zero)))) = alone (ran_for 0 ∷ []) given
 world_of (suc (suc (suc (suc (suc zero))))) = alone (ran_for 0 ∷ []) received
 world_of (suc (suc (suc (suc (suc (suc n)))))) = resting
 
-abbrev told : ℕ → StepReply
-told zero = Done
-told (suc zero) = Done
-told (suc (suc zero)) = Done
-told (suc (suc (suc zero))) = Done
-told (suc (suc (suc (suc zero)))) = Done
-told (suc (suc (suc (suc (suc zero))))) = Done
-told (suc (suc (suc (suc (suc (suc n)))))) = Idle
+abbrev flow : ℕ → StepReply
+flow zero = Done
+flow (suc zero) = Done
+flow (suc (suc zero)) = Done
+flow (suc (suc (suc zero))) = Done
+flow (suc (suc (suc (suc zero)))) = Done
+flow (suc (suc (suc (suc (suc zero))))) = Done
+flow (suc (suc (suc (suc (suc (suc n)))))) = Idle
 
-has_memory : (n : ℕ) → told n ≢ NoMemory
+has_memory : (n : ℕ) → flow n ≢ NoMemory
 has_memory zero e = absurd (cc)
 has_memory (suc zero) e = absurd (cc)
 has_memory (suc (suc zero)) e = absurd (cc)
@@ -361,7 +361,7 @@ none_enabled (Hand seat) work e =
 none_enabled (End seat) work e = work
 none_enabled (Break seat) work e = work
 
-happens_at : (n : ℕ) → Happens one_each (world_of n) (cycle n) (told n) (world_of (n + 1))
+happens_at : (n : ℕ) → Happens one_each (world_of n) (cycle n) (flow n) (world_of (n + 1))
 happens_at zero = took
 happens_at (suc zero) = sends
 happens_at (suc (suc zero)) = popped
@@ -373,7 +373,7 @@ happens_at (suc (suc (suc (suc (suc (suc n)))))) =
     (inl (λ e. none_enabled (cycle n) (cycle_work n) e), ap world_of next)
 
 abbrev run : EndlessRun one_each (alone [] fed)
-run = record { events = cycle; replies = told; worlds = world_of; begins = refl; happens = happens_at }
+run = record { events = cycle; replies = flow; worlds = world_of; begins = refl; happens = happens_at }
 
 cycle_at : (n i : ℕ) → cycle (6 * n + i) ≡ cycle i
 cycle_at zero i = let at : 6 * 0 + i ≡ i = omega arith in ap cycle at
@@ -385,7 +385,7 @@ no_input n = work_inside (cycle n) (cycle_work n)
 
 -- the event at a place of some later round
 tried_at : (n i : ℕ) (event : Event) → IsSameStep event (cycle (6 * n + i))
-    → Eventually n (λ m. IsSameStep event (cycle m) × (told m ≢ NoMemory))
+    → Eventually n (λ m. IsSameStep event (cycle m) × (flow m ≢ NoMemory))
 tried_at n i event same = record { later = 6 * n + i; after = omega arith; holds = (same, has_memory (6 * n + i)) }
 
 tries_all : TriesAll run

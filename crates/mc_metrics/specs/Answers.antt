@@ -1,9 +1,9 @@
 -- Answers to HTTP requests.
 use Rattle.std.specs.Prelude.{ℕ, ◌≡◌, ◌||◌, ◌++◌, Bool, true, List, [], ◌∷◌, bytes_eq, codes, if◌then◌else◌}
-use Rattle.mc_watch.specs.Counts.{AreTotals, EachIsShown, shards_of}
-use Rattle.mc_watch.specs.declared.counts.Counts.{Counts}
-use Rattle.mc_watch.specs.declared.counts.Totals.{Totals}
-use Rattle.mc_watch.specs.declared.shard_counts.ShardTotals.{ShardTotals}
+use Rattle.mc_telemetry.specs.Counts.{AreTotals, EachIsShown, shards_of}
+use Rattle.mc_telemetry.specs.declared.counts.Counts.{Counts}
+use Rattle.mc_telemetry.specs.declared.counts.Totals.{Totals}
+use Rattle.mc_telemetry.specs.declared.shard_counts.ShardTotals.{ShardTotals}
 use Rattle.mc_metrics.specs.declared.pages.Target.{Target}
 use Rattle.mc_metrics.specs.declared.process.Process.{Process}
 use Rattle.mc_metrics.specs.declared.pages.Target.TheVariants.{Metrics, Health, Page, Nothing}

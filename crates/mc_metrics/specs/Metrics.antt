@@ -2,9 +2,9 @@
 use Rattle.std.specs.Prelude.{ℕ, List, [], ◌∷◌, ◌++◌, ◌-◌, ◌/◌, ◌%◌, codes}
 use Rattle.std.specs.Fmt.{decimal}
 use Rattle.std.specs.List.{concat}
-use Rattle.mc_watch.specs.declared.counts.EndTotals.{EndTotals}
-use Rattle.mc_watch.specs.declared.shard_counts.CommandTotals.{CommandTotals}
-use Rattle.mc_watch.specs.declared.shard_counts.ShardTotals.{ShardTotals}
+use Rattle.mc_telemetry.specs.declared.counts.EndTotals.{EndTotals}
+use Rattle.mc_telemetry.specs.declared.shard_counts.CommandTotals.{CommandTotals}
+use Rattle.mc_telemetry.specs.declared.shard_counts.ShardTotals.{ShardTotals}
 use Rattle.mc_metrics.specs.declared.reading.Reading.{Reading}
 use Rattle.mc_metrics.specs.declared.text.CommandKind.{CommandKind}
 use Rattle.mc_metrics.specs.declared.text.CommandKind.TheVariants.{Get, Set, Cas, Touch, Delete, Incr, Decr, Flush}

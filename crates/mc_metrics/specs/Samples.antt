@@ -1,8 +1,8 @@
 -- The samples of the last minutes.
 use Rattle.std.specs.Prelude.{◌≡◌, ◌++◌, ℕ, List, [], ◌∷◌, drop, length, nat_lt, if◌then◌else◌}
-use Rattle.mc_watch.specs.Counts.{AreTotals}
-use Rattle.mc_watch.specs.declared.counts.Counts.{Counts}
-use Rattle.mc_watch.specs.declared.counts.Totals.{Totals}
+use Rattle.mc_telemetry.specs.Counts.{AreTotals}
+use Rattle.mc_telemetry.specs.declared.counts.Counts.{Counts}
+use Rattle.mc_telemetry.specs.declared.counts.Totals.{Totals}
 use Rattle.mc_metrics.specs.declared.history.TheConstants.{KEPT}
 
 -- the samples with one appended; the oldest one is dropped if the history is full

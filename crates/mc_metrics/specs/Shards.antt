@@ -1,7 +1,7 @@
 -- The text of the metrics of each shard, in Prometheus' format.
 use Rattle.std.specs.Prelude.{ℕ, List, [], ◌∷◌, ◌++◌, ◌+◌, codes, flat_map}
 use Rattle.std.specs.Fmt.{decimal}
-use Rattle.mc_watch.specs.declared.shard_counts.ShardTotals.{ShardTotals}
+use Rattle.mc_telemetry.specs.declared.shard_counts.ShardTotals.{ShardTotals}
 use Rattle.mc_metrics.specs.declared.by_shard.ShardMetric.{ShardMetric}
 use Rattle.mc_metrics.specs.declared.by_shard.ShardMetric.TheVariants.{Items, Bytes, Evicted, OutOfMemory}
 

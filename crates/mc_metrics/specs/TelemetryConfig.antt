@@ -4,10 +4,10 @@ use Rattle.std.specs.Prelude.{option_map, if◌then◌else◌}
 use Rattle.mc_command.specs.Rules.{is_drop_in}
 use Rattle.mc_sizes.specs.Sizes.{rules_of}
 use Rattle.mc_sizes.specs.declared.sizes.Sizes.{Sizes}
-use Rattle.mc_watch.specs.Counts.{shard_count, threads_of}
-use Rattle.mc_watch.specs.declared.counter.Counter.{Counter}
-use Rattle.mc_watch.specs.declared.counts.Counts.{Counts}
-use Rattle.mc_watch.specs.declared.telemetry.Telemetry.{Telemetry}
+use Rattle.mc_telemetry.specs.Counts.{shard_count, threads_of}
+use Rattle.mc_telemetry.specs.declared.counter.Counter.{Counter}
+use Rattle.mc_telemetry.specs.declared.counts.Counts.{Counts}
+use Rattle.mc_telemetry.specs.declared.telemetry.Telemetry.{Telemetry}
 use Rattle.mc_metrics.specs.declared.telemetry.TelemetryConfig.{TelemetryConfig}
 
 -- the number of reporters if connections are logged: one for each slot, and one for the accepting thread

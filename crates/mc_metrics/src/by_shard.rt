@@ -2,7 +2,7 @@
 ghost use Rattle.std.specs.Prelude.{◌≡◌, ◌++◌, OnOk, flat_map, string_bytes};
 ghost use Rattle.mc_metrics.specs.Shards.{head_of, name_of, shard_line, shard_lines, text_of, shards_text, value_of};
 
-use mc_watch::ShardTotals;
+use mc_telemetry::ShardTotals;
 use std::alloc::AllocError;
 
 /// A metric that is reported for each shard.

@@ -1,7 +1,7 @@
 //! Samples of the last ten minutes.
 ghost use Rattle.std.specs.Prelude.{◌≡◌, [], IfOk};
 
-use mc_watch::Totals;
+use mc_telemetry::Totals;
 use std::alloc::{AllocError, Global};
 use std::marker::Model;
 
@@ -18,7 +18,7 @@ impl Model for History {
     ghost use Rattle.std.specs.Prelude.{List, ◌≤◌, length};
     ghost use Rattle.std.specs.Vec.{vec_capacity};
     ghost use Rattle.mc_metrics.specs.declared.history.TheConstants.{KEPT};
-    ghost use Rattle.mc_watch.specs.declared.counts.Totals.{Totals};
+    ghost use Rattle.mc_telemetry.specs.declared.counts.Totals.{Totals};
 
     ghost Value = { List Totals };
 

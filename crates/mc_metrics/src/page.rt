@@ -6,7 +6,7 @@ use crate::amounts::{Unit, percent_of, push_amount, push_bytes, push_duration, p
 use crate::history::KEPT;
 use crate::process::Process;
 use crate::reading::{Facts, Reading};
-use mc_watch::{CommandTotals, ShardTotals, Totals};
+use mc_telemetry::{CommandTotals, ShardTotals, Totals};
 use std::alloc::{AllocError, Global};
 
 /// Sampling interval in seconds.

@@ -1,6 +1,6 @@
 //! Answers to HTTP requests.
 ghost use Rattle.std.specs.Prelude.{◌≡◌, ◌≤◌, ◌<◌, ◌/◌, [], IfOk, string_bytes};
-ghost use Rattle.mc_watch.specs.Counts.{AreTotals, SameCounts};
+ghost use Rattle.mc_telemetry.specs.Counts.{AreTotals, SameCounts};
 ghost use Rattle.mc_metrics.specs.Answers.{AreMetrics, IsAnswer, IsTextAt, is_read, status_at, target_of};
 ghost use Rattle.mc_metrics.specs.Samples.{Samples};
 ghost use Rattle.mc_metrics.specs.Backlog.{AreWaiting};
@@ -16,7 +16,7 @@ use crate::text::metrics_of;
 use bytes::Bytes;
 use http::{HeaderValue, Request, StatusCode, header};
 use http_server::{Response, Service};
-use mc_watch::{Count, Counter, Counts};
+use mc_telemetry::{Count, Counter, Counts};
 use std::alloc::{AllocError, Global};
 use std::fs::File;
 use std::rt::Files;

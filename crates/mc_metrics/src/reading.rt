@@ -1,6 +1,6 @@
 //! The state of a server at one time, as input of metrics and page.
 use crate::process::Process;
-use mc_watch::Totals;
+use mc_telemetry::Totals;
 
 /// Configuration of the server.
 #[derive(Clone, Copy)]

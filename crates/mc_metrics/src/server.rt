@@ -1,7 +1,7 @@
 //! The thread that serves metrics. See docs/DECISIONS.md, W4.
 use crate::pages::Pages;
 use crate::visitor::{Visit, Visitor};
-use mc_watch::StopToken;
+use mc_telemetry::StopToken;
 use mio::net::{TcpListener, TcpStream};
 use mio::{Events, Interest, Poll, Token};
 use std::alloc::Global;

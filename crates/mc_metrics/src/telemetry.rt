@@ -7,7 +7,7 @@ use crate::pages::Pages;
 use crate::reading::Facts;
 use crate::server::MetricsServer;
 use mc_sizes::Sizes;
-use mc_watch::{
+use mc_telemetry::{
     CoarseClock, Counts, Drain, IdleLimit, Reporter, Reports, Shutdown, Signals, StopToken,
     Telemetry, reporters,
 };

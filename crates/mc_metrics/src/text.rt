@@ -3,7 +3,7 @@ ghost use Rattle.std.specs.Prelude.{◌≡◌, ◌++◌, IfOk, OnOk, flat_map, s
 ghost use Rattle.mc_metrics.specs.Metrics.{asked_text, command_name, command_text, commands_text, cpu_text, end_text, ended_text, ends_text, metric_text, metrics_text, number_of, reason_count, reason_name, status_text, told_text, totals_of, version_text};
 
 use crate::reading::Reading;
-use mc_watch::{CommandTotals, EndTotals, ShardTotals};
+use mc_telemetry::{CommandTotals, EndTotals, ShardTotals};
 use std::alloc::{AllocError, Global};
 
 /// A metric with one sample: name, type, HELP text and value.

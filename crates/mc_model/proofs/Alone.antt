@@ -33,7 +33,7 @@ use Rattle.mc_model.specs.Law.{LinkLaw}
 use Rattle.mc_model.specs.Alone.{HadMemory, IsAlone, States, alone, alone_from, empty_shards, ended, outcome_at}
 use Rattle.mc_model.specs.Alone.{with_state}
 use Rattle.mc_model.proofs.Links.{ran_within}
-use Rattle.mc_model.proofs.Follows.{come_in_log, told}
+use Rattle.mc_model.proofs.Follows.{come_in_log, flow}
 
 -- A shard may have run these, one after another.
 abbrev pub RunOf : State → List Ran → State → Type 0
@@ -222,7 +222,7 @@ gets_alone sizes w k link some l lawful unbroken rest by =
     (IsAllTaken sizes link × IsAllSent sizes link × (link.handed ≡ length link.taken))) unbroken rest in
     let handed = all.2 in
     let whole : take link.handed link.taken ≡ link.taken = take_all link.handed link.taken (omega (arith, handed)) in
-    let t = told sizes own link l in
+    let t = flow sizes own link l in
     let accepted = replies_in own in
     let history = history_of sizes.shards accepted (take link.handed link.taken) in
     let had_all : AllHad accepted = subst (λ es. AllHad (replies_in es)) (sym mine) (had_replies w.log by.had) in

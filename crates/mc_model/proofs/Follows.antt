@@ -41,9 +41,9 @@ come_in_log sizes own link l s =
 
 -- By the law, the commands handed out have their replies, with the answers that the shards gave, in their
 -- order.
-pub told : (sizes : Sizes) (own : List Entry) (link : Link) → LinkLaw sizes own link
+pub flow : (sizes : Sizes) (own : List Entry) (link : Link) → LinkLaw sizes own link
     → Tells sizes.shards link.taken (replies_in own) (answers own) link.handed
-told sizes own link l =
+flow sizes own link l =
     tells sizes.shards link.handed link.taken (replies_in own) (answers own) l.handed l.may l.fits
     (come_in_log sizes own link l)
 
@@ -52,7 +52,7 @@ pub are_replies : (sizes : Sizes) (w : World) (k : ℕ) (link : Link) → LinkLa
     → AreReplies sizes w k link
 are_replies sizes w k link l =
     let own = of_asker k w.log in
-    let t = told sizes own link l in
+    let t = flow sizes own link l in
     record {
       begins = l.begins;
       whole =
@@ -66,7 +66,7 @@ are_replies sizes w k link l =
 are_all_replies : (sizes : Sizes) (w : World) (k : ℕ) (link : Link) → LinkLaw sizes (of_asker k w.log) link
     → IsAllTaken sizes link → link.handed ≡ length link.taken → AreAllReplies sizes w k link
 are_all_replies sizes w k link l all handed =
-    let t = told sizes (of_asker k w.log) link l in
+    let t = flow sizes (of_asker k w.log) link l in
     record {
       commands = all;
       answered = subst (λ n. AllByRecursion (IsAnswered sizes.shards) (history sizes w k link n)) handed t.answered;

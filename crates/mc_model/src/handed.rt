@@ -3,7 +3,7 @@ ghost use Rattle.std.specs.Prelude.{◌≡◌, ◌<◌, List, false};
 ghost use Rattle.mc_sizes.specs.declared.sizes.Sizes.{Sizes};
 ghost use Rattle.mc_conn.specs.declared.conn.Conn.{Conn};
 ghost use Rattle.mc_conn.specs.Conn.{IsConn};
-ghost use Rattle.mc_conn.specs.Told.{Told, IsAtRest, handed_text};
+ghost use Rattle.mc_conn.specs.Flow.{Flow, IsAtRest, handed_text};
 ghost use Rattle.mc_model.specs.Log.{Entry};
 ghost use Rattle.mc_model.specs.Alone.{alone};
 ghost use Rattle.mc_model.specs.Served.{IsServedAlone};
@@ -12,7 +12,7 @@ ghost use Rattle.mc_model.specs.Served.{IsServedAlone};
 /// refused. At rest, the connection was then sent the replies to its commands, each run completely
 /// before the next. The times at which pieces were sent and answers came don't matter.
 pub fn a_connection_is_served_as_alone()
-    ensures { (sizes : Sizes) (conn : Conn) (told : Told) (log : List Entry) → 0 < sizes.shards →
-        IsConn conn told → told.broken ≡ false → IsAtRest told → IsServedAlone sizes told log →
-        handed_text told ≡ alone sizes told.taken }
+    ensures { (sizes : Sizes) (conn : Conn) (flow : Flow) (log : List Entry) → 0 < sizes.shards →
+        IsConn conn flow → flow.broken ≡ false → IsAtRest flow → IsServedAlone sizes flow log →
+        handed_text flow ≡ alone sizes flow.taken }
 {}

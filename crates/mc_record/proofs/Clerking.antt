@@ -36,8 +36,8 @@ use Rattle.mc_history.proofs.Roles.{own_yes}
 use Rattle.mc_history.proofs.Seats.{ran_grows, seats_took, taken_same, work_opened, work_stays, work_took}
 use Rattle.mc_history.proofs.Seeing.{added_commands, added_opening, heard_commands, lawful_before, own_all, part_added}
 use Rattle.mc_history.proofs.Seeing.{part_heard, part_of}
-use Rattle.mc_seat.specs.Clerk.{AddsWork, IsDueAt}
-use Rattle.mc_seat.specs.Place.{Place, bytes_seen}
+use Rattle.mc_transport.specs.Clerk.{AddsWork, IsDueAt}
+use Rattle.mc_transport.specs.Place.{Place, bytes_seen}
 use Rattle.mc_record.specs.Clerk.{HasOpened, IsSeatActor, answers_at, connection_of, last_after, place_of, taken_now}
 use Rattle.mc_record.specs.Clerk.{work_at}
 

@@ -15,7 +15,7 @@ use Rattle.mc_join.specs.Replies.{replies}
 use Rattle.mc_conn.specs.Due.{due, pending_replies_of}
 use Rattle.mc_conn.specs.Fits.{Fits}
 use Rattle.mc_conn.specs.History.{Taken, carried_out}
-use Rattle.mc_conn.specs.Told.{Told, all_texts, commands_of}
+use Rattle.mc_conn.specs.Flow.{Flow, all_texts, commands_of}
 use Rattle.mc_conn.proofs.Logged.{due_carried, pending_replies_carried}
 use Rattle.mc_model.specs.Grows.{Lengthens}
 use Rattle.mc_model.specs.Headline.{replies_to}
@@ -29,21 +29,21 @@ use Rattle.mc_history.proofs.Ending.{ChannelOfLast, channel_of_last}
 use Rattle.mc_history.proofs.Holds.{holds}
 use Rattle.mc_history.proofs.Replying.{replies_begin}
 use Rattle.mc_history.proofs.Writing.{begins_texts}
-use Rattle.mc_seat.specs.Clerk.{IsKept}
+use Rattle.mc_transport.specs.Clerk.{IsKept}
 use Rattle.mc_record.specs.Clerk.{HasOpened, IsOwed, IsSeatActor, answers_at, connection_of, taken_now, work_at}
 use Rattle.mc_record.proofs.Clerking.{drop_front}
 
 -- as many replies were received before as there was work of earlier connections
-settled_at : (actor : Acting) (before : Ends Near) (told : Told) (received : ℕ → List Shown) (s : ℕ)
-    → IsKept (work_at actor) (taken_now actor) (answers_at actor) before told received → told.shards
-    ≡ actor.name.sizes.shards → s < told.shards
+settled_at : (actor : Acting) (before : Ends Near) (flow : Flow) (received : ℕ → List Shown) (s : ℕ)
+    → IsKept (work_at actor) (taken_now actor) (answers_at actor) before flow received → flow.shards
+    ≡ actor.name.sizes.shards → s < flow.shards
     → (channel : ChannelOfLast actor.name.sizes (seat_of actor.role) s (connection_of actor) actor.events)
     → length channel.earlier ≡ length (received_on before s)
-settled_at actor before told received s kept same below channel =
+settled_at actor before flow received s kept same below channel =
     let sizes = actor.name.sizes in
     let k = connection_of actor in
     let work = work_on sizes.shards (seat_of actor.role) s actor.events in
-    let dues = due told.shards s (taken_now actor) in
+    let dues = due flow.shards s (taken_now actor) in
     let own = due sizes.shards s (taken_now actor) in
     let all : length (map request.Piece (work_at actor s)) ≡ length (sent_on before s ++ map request.Piece dues) =
     ap length (kept.work_is s below) in
@@ -61,11 +61,11 @@ settled_at actor before told received s kept same below channel =
     omega (arith, all, pieces, seconds, sent, requests, split, parts, each, here, settled)
 
 -- what was received of a shard begins what it ran for the connection
-came_at : (actor : Acting) (before : Ends Near) (told : Told) (received : ℕ → List Shown) (s : ℕ) → IsSeatActor actor
-    → HasOpened actor → IsKept (work_at actor) (taken_now actor) (answers_at actor) before told received → told.shards
-    ≡ actor.name.sizes.shards → s < told.shards
+came_at : (actor : Acting) (before : Ends Near) (flow : Flow) (received : ℕ → List Shown) (s : ℕ) → IsSeatActor actor
+    → HasOpened actor → IsKept (work_at actor) (taken_now actor) (answers_at actor) before flow received → flow.shards
+    ≡ actor.name.sizes.shards → s < flow.shards
     → Lengthens (received s) (by_shard (of_asker (connection_of actor) (ran_in actor.events)) s)
-came_at actor before told received s is last kept same below =
+came_at actor before flow received s is last kept same below =
     let sizes = actor.name.sizes in
     let c = seat_of actor.role in
     let channel = channel_of_last sizes c s (connection_of actor) actor.events is.lawful last in
@@ -78,7 +78,7 @@ came_at actor before told received s is last kept same below =
           ∙ (sym (drop-map reply_to n ran)
           ∙ (ap (λ l. drop n l) (came.1 ∙ append_assoc front (received s) came.0)
           ∙ (ap (λ j. drop j (front ++ (received s ++ came.0)))
-          (settled_at actor before told received s kept same below channel)
+          (settled_at actor before flow received s kept same below channel)
           ∙ drop_front front (received s ++ came.0)))),
     )
 
@@ -97,31 +97,31 @@ fits_carried shards taken accepted received fits = record {
 -- the replies to the connection begin those by the history
 texts_at : (actor : Acting) (begin now : Sight) (bytes : List ℕ) → IsSeatActor actor
     → (has : IsOwed actor begin now bytes)
-    → Lengthens (all_texts has.owed.told)
+    → Lengthens (all_texts has.owed.flow)
     (replies_to actor.name.sizes (world_in actor.events) (connection_of actor)
     (link_in (connection_of actor) actor.events))
 texts_at actor begin now bytes is has =
     let owed = has.owed in
     let sizes = actor.name.sizes in
     let k = connection_of actor in
-    let told = owed.told in
+    let flow = owed.flow in
     let own = of_asker k (ran_in actor.events) in
-    let fits = subst (λ n. Fits n told.taken told.accepted owed.received) owed.shards_are owed.kept.fits in
-    let fits' = fits_carried sizes.shards told.taken (replies_in own) (by_shard own)
+    let fits = subst (λ n. Fits n flow.taken flow.accepted owed.received) owed.shards_are owed.kept.fits in
+    let fits' = fits_carried sizes.shards flow.taken (replies_in own) (by_shard own)
     (subst (λ ts. Fits sizes.shards ts (replies_in own) (by_shard own)) owed.recorded
     (history_fits sizes k actor.events is.lawful)) in
     let came : (s : ℕ) → s < sizes.shards → Lengthens (owed.received s) (by_shard own s) =
-    λ s below. came_at actor owed.before told owed.received s is has.opened owed.kept owed.shards_are
+    λ s below. came_at actor owed.before flow owed.received s is has.opened owed.kept owed.shards_are
     (subst (λ n. s < n) (sym owed.shards_are) below) in
     let there = subst (λ n. 0 < n) owed.shards_are owed.some_shards in
-    let grown = replies_begin sizes.shards told.taken told.accepted (replies_in own) owed.received (by_shard own) there
+    let grown = replies_begin sizes.shards flow.taken flow.accepted (replies_in own) owed.received (by_shard own) there
     fits fits' came in
     let pending_replies : pending_replies_of sizes.shards (taken_in k actor.events)
-    ≡ pending_replies_of sizes.shards told.taken =
-    ap (λ ts. pending_replies_of sizes.shards ts) owed.recorded ∙ pending_replies_carried sizes.shards told.taken in
+    ≡ pending_replies_of sizes.shards flow.taken =
+    ap (λ ts. pending_replies_of sizes.shards ts) owed.recorded ∙ pending_replies_carried sizes.shards flow.taken in
     let all = replies (pending_replies_of sizes.shards (taken_in k actor.events)) (replies_in own) in
-    subst (λ n. Lengthens (replies (pending_replies_of n told.taken) told.accepted) all) (sym owed.shards_are)
-    (subst (λ fs. Lengthens (replies (pending_replies_of sizes.shards told.taken) told.accepted)
+    subst (λ n. Lengthens (replies (pending_replies_of n flow.taken) flow.accepted) all) (sym owed.shards_are)
+    (subst (λ fs. Lengthens (replies (pending_replies_of sizes.shards flow.taken) flow.accepted)
     (replies fs (replies_in own))) (sym pending_replies) grown)
 
 -- What the line is owed may be written to it.
@@ -131,24 +131,24 @@ owed_may actor begin now bytes is has =
     let owed = has.owed in
     let sizes = actor.name.sizes in
     let k = connection_of actor in
-    let told = owed.told in
+    let flow = owed.flow in
     let kept = holds sizes actor.events is.lawful in
     let texts = texts_at actor begin now bytes is has in
     record {
       lawful = kept.steps;
       once = kept.in_order;
       owned = kept.owned;
-      read = told.fed ++ owed.unread;
+      read = flow.fed ++ owed.unread;
       written = owed.written;
       read_is = owed.read_is;
       written_is = owed.written_is;
-      taken = told.taken;
-      covers = subst (λ rules. BeginCommands rules (told.fed ++ owed.unread) (commands_of told.taken)) owed.rules_are
-          (begin_more told.rules told.fed owed.unread (commands_of told.taken) owed.sound.begin);
+      taken = flow.taken;
+      covers = subst (λ rules. BeginCommands rules (flow.fed ++ owed.unread) (commands_of flow.taken)) owed.rules_are
+          (begin_more flow.rules flow.fed owed.unread (commands_of flow.taken) owed.sound.begin);
       may = owed.sound.may;
       recorded = owed.recorded;
       rest = owed.rest ++ concat texts.0;
       next =
-          begins_texts owed.written bytes owed.rest (all_texts told)
+          begins_texts owed.written bytes owed.rest (all_texts flow)
           (replies_to sizes (world_in actor.events) k (link_in k actor.events)) owed.next texts;
     }

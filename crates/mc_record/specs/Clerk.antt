@@ -10,8 +10,8 @@ use Rattle.mc_history.specs.Lawful.{IsHistory}
 use Rattle.mc_history.specs.Roles.{seat_of}
 use Rattle.mc_history.specs.Tokens.{Acting}
 use Rattle.mc_history.specs.Worlds.{IsLastOn, numbers_on, ran_on, seats_in, taken_in, work_on}
-use Rattle.mc_seat.specs.Clerk.{IsOwed as IsOwedBy}
-use Rattle.mc_seat.specs.Place.{Place, bytes_seen}
+use Rattle.mc_transport.specs.Clerk.{IsOwed as IsOwedBy}
+use Rattle.mc_transport.specs.Place.{Place, bytes_seen}
 
 -- It acts for a seat that is there, and has seen a lawful history.
 pub record IsSeatActor (actor : Acting) : Type 0 where

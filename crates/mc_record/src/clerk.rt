@@ -15,7 +15,7 @@ ghost use Rattle.mc_record.specs.Clerk.{HasOpened, IsSeatActor, connection_of, t
 use mc_conn::Conn;
 use mc_history::{Evidence, Member};
 use mc_ring::Reply;
-use mc_seat::Clerk;
+use mc_transport::Clerk;
 use std::marker::Model;
 
 /// A seat's actor, which adds to its history what the seat's connections take. Contracts see the

@@ -305,7 +305,7 @@ record Times : Type 0 where
       (there (record (item (codes "x")) { expiry = At 1030 }))
       ≡ codes "HD W\r\n"
   -- A later client sees that another one was asked to recompute.
-  someone_was_told : reply_on (shard 1) (line (codes "mg a\r")) (there (record (item (codes "x")) { sent = true }))
+  someone_was_flow : reply_on (shard 1) (line (codes "mg a\r")) (there (record (item (codes "x")) { sent = true }))
       ≡ codes "HD Z\r\n"
   -- A client that creates an item by a get is asked to fill it; `T` and `R` do nothing then.
   made_by_a_get : reply_on (shard 0) (line (codes "mg a N30 T99 R50 t h l f s c v\r")) None
@@ -315,10 +315,10 @@ record Times : Type 0 where
       (there (record (item []) { expiry = At 1030; sent = true }))
       ≡ codes "HD t30 Z\r\n"
   -- The first client to see a stale item is asked to recompute it,
-  stale_and_told : reply_on (shard 2) (line (codes "mg a v\r")) (there (record (item (codes "6")) { stale = true }))
+  stale_and_flow : reply_on (shard 2) (line (codes "mg a v\r")) (there (record (item (codes "6")) { stale = true }))
       ≡ codes "VA 1 W X\r\n6\r\n"
   -- the second one is not.
-  stale_and_not_told : reply_on (shard 2) (line (codes "mg a\r"))
+  stale_and_not_flow : reply_on (shard 2) (line (codes "mg a\r"))
       (there (record (item (codes "6")) { stale = true; sent = true }))
       ≡ codes "HD X Z\r\n"
   -- ms in append ignores `F` and `T`; `s` is the size that is stored.

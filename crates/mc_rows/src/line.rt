@@ -1,11 +1,11 @@
 //! A line in memory that is cut into pieces and may fail.
 ghost use Rattle.std.specs.Prelude.{◌≡◌, None, IsTrue, false};
 ghost use Rattle.mc_history.specs.Places.{place_in};
-ghost use Rattle.mc_seat.specs.Place.{place_by, unbegun};
-ghost use Rattle.mc_wire.specs.Sink.{Untold, sight_out};
+ghost use Rattle.mc_transport.specs.Place.{place_by, unbegun};
+ghost use Rattle.mc_wire.specs.Sink.{Unlisted, sight_out};
 
 use mc_history::Evidence;
-use mc_seat::{Transport, TransportError};
+use mc_transport::{Transport, TransportError};
 use mc_wire::SinkError;
 use std::alloc::Global;
 use std::snapshot::Snapshot;
@@ -48,7 +48,7 @@ impl<'a> MemoryLine<'a> {
         history: &Evidence,
     ) -> MemoryLine<'a>
         ensures { place_by place_in result.history.value.name result.begun.value
-            (sight_out Untold false) ≡ unbegun history.now.name }
+            (sight_out Unlisted false) ≡ unbegun history.now.name }
     {
         let begun: Option<Evidence> = None;
         MemoryLine {
@@ -110,22 +110,22 @@ impl<'a> MemoryLine<'a> {
 impl Transport for MemoryLine<'_> {
     ghost use Rattle.std.specs.Prelude.{false};
     ghost use Rattle.mc_history.specs.Places.{place_in};
-    ghost use Rattle.mc_seat.specs.Place.{place_by};
-    ghost use Rattle.mc_wire.specs.Sink.{Untold, sight_out};
+    ghost use Rattle.mc_transport.specs.Place.{place_by};
+    ghost use Rattle.mc_wire.specs.Sink.{Unlisted, sight_out};
 
     type Warrant = Evidence;
 
     ghost sight = { λ line.
         record {
-          given = Untold;
+          given = Unlisted;
           ended = line.ended;
           reads = None;
-          taken = Untold;
+          taken = Unlisted;
           failed = line.failed;
         } };
 
     ghost place = { λ line.
-        place_by place_in line.history.value.name line.begun.value (sight_out Untold false) };
+        place_by place_in line.history.value.name line.begun.value (sight_out Unlisted false) };
 
     fn begin(&mut self, seen: Evidence) {
         let begun = Some(seen);

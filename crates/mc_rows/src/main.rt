@@ -12,7 +12,7 @@ mod row;
 use held::{blocks_held, is_bounded};
 use line::{Cutting, MemoryLine};
 use mc_command::Profile;
-use mc_seat::Served;
+use mc_transport::Served;
 use mc_server::{FixedClock, open_one, serve_one};
 use mc_sizes::{DEFAULT_RING, MAX_BUDGET, MIN_BUDGET, Sizes};
 use mc_wire::{DEFAULT_LINE_LIMIT, MAX_VALUE_LIMIT};

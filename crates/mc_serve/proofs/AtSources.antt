@@ -7,7 +7,7 @@ use Rattle.std.proofs.lemmas.Option.{same_Some}
 use Rattle.mc_sizes.specs.Sizes.{rules_of}
 use Rattle.mc_sizes.specs.declared.sizes.Sizes.{Sizes}
 use Rattle.mc_model.proofs.Lists.{all_from, all_unmap}
-use Rattle.mc_wake.specs.Zips.{Zips}
+use Rattle.mc_poll.specs.Zips.{Zips}
 use Rattle.mc_ring.specs.Channel.{Channel, Near}
 use Rattle.mc_ring.specs.Ends.{AreSameEnds}
 use Rattle.mc_ring.specs.EndsLaws.{same_ends-trans}
@@ -20,9 +20,9 @@ use Rattle.mc_history.specs.Tokens.{Acting, Sight as Shown}
 use Rattle.mc_record.specs.Clerk.{IsSeatActor}
 use Rattle.mc_record.specs.Closing.{IsWholeIn}
 use Rattle.mc_record.specs.Opening.{ActInOrder}
-use Rattle.mc_seat.specs.Explains.{IsLogOfLines, LineTold}
-use Rattle.mc_threads.specs.Routes.{AreOnRoutes}
-use Rattle.mc_doors.specs.Told.{SourceTold}
+use Rattle.mc_transport.specs.Explains.{IsLogOfLines, LineFlow}
+use Rattle.mc_session.specs.Routes.{AreOnRoutes}
+use Rattle.mc_net.specs.Flow.{SourceFlow}
 use Rattle.mc_serve.specs.Recorded.{IsClerkOf, route_from}
 use Rattle.mc_serve.specs.Seats.{SeatAt, SeatServes}
 use Rattle.mc_serve.specs.Served.{ExplainsSeat, PassEach, ServesSources, log_by}
@@ -34,7 +34,7 @@ use Rattle.mc_command.specs.declared.rules.Rules.{Rules}
 
 -- The slot of this number before and after the run, and the connections that it served.
 record IsSeatAt (shards : ℕ) (rules : Rules) (may_answer : ℕ → Type 0) (sats roses : List SeatAt) (number : ℕ)
-    (lines : List LineTold) : Type 0 where
+    (lines : List LineFlow) : Type 0 where
   sat : SeatAt
   rose : SeatAt
   at_sat : slice_get sats number ≡ Some sat
@@ -44,17 +44,17 @@ record IsSeatAt (shards : ℕ) (rules : Rules) (may_answer : ℕ → Type 0) (sa
 
 -- The connections that each slot served.
 record HaveLines (shards : ℕ) (rules : Rules) (may_answer : ℕ → Type 0) (sats roses : List SeatAt) : Type 0 where
-  seats : List (List LineTold)
+  seats : List (List LineFlow)
   back : PassEach (map (λ (sat : SeatAt). sat.source) sats) seats (map (λ (rose : SeatAt). rose.source) roses)
   count : length seats ≡ length sats
-  at : (number : ℕ) (lines : List LineTold) → slice_get seats number ≡ Some lines
+  at : (number : ℕ) (lines : List LineFlow) → slice_get seats number ≡ Some lines
       → IsSeatAt shards rules may_answer sats roses number lines
 
 seat_here : (shards : ℕ) (rules : Rules) (may_answer : ℕ → Type 0) (sat rose : SeatAt) (sats roses : List SeatAt)
-    (serves : SeatServes shards rules may_answer sat rose) (seats : List (List LineTold))
-    → ((number : ℕ) (lines : List LineTold) → slice_get seats number ≡ Some lines
+    (serves : SeatServes shards rules may_answer sat rose) (seats : List (List LineFlow))
+    → ((number : ℕ) (lines : List LineFlow) → slice_get seats number ≡ Some lines
     → IsSeatAt shards rules may_answer sats roses number lines)
-    → (number : ℕ) (lines : List LineTold) → slice_get (serves.lines ∷ seats) number ≡ Some lines
+    → (number : ℕ) (lines : List LineFlow) → slice_get (serves.lines ∷ seats) number ≡ Some lines
     → IsSeatAt shards rules may_answer (sat ∷ sats) (rose ∷ roses) number lines
 seat_here shards rules may_answer sat rose sats roses serves seats at zero lines here =
     record {
@@ -187,7 +187,7 @@ module _ (sizes : Sizes) (name : Name) (may_answer : ℕ → Type 0) (sats roses
         each = λ number lines here.
             let at = all.at number lines here in
             let clerk = clerk_at number at.rose at.at_rose in
-            let E : List LineTold → Type 0 = λ lines. ExplainsSeat sizes may_answer (log_by events) number lines in
+            let E : List LineFlow → Type 0 = λ lines. ExplainsSeat sizes may_answer (log_by events) number lines in
             subst E at.lines_are
             (explains_seat sizes number may_answer at.sat at.rose events at.serves
             (record {
@@ -199,10 +199,10 @@ module _ (sizes : Sizes) (name : Name) (may_answer : ℕ → Type 0) (sats roses
 
 -- These facts for any records that hold the slots' sources: `before` and `after` the run.
 module _ {S D : Type 0} (sizes : Sizes) (name : Name) (may_answer : ℕ → Type 0) (before after : List S)
-    (sources : List D) (at : S → SeatAt) (source_of : S → D) (told : D → SourceTold) where
+    (sources : List D) (at : S → SeatAt) (source_of : S → D) (flow : D → SourceFlow) where
   -- the facts after all threads were started and joined
   pub record AreJoined : Type 0 where
-    pub seen : (seat : S) → told (source_of seat) ≡ (at seat).source
+    pub seen : (seat : S) → flow (source_of seat) ≡ (at seat).source
     pub sources_are : map source_of before ≡ sources
     pub clerks : ActInOrder Seat name sizes.seats (map (λ seat. (at seat).clerk) before)
     pub fit : AllByRecursion (λ seat. IsClerkOf sizes (at seat).ends (at seat).clerk) before
@@ -235,26 +235,26 @@ module _ {S D : Type 0} (sizes : Sizes) (name : Name) (may_answer : ℕ → Type
       (have_ended known)))
 
   seen_all : AreJoined → (seats : List S) → map (λ (seat : SeatAt). seat.source) (map at seats)
-      ≡ map told (map source_of seats)
+      ≡ map flow (map source_of seats)
   seen_all known [] = refl
   seen_all known (seat ∷ seats) =
       ap (λ d. d ∷ map (λ (s : SeatAt). s.source) (map at seats)) (sym (known.seen seat))
-      ∙ ap (λ ds. told (source_of seat) ∷ ds) (seen_all known seats)
+      ∙ ap (λ ds. flow (source_of seat) ∷ ds) (seen_all known seats)
 
   -- All sources are served if each slot served its own, and a history has all that the clerks recorded.
   pub all_sources : 0 < sizes.shards → name.sizes ≡ sizes → AreJoined → (shown : Shown) → IsHistory sizes shown.events
       → AllByRecursion (λ (clerk : Acting). IsWholeIn shown.events clerk) (map (λ seat. (at seat).clerk) after)
       → (back : List D) → back ≡ map source_of after
-      → ServesSources sizes may_answer (map told sources) (map told back) shown
+      → ServesSources sizes may_answer (map flow sources) (map flow back) shown
   all_sources some sizes_are known shown lawful whole back reported =
-      let first : map (λ (sat : SeatAt). sat.source) (map at before) ≡ map told sources = seen_all known before
-      ∙ ap (map told) known.sources_are in
-      let last : map (λ (rose : SeatAt). rose.source) (map at after) ≡ map told back = seen_all known after
-      ∙ ap (map told) (sym reported) in
-      let P : List SourceTold → List SourceTold → Type 0 = λ ds es. ServesSources sizes may_answer ds es shown in
+      let first : map (λ (sat : SeatAt). sat.source) (map at before) ≡ map flow sources = seen_all known before
+      ∙ ap (map flow) known.sources_are in
+      let last : map (λ (rose : SeatAt). rose.source) (map at after) ≡ map flow back = seen_all known after
+      ∙ ap (map flow) (sym reported) in
+      let P : List SourceFlow → List SourceFlow → Type 0 = λ ds es. ServesSources sizes may_answer ds es shown in
       let all = serves_sources sizes name may_answer (map at before) (map at after) some (have_begun known) known.served
       (have_ended known) sizes_are shown lawful
       (all_map (λ (rose : SeatAt). IsWholeIn shown.events rose.clerk) at after
       (all_unmap (λ (clerk : Acting). IsWholeIn shown.events clerk) (λ seat. (at seat).clerk) after whole)) in
-      subst (λ es. P (map told sources) es) last
+      subst (λ es. P (map flow sources) es) last
       (subst (λ ds. P ds (map (λ (rose : SeatAt). rose.source) (map at after))) first all)

@@ -5,75 +5,75 @@ use Rattle.mc_wire.specs.Sink.{Sight}
 use Rattle.mc_ring.specs.Channel.{Near}
 use Rattle.mc_ring.specs.Ends.{AreSameEnds, Ends}
 use Rattle.mc_ring.specs.EndsLaws.{same_ends-refl, same_ends-trans}
-use Rattle.mc_seat.specs.Explains.{LineTold}
-use Rattle.mc_threads.proofs.Orders.{map_one}
-use Rattle.mc_doors.specs.Told.{Comes, SourceTold, IsFree, IsNext, Passes, TellsLines, TellsNothing, later, let_in}
-use Rattle.mc_doors.specs.Told.{took_back}
+use Rattle.mc_transport.specs.Explains.{LineFlow}
+use Rattle.mc_session.proofs.Orders.{map_one}
+use Rattle.mc_net.specs.Flow.{Comes, SourceFlow, IsFree, IsNext, Passes, TellsLines, TellsNothing, later, let_in}
+use Rattle.mc_net.specs.Flow.{took_back}
 use Rattle.mc_serve.specs.Seats.{SeatAt, ServesSourceLine, ServesLines}
 use Rattle.mc_command.specs.declared.rules.Rules.{Rules}
 
 -- A source that is unchanged has accepted and taken back no connection.
-pub passes_none : (source : SourceTold) → Passes source [] source
+pub passes_none : (source : SourceFlow) → Passes source [] source
 passes_none TellsNothing = refl
 passes_none (TellsLines None out back over) =
     (None, refl, ap (λ lines. TellsLines None out lines over) (sym (append-nil back)))
 passes_none (TellsLines (Some coming) out back over) =
     (Some coming, (coming, refl, refl), ap (λ lines. TellsLines (Some coming) out lines over) (sym (append-nil back)))
 
-come_left : (line : LineTold) (lines : List LineTold) (before left : List Sight) (out : Option Sight)
-    (back : List LineTold) (over : Bool) → before ≡ map (λ (l : LineTold). l.begin) lines ++ left
+come_left : (line : LineFlow) (lines : List LineFlow) (before left : List Sight) (out : Option Sight)
+    (back : List LineFlow) (over : Bool) → before ≡ map (λ (l : LineFlow). l.begin) lines ++ left
     → IsNext line.begin (TellsLines (Some left) out back over)
-    → Comes (Some before) (map (λ (l : LineTold). l.begin) (lines ++ line ∷ [])) (later (Some left))
+    → Comes (Some before) (map (λ (l : LineFlow). l.begin) (lines ++ line ∷ [])) (later (Some left))
 come_left line lines before [] out back over is next = absurd next
 come_left line lines before (x ∷ left) out back over is next =
-    let begins = map (λ (l : LineTold). l.begin) lines in (
+    let begins = map (λ (l : LineFlow). l.begin) lines in (
       left,
       is ∙ (ap (λ y. begins ++ y ∷ left) next
           ∙ (sym (append_assoc begins (line.begin ∷ []) left)
-          ∙ ap (λ ys. ys ++ left) (sym (map_one (λ (l : LineTold). l.begin) lines line)))),
+          ∙ ap (λ ys. ys ++ left) (sym (map_one (λ (l : LineFlow). l.begin) lines line)))),
       refl,
     )
 
-come_more : (line : LineTold) (lines : List LineTold) (coming rest : Option (List Sight)) (out : Option Sight)
-    (back : List LineTold) (over : Bool) → Comes coming (map (λ (l : LineTold). l.begin) lines) rest
+come_more : (line : LineFlow) (lines : List LineFlow) (coming rest : Option (List Sight)) (out : Option Sight)
+    (back : List LineFlow) (over : Bool) → Comes coming (map (λ (l : LineFlow). l.begin) lines) rest
     → IsNext line.begin (TellsLines rest out back over)
-    → Comes coming (map (λ (l : LineTold). l.begin) (lines ++ line ∷ [])) (later rest)
+    → Comes coming (map (λ (l : LineFlow). l.begin) (lines ++ line ∷ [])) (later rest)
 come_more line lines None rest out back over comes next = ap later comes
 come_more line lines (Some before) rest out back over comes next =
     let P : Option (List Sight) → Type 0 = λ xs. IsNext line.begin (TellsLines xs out back over) in
     let Q : Option (List Sight) → Type 0 =
-    λ xs. Comes (Some before) (map (λ (l : LineTold). l.begin) (lines ++ line ∷ [])) (later xs) in
+    λ xs. Comes (Some before) (map (λ (l : LineFlow). l.begin) (lines ++ line ∷ [])) (later xs) in
     subst Q (sym comes.2) (come_left line lines before comes.0 out back over comes.1 (subst P comes.2 next))
 
 -- One more connection was accepted and taken back.
-pub passes_more : (first now accepted last : SourceTold) (lines : List LineTold) (line : LineTold) → IsFree first
+pub passes_more : (first now accepted last : SourceFlow) (lines : List LineFlow) (line : LineFlow) → IsFree first
     → Passes first lines now → IsNext line.begin now → accepted ≡ let_in line.begin now → last
     ≡ took_back line.now line.commands line.broke accepted → Passes first (lines ++ line ∷ []) last
 passes_more TellsNothing now accepted last lines line free passes next came back =
     back ∙ (ap (λ source. took_back line.now line.commands line.broke source) came
     ∙ ap (λ source. took_back line.now line.commands line.broke (let_in line.begin source)) passes)
-passes_more (TellsLines coming out told over) now accepted last lines line free passes next came back =
-    let P : SourceTold → Type 0 = λ source. IsNext line.begin source in
+passes_more (TellsLines coming out flow over) now accepted last lines line free passes next came back =
+    let P : SourceFlow → Type 0 = λ source. IsNext line.begin source in
     let rest = passes.0 in
-    let took : last ≡ TellsLines (later rest) None ((told ++ lines) ++ line ∷ []) over =
+    let took : last ≡ TellsLines (later rest) None ((flow ++ lines) ++ line ∷ []) over =
     back ∙ (ap (λ source. took_back line.now line.commands line.broke source) came
     ∙ ap (λ source. took_back line.now line.commands line.broke (let_in line.begin source)) passes.2) in (
       later rest,
-      come_more line lines coming rest out (told ++ lines) over passes.1 (subst P passes.2 next),
-      took ∙ (ap (λ one. TellsLines (later rest) one ((told ++ lines) ++ line ∷ []) over) (sym free)
-          ∙ ap (λ all. TellsLines (later rest) out all over) (append_assoc told lines (line ∷ []))),
+      come_more line lines coming rest out (flow ++ lines) over passes.1 (subst P passes.2 next),
+      took ∙ (ap (λ one. TellsLines (later rest) one ((flow ++ lines) ++ line ∷ []) over) (sym free)
+          ∙ ap (λ all. TellsLines (later rest) out all over) (append_assoc flow lines (line ∷ []))),
     )
 
 module _ (shards : ℕ) (rules : Rules) (may_answer : ℕ → Type 0) where
   -- A slot keeps its ends while it serves connections.
-  pub lines_same : (lines : List LineTold) (before after : Ends Near)
+  pub lines_same : (lines : List LineFlow) (before after : Ends Near)
       → ServesLines shards rules may_answer lines before after → AreSameEnds before after
   lines_same [] before after are = let P : Ends Near → Type 0 =
       λ ends. AreSameEnds before ends in subst P (sym are) (same_ends-refl before)
   lines_same (line ∷ lines) before after are =
       same_ends-trans before are.0 after are.1.served.exchanges.same (lines_same lines are.0 after are.2)
 
-  pub lines_more : (lines : List LineTold) (line : LineTold) (first now last : Ends Near)
+  pub lines_more : (lines : List LineFlow) (line : LineFlow) (first now last : Ends Near)
       → ServesLines shards rules may_answer lines first now → ServesSourceLine shards rules may_answer line now last
       → ServesLines shards rules may_answer (lines ++ line ∷ []) first last
   lines_more [] line first now last are this = let P : Ends Near → Type 0 =
@@ -82,12 +82,12 @@ module _ (shards : ℕ) (rules : Rules) (may_answer : ℕ → Type 0) where
 
   -- The connections of a slot, with one more that was served.
   pub record OneMore (sat rose : SeatAt) : Type 0 where
-    pub lines : List LineTold
+    pub lines : List LineFlow
     pub source : Passes sat.source lines rose.source
     pub lines_are : ServesLines shards rules may_answer lines sat.ends rose.ends
 
   -- A connection that is served after those before it, and then taken back, is one more that the slot served.
-  pub one_more : (sat rose : SeatAt) (lines : List LineTold) (line : LineTold) (before source : SourceTold)
+  pub one_more : (sat rose : SeatAt) (lines : List LineFlow) (line : LineFlow) (before source : SourceFlow)
       (ends : Ends Near) → IsFree sat.source → Passes sat.source lines before
       → IsNext line.begin before → source ≡ let_in line.begin before
       → rose.source ≡ took_back line.now line.commands line.broke source

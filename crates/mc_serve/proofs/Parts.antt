@@ -12,13 +12,13 @@ use Rattle.mc_history.specs.declared.knowledge.Role.TheVariants.{Seat}
 use Rattle.mc_history.specs.Tokens.{Acting}
 use Rattle.mc_record.specs.Clerk.{IsSeatActor}
 use Rattle.mc_record.specs.Opening.{ActInOrder}
-use Rattle.mc_seat.specs.declared.clerk.Clerk.{Ghosts}
-use Rattle.mc_seat.specs.declared.warrant.Warrant.{Ghosts as Warrants}
-use Rattle.mc_seat.specs.Place.{Place}
-use Rattle.mc_wake.specs.Zips.{Zips}
-use Rattle.mc_threads.specs.declared.session.Session.{Session}
-use Rattle.mc_threads.specs.Routes.{AreOnRoutes}
-use Rattle.mc_doors.specs.Told.{SourceTold}
+use Rattle.mc_transport.specs.declared.clerk.Clerk.{Ghosts}
+use Rattle.mc_transport.specs.declared.warrant.Warrant.{Ghosts as Warrants}
+use Rattle.mc_transport.specs.Place.{Place}
+use Rattle.mc_poll.specs.Zips.{Zips}
+use Rattle.mc_session.specs.declared.session.Session.{Session}
+use Rattle.mc_session.specs.Routes.{AreOnRoutes}
+use Rattle.mc_net.specs.Flow.{SourceFlow}
 use Rattle.mc_serve.specs.declared.connection_slot.SlotState.{SlotState}
 use Rattle.mc_serve.specs.declared.connection_slot.SlotState.TheVariants as slot_state
 use Rattle.mc_serve.specs.Seats.{CanStep, HasSatDown, SeatAt, SeatServes, SeatStands, seat_at}
@@ -27,70 +27,70 @@ use Rattle.mc_serve.proofs.Steps.{can_step, sits_first}
 use Rattle.mc_serve.proofs.Zipped.{met_at, zips_append}
 use Rattle.mc_serve.proofs.AtSources.{AreJoined}
 use Rattle.mc_command.specs.declared.rules.Rules.{Rules}
-use Rattle.mc_threads.specs.Session.{seat_clerk, seat_ends}
+use Rattle.mc_session.specs.Session.{seat_clerk, seat_ends}
 use Rattle.mc_ring.proofs.Lists.{all_append}
 
 -- The invariant of a slot that is any record, by functions for its source, its session and its state.
 abbrev pub Stands : {S L : Type 0} {T : Type 0} {w : Warrants T} {g : Ghosts Acting T} → (L → Place) → (L → Sight)
-    → (S → SourceTold) → (S → Session T Acting w g) → (S → SlotState L) → ℕ → Rules → (ℕ → Type 0) → SeatAt → S
+    → (S → SourceFlow) → (S → Session T Acting w g) → (S → SlotState L) → ℕ → Rules → (ℕ → Type 0) → SeatAt → S
     → Type 0
-Stands place sight told session now shards rules may_answer sat one =
-    SeatStands place sight shards rules may_answer sat (told one) (session one) (now one)
+Stands place sight flow session now shards rules may_answer sat one =
+    SeatStands place sight shards rules may_answer sat (flow one) (session one) (now one)
 
-abbrev pub at : {S : Type 0} {T : Type 0} {w : Warrants T} {g : Ghosts Acting T} → (S → SourceTold)
+abbrev pub at : {S : Type 0} {T : Type 0} {w : Warrants T} {g : Ghosts Acting T} → (S → SourceFlow)
     → (S → Session T Acting w g) → S → SeatAt
-at told session one = seat_at (told one) (seat_ends (session one)) (seat_clerk (session one))
+at flow session one = seat_at (flow one) (seat_ends (session one)) (seat_clerk (session one))
 
 -- New slots satisfy the invariant.
 pub seats_begin : {S L : Type 0} {T : Type 0} {w : Warrants T} {g : Ghosts Acting T} (seats : List S)
     (place : L → Place)
     (sight : L → Sight)
-    (told : S → SourceTold) (session : S → Session T Acting w g) (now : S → SlotState L) (shards : ℕ) (rules : Rules)
+    (flow : S → SourceFlow) (session : S → Session T Acting w g) (now : S → SlotState L) (shards : ℕ) (rules : Rules)
     (may_answer : ℕ → Type 0)
-    → AllByRecursion (λ one. HasSatDown shards rules (told one) (session one) (now one)) seats
-    → Zips (Stands place sight told session now shards rules may_answer) (map (at told session) seats) seats
-seats_begin [] place sight told session now shards rules may_answer all = tt
-seats_begin {S} {L} (one ∷ seats) place sight told session now shards rules may_answer all =
+    → AllByRecursion (λ one. HasSatDown shards rules (flow one) (session one) (now one)) seats
+    → Zips (Stands place sight flow session now shards rules may_answer) (map (at flow session) seats) seats
+seats_begin [] place sight flow session now shards rules may_answer all = tt
+seats_begin {S} {L} (one ∷ seats) place sight flow session now shards rules may_answer all =
     let down = all.0 in
     let P : SlotState L → Type 0 =
-    λ p. SeatStands place sight shards rules may_answer (at told session one) (told one) (session one) p in (
+    λ p. SeatStands place sight shards rules may_answer (at flow session one) (flow one) (session one) p in (
       subst P (sym down.none)
-          (sits_first shards rules may_answer (told one)
+          (sits_first shards rules may_answer (flow one)
           (session one) down.window down.free down.width down.vacant down.ruled),
-      seats_begin seats place sight told session now shards rules may_answer all.1,
+      seats_begin seats place sight flow session now shards rules may_answer all.1,
     )
 
 -- Slots whose channels are all closed have served their sources.
 pub seats_over : {S L : Type 0} {T : Type 0} {w : Warrants T} {g : Ghosts Acting T} (seats : List S)
     (sats : List SeatAt)
-    (place : L → Place) (sight : L → Sight) (told : S → SourceTold) (session : S → Session T Acting w g)
+    (place : L → Place) (sight : L → Sight) (flow : S → SourceFlow) (session : S → Session T Acting w g)
     (now : S → SlotState L) (shards : ℕ)
     (rules : Rules) (may_answer : ℕ → Type 0)
     → AllByRecursion (λ one. now one ≡ slot_state.Over) seats
-    → Zips (Stands place sight told session now shards rules may_answer) sats seats
-    → Zips (SeatServes shards rules may_answer) sats (map (at told session) seats)
-seats_over [] [] place sight told session now shards rules may_answer all zips = tt
-seats_over (one ∷ seats) [] place sight told session now shards rules may_answer all zips = absurd zips
-seats_over [] (sat ∷ sats) place sight told session now shards rules may_answer all zips = absurd zips
-seats_over {S} {L} (one ∷ seats) (sat ∷ sats) place sight told session now shards rules may_answer all zips =
-    let P : SlotState L → Type 0 = λ p. SeatStands place sight shards rules may_answer sat (told one) (session one) p in
-    (subst P all.0 zips.0, seats_over seats sats place sight told session now shards rules may_answer all.1 zips.1)
+    → Zips (Stands place sight flow session now shards rules may_answer) sats seats
+    → Zips (SeatServes shards rules may_answer) sats (map (at flow session) seats)
+seats_over [] [] place sight flow session now shards rules may_answer all zips = tt
+seats_over (one ∷ seats) [] place sight flow session now shards rules may_answer all zips = absurd zips
+seats_over [] (sat ∷ sats) place sight flow session now shards rules may_answer all zips = absurd zips
+seats_over {S} {L} (one ∷ seats) (sat ∷ sats) place sight flow session now shards rules may_answer all zips =
+    let P : SlotState L → Type 0 = λ p. SeatStands place sight shards rules may_answer sat (flow one) (session one) p in
+    (subst P all.0 zips.0, seats_over seats sats place sight flow session now shards rules may_answer all.1 zips.1)
 
 -- The slot at an index may be stepped, also after it has changed, if the invariant was kept.
 pub seat_steps : {S L : Type 0} {T : Type 0} {w : Warrants T} {g : Ghosts Acting T} (seats : List S)
     (sats : List SeatAt)
     (number : ℕ)
-    (one next : S) (place : L → Place) (sight : L → Sight) (told : S → SourceTold) (session : S → Session T Acting w g)
+    (one next : S) (place : L → Place) (sight : L → Sight) (flow : S → SourceFlow) (session : S → Session T Acting w g)
     (now : S → SlotState L)
     (shards : ℕ) (rules : Rules) (may_answer : ℕ → Type 0)
     → slice_get seats number ≡ Some one
-    → ((sat : SeatAt) → Stands place sight told session now shards rules may_answer sat one
-    → Stands place sight told session now shards rules may_answer sat next)
-    → Zips (Stands place sight told session now shards rules may_answer) sats seats
+    → ((sat : SeatAt) → Stands place sight flow session now shards rules may_answer sat one
+    → Stands place sight flow session now shards rules may_answer sat next)
+    → Zips (Stands place sight flow session now shards rules may_answer) sats seats
     → CanStep place sight may_answer (now next) (session next)
-seat_steps seats sats number one next place sight told session now shards rules may_answer here became zips =
-    let met = met_at (Stands place sight told session now shards rules may_answer) sats seats number one zips here in
-    can_step shards rules may_answer place sight met.one (told next) (session next) (now next) (became met.one met.met)
+seat_steps seats sats number one next place sight flow session now shards rules may_answer here became zips =
+    let met = met_at (Stands place sight flow session now shards rules may_answer) sats seats number one zips here in
+    can_step shards rules may_answer place sight met.one (flow next) (session next) (now next) (became met.one met.met)
 
 -- What is true of the first elements and of the next one is true of one element more.
 pub all_next : {A : Type 0} (xs : List A) (P : A → Type 0) (place : ℕ) (x : A) → slice_get xs place ≡ Some x → P x
@@ -178,9 +178,9 @@ zips_flat {P} {A} {B} (part ∷ parts) (part' ∷ parts') own f R zips =
 
 -- The facts about all slots, after the reactors of all threads are joined.
 pub parts_joined : {P S D : Type 0} (thread_group parts : List P) (sources : List D) (own : P → List S)
-    (at : S → SeatAt) (source_of : S → D) (told : D → SourceTold) (sizes : Sizes) (name : Name)
+    (at : S → SeatAt) (source_of : S → D) (flow : D → SourceFlow) (sizes : Sizes) (name : Name)
     (may_answer : ℕ → Type 0)
-    → ((seat : S) → told (source_of seat) ≡ (at seat).source)
+    → ((seat : S) → flow (source_of seat) ≡ (at seat).source)
     → map source_of (flat_map own thread_group) ≡ sources
     → ActInOrder Seat name sizes.seats (map (λ seat. (at seat).clerk) (flat_map own thread_group))
     → AllByRecursion (λ seat. IsClerkOf sizes (at seat).ends (at seat).clerk) (flat_map own thread_group)
@@ -188,8 +188,8 @@ pub parts_joined : {P S D : Type 0} (thread_group parts : List P) (sources : Lis
     (map at (own part'))) thread_group parts
     → AllByRecursion (λ seat. IsSeatActor (at seat).clerk) (flat_map own parts)
     → AllByRecursion (λ seat. AreOnRoutes (route_from (at seat).clerk) (at seat).ends) (flat_map own parts)
-    → AreJoined sizes name may_answer (flat_map own thread_group) (flat_map own parts) sources at source_of told
-parts_joined thread_group parts sources own at source_of told sizes name may_answer seen sources_are clerks fit done
+    → AreJoined sizes name may_answer (flat_map own thread_group) (flat_map own parts) sources at source_of flow
+parts_joined thread_group parts sources own at source_of flow sizes name may_answer seen sources_are clerks fit done
     actors routes =
     record {
       seen = seen;

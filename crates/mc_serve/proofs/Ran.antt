@@ -15,7 +15,7 @@ use Rattle.mc_model.specs.Grows.{Lengthens}
 use Rattle.mc_model.proofs.Growing.{further}
 use Rattle.mc_model.specs.Log.{Entry, Run, of_asker, on_shard, pieces_in, replies_in, reply_to}
 use Rattle.mc_model.specs.Sized.{empty_shard}
-use Rattle.mc_seat.specs.Explains.{IsLogOfLines}
+use Rattle.mc_transport.specs.Explains.{IsLogOfLines}
 use Rattle.mc_history.specs.declared.event.Event.{Event}
 use Rattle.mc_history.specs.declared.knowledge.Role.{Role}
 use Rattle.mc_history.specs.declared.knowledge.Role.TheVariants.{Seat}

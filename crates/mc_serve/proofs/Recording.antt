@@ -13,7 +13,7 @@ use Rattle.mc_model.specs.Sized.{empty_shard}
 use Rattle.mc_history.specs.declared.knowledge.Role.TheVariants.{Seat, Shard}
 use Rattle.mc_history.specs.Tokens.{Acting}
 use Rattle.mc_record.specs.Opening.{ActInOrder}
-use Rattle.mc_wake.specs.Zips.{Zips}
+use Rattle.mc_poll.specs.Zips.{Zips}
 use Rattle.mc_serve.specs.Recorded.{IsClerkOf, IsRecorderOf}
 use Rattle.mc_serve.proofs.Served.{none_read}
 use Rattle.mc_serve.proofs.Zipped.{zips_from}

@@ -1,7 +1,7 @@
 -- No outcome counts connections that it doesn't list, nor leaves out one that it lists.
 use Rattle.std.proofs.Common.{◌≡◌, ℕ, arith}
 use Rattle.mc_sizes.specs.declared.sizes.Sizes.{Sizes}
-use Rattle.mc_doors.specs.declared.stream.Stream.{Ghosts}
+use Rattle.mc_net.specs.declared.stream.Stream.{Ghosts}
 use Rattle.mc_serve.specs.Connections.{ServesConnections, how_many, seats_of}
 use Rattle.mc_serve.specs.declared.outcome.Outcome.{Outcome}
 

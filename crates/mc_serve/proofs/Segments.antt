@@ -15,7 +15,7 @@ use Rattle.mc_conn.specs.History.{AnsweredCommand, IsAnswered, Taken, entries_of
 use Rattle.mc_conn.specs.Due as due
 use Rattle.mc_conn.specs.Due.{Ran, history_of, ran_on}
 use Rattle.mc_conn.specs.Fits.{KeysFit, Serves, Tells, reply_of}
-use Rattle.mc_conn.specs.Told.{Told, all_texts, commands_of}
+use Rattle.mc_conn.specs.Flow.{Flow, all_texts, commands_of}
 use Rattle.mc_conn.proofs.Telling.{ran_on-same, tells}
 use Rattle.mc_model.specs.Log.{Entry, of_asker, on_shard, pieces_in, replies_in}
 use Rattle.mc_history.specs.declared.event.Event.{Event}
@@ -24,11 +24,11 @@ use Rattle.mc_history.specs.Lawful.{IsHistory}
 use Rattle.mc_history.specs.Roles.{seat_of}
 use Rattle.mc_history.specs.Worlds.{work_on}
 use Rattle.mc_record.specs.Closing.{IsWholeIn}
-use Rattle.mc_wake.specs.Zips.{Zips}
-use Rattle.mc_seat.specs.LineServed.{Exchanges}
-use Rattle.mc_seat.specs.Reads.{ReadsOwingNothing}
-use Rattle.mc_seat.specs.Story.{Story}
-use Rattle.mc_seat.specs.Explains.{LineTold, log_of}
+use Rattle.mc_poll.specs.Zips.{Zips}
+use Rattle.mc_transport.specs.LineServed.{Exchanges}
+use Rattle.mc_transport.specs.Reads.{ReadsOwingNothing}
+use Rattle.mc_transport.specs.Story.{Story}
+use Rattle.mc_transport.specs.Explains.{LineFlow, log_of}
 use Rattle.mc_serve.proofs.Line.{asked_by, entry_for, filter_keeps, map_on_shard, ran_shards, same_asker, shard_of}
 use Rattle.mc_serve.proofs.Ran.{AreRun, channel_run}
 use Rattle.mc_serve.proofs.Served.{all_come, entries_same, moments_of}
@@ -41,20 +41,20 @@ use Rattle.mc_ring.proofs.Lists.{all_take}
 use Rattle.mc_model.proofs.Alone.{ran_of, pieces_of_ran, replies_of_ran}
 
 -- The facts about a connection that was served, from what it took.
-pub record Core (may_answer : ℕ → Type 0) (line : LineTold) (before after : Ends Near) (told : Told)
+pub record Core (may_answer : ℕ → Type 0) (line : LineFlow) (before after : Ends Near) (flow : Flow)
     (received : ℕ → List Shown) : Type 0 where
-  pub exchanges : Exchanges before after told received
-  pub serves : Serves told.shards told.taken told.accepted received
-  pub story : Story told.rules line.begin line.now line.broke told.taken (all_texts told)
-  pub moments : AllByRecursion (λ (one : Taken). may_answer one.moment) told.taken
-  pub counted : line.commands ≡ length told.taken
-  pub fits : KeysFit told.shards told.taken received
-  pub reads : ReadsOwingNothing told.rules line.begin line.now (commands_of told.taken) (all_texts told)
-  pub complete : length (all_texts told) ≡ length told.taken
+  pub exchanges : Exchanges before after flow received
+  pub serves : Serves flow.shards flow.taken flow.accepted received
+  pub story : Story flow.rules line.begin line.now line.broke flow.taken (all_texts flow)
+  pub moments : AllByRecursion (λ (one : Taken). may_answer one.moment) flow.taken
+  pub counted : line.commands ≡ length flow.taken
+  pub fits : KeysFit flow.shards flow.taken received
+  pub reads : ReadsOwingNothing flow.rules line.begin line.now (commands_of flow.taken) (all_texts flow)
+  pub complete : length (all_texts flow) ≡ length flow.taken
 
-core_of : (shards : ℕ) (rules : Rules) (may_answer : ℕ → Type 0) (line : LineTold) (before after : Ends Near)
+core_of : (shards : ℕ) (rules : Rules) (may_answer : ℕ → Type 0) (line : LineFlow) (before after : Ends Near)
     → (serves : ServesSourceLine shards rules may_answer line before after)
-    → Core may_answer line before after serves.served.told serves.served.received
+    → Core may_answer line before after serves.served.flow serves.served.received
 core_of shards rules may_answer line before after serves =
     let served = serves.served in
     record {
@@ -69,77 +69,77 @@ core_of shards rules may_answer line before after serves =
     }
 
 -- what a connection took, under these sizes
-abbrev pub sized : ℕ → Rules → Told → Told
-sized shards rules told = record told { shards = shards; rules = rules }
+abbrev pub sized : ℕ → Rules → Flow → Flow
+sized shards rules flow = record flow { shards = shards; rules = rules }
 
-same_sized : (shards : ℕ) (rules : Rules) (told : Told) → told.shards ≡ shards → told.rules ≡ rules → told
-    ≡ sized shards rules told
-same_sized shards rules told shards_is rules_are = λ i. record told { shards = shards_is i; rules = rules_are i }
+same_sized : (shards : ℕ) (rules : Rules) (flow : Flow) → flow.shards ≡ shards → flow.rules ≡ rules → flow
+    ≡ sized shards rules flow
+same_sized shards rules flow shards_is rules_are = λ i. record flow { shards = shards_is i; rules = rules_are i }
 
 -- A connection that was served under these sizes has the pieces and replies that were due.
-pub record Served (shards : ℕ) (rules : Rules) (may_answer : ℕ → Type 0) (line : LineTold) (before after : Ends Near) :
+pub record Served (shards : ℕ) (rules : Rules) (may_answer : ℕ → Type 0) (line : LineFlow) (before after : Ends Near) :
     Type 0 where
-  pub told : Told
+  pub flow : Flow
   pub received : ℕ → List Shown
-  pub core : Core may_answer line before after (sized shards rules told) received
+  pub core : Core may_answer line before after (sized shards rules flow) received
 
-served_of : (shards : ℕ) (rules : Rules) (may_answer : ℕ → Type 0) (line : LineTold) (before after : Ends Near)
+served_of : (shards : ℕ) (rules : Rules) (may_answer : ℕ → Type 0) (line : LineFlow) (before after : Ends Near)
     → ServesSourceLine shards rules may_answer line before after → Served shards rules may_answer line before after
 served_of shards rules may_answer line before after serves =
-    let told = serves.served.told in
+    let flow = serves.served.flow in
     let received = serves.served.received in
-    let P : Told → Type 0 = λ t. Core may_answer line before after t received in
+    let P : Flow → Type 0 = λ t. Core may_answer line before after t received in
     record {
-      told = told;
+      flow = flow;
       received = received;
       core =
-          subst P (same_sized shards rules told serves.served.shards_is serves.served.rules_are)
+          subst P (same_sized shards rules flow serves.served.shards_is serves.served.rules_are)
           (core_of shards rules may_answer line before after serves);
     }
 
 module _ (shards : ℕ) (rules : Rules) (may_answer : ℕ → Type 0) where
-  abbrev pub Chain : List LineTold → Ends Near → Ends Near → Type 0
+  abbrev pub Chain : List LineFlow → Ends Near → Ends Near → Type 0
   Chain [] before after = after ≡ before
   Chain (line ∷ lines) before after =
       (mid : Ends Near) × Served shards rules may_answer line before mid × Chain lines mid after
 
-  pub chain_of : (lines : List LineTold) (before after : Ends Near)
+  pub chain_of : (lines : List LineFlow) (before after : Ends Near)
       → ServesLines shards rules may_answer lines before after → Chain lines before after
   chain_of [] before after are = are
   chain_of (line ∷ lines) before after are =
       (are.0, served_of shards rules may_answer line before are.0 are.1, chain_of lines are.0 after are.2)
 
   -- the pieces that were due at a shard for all connections, and the replies that came from it
-  abbrev pub all_due : (lines : List LineTold) (before after : Ends Near) → Chain lines before after → ℕ → List Piece
+  abbrev pub all_due : (lines : List LineFlow) (before after : Ends Near) → Chain lines before after → ℕ → List Piece
   all_due [] before after chain shard = []
   all_due (line ∷ lines) before after chain shard =
-      due.due shards shard chain.1.told.taken ++ all_due lines chain.0 after chain.2 shard
+      due.due shards shard chain.1.flow.taken ++ all_due lines chain.0 after chain.2 shard
 
-  abbrev pub all_got : (lines : List LineTold) (before after : Ends Near) → Chain lines before after → ℕ → List Shown
+  abbrev pub all_got : (lines : List LineFlow) (before after : Ends Near) → Chain lines before after → ℕ → List Shown
   all_got [] before after chain shard = []
   all_got (line ∷ lines) before after chain shard = chain.1.received shard ++ all_got lines chain.0 after chain.2 shard
 
-  pub chain_same : (lines : List LineTold) (before after : Ends Near) → Chain lines before after
+  pub chain_same : (lines : List LineFlow) (before after : Ends Near) → Chain lines before after
       → AreSameEnds before after
   chain_same [] before after chain = let P : Ends Near → Type 0 =
       λ ends. AreSameEnds before ends in subst P (sym chain) (same_ends-refl before)
   chain_same (line ∷ lines) before after chain =
       same_ends-trans before chain.0 after chain.1.core.exchanges.same (chain_same lines chain.0 after chain.2)
 
-  pub chain_sent : (lines : List LineTold) (before after : Ends Near) → (chain : Chain lines before after) → (shard : ℕ)
+  pub chain_sent : (lines : List LineFlow) (before after : Ends Near) → (chain : Chain lines before after) → (shard : ℕ)
       → shard < shards → sent_on after shard ≡ sent_on before shard
       ++ map request.Piece (all_due lines before after chain shard)
   chain_sent [] before after chain shard below =
       ap (λ ends. sent_on ends shard) chain ∙ sym (append-nil (sent_on before shard))
   chain_sent (line ∷ lines) before after chain shard below =
-      let this = due.due shards shard chain.1.told.taken in
+      let this = due.due shards shard chain.1.flow.taken in
       let others = all_due lines chain.0 after chain.2 shard in
       chain_sent lines chain.0 after chain.2 shard below
       ∙ (ap (λ ps. ps ++ map request.Piece others) (chain.1.core.exchanges.sent shard below)
       ∙ (append_assoc (sent_on before shard) (map request.Piece this) (map request.Piece others)
       ∙ ap (λ ps. sent_on before shard ++ ps) (sym (map-append request.Piece this others))))
 
-  pub chain_came : (lines : List LineTold) (before after : Ends Near) → (chain : Chain lines before after) → (shard : ℕ)
+  pub chain_came : (lines : List LineFlow) (before after : Ends Near) → (chain : Chain lines before after) → (shard : ℕ)
       → shard < shards → received_on after shard ≡ received_on before shard ++ all_got lines before after chain shard
   chain_came [] before after chain shard below =
       ap (λ ends. received_on ends shard) chain ∙ sym (append-nil (received_on before shard))
@@ -149,14 +149,14 @@ module _ (shards : ℕ) (rules : Rules) (may_answer : ℕ → Type 0) where
       ∙ (ap (λ rs. rs ++ others) (chain.1.core.exchanges.came shard below)
       ∙ append_assoc (received_on before shard) (chain.1.received shard) others)
 
-  pub chain_many : (lines : List LineTold) (before after : Ends Near) → (chain : Chain lines before after) → (shard : ℕ)
+  pub chain_many : (lines : List LineFlow) (before after : Ends Near) → (chain : Chain lines before after) → (shard : ℕ)
       → length (all_got lines before after chain shard) ≡ length (all_due lines before after chain shard)
   chain_many [] before after chain shard = refl
   chain_many (line ∷ lines) before after chain shard =
       let one = chain.1.core.exchanges.answered shard in
       let rest = chain_many lines chain.0 after chain.2 shard in
       let got = length-append (chain.1.received shard) (all_got lines chain.0 after chain.2 shard) in
-      let asked = length-append (due.due shards shard chain.1.told.taken) (all_due lines chain.0 after chain.2 shard) in
+      let asked = length-append (due.due shards shard chain.1.flow.taken) (all_due lines chain.0 after chain.2 shard) in
       omega (arith, one, rest, got, asked)
 
 -- Pieces that were asked first, and whose replies came first, were run first.
@@ -216,57 +216,57 @@ all_mine shard seat [] shards askers = tt
 all_mine shard seat (e ∷ log) shards askers = ((shards.0, askers.0), all_mine shard seat log shards.1 askers.1)
 
 -- What a shard ran for a connection is what the connection's commands need there.
-run_told : (shards shard seat : ℕ) (taken : List Taken) (got : List Shown) (mine : List Entry)
+run_flow : (shards shard seat : ℕ) (taken : List Taken) (got : List Shown) (mine : List Entry)
     (history : List AnsweredCommand) → AreRun (due.due shards shard taken) got mine
     → AllByRecursion (IsMine shard seat) mine
     → due.on_shard shard (due.log_of shards history) ≡ ran_on shard (due.due shards shard taken) got → mine
     ≡ on_shard shard (log_of shards seat history)
-run_told shards shard seat taken got mine history run owned told =
+run_flow shards shard seat taken got mine history run owned flow =
     let these : ran_on shard (due.due shards shard taken) got ≡ map ran_of mine =
     ap (λ ps. ran_on shard ps got) (run.pieces ∙ sym (pieces_of_ran mine))
     ∙ (ap (λ rs. ran_on shard (map (λ (ran : Ran). ran.piece) (map ran_of mine)) rs)
     (run.replies ∙ sym (replies_of_ran mine))
     ∙ ran_on-same shard (map ran_of mine) (ran_shards shard mine (all_shard shard seat mine owned))) in
     sym (map_on_shard shard seat (due.log_of shards history)
-    ∙ (ap (λ rs. map (entry_for seat) rs) (told ∙ these) ∙ same_asker seat mine (all_asker shard seat mine owned)))
+    ∙ (ap (λ rs. map (entry_for seat) rs) (flow ∙ these) ∙ same_asker seat mine (all_asker shard seat mine owned)))
 
 -- One connection of the slot is explained by what each shard ran for it.
-record LineRan (sizes : Sizes) (may_answer : ℕ → Type 0) (line : LineTold) (seat : ℕ) (mine : ℕ → List Entry) : Type 0
+record LineRan (sizes : Sizes) (may_answer : ℕ → Type 0) (line : LineFlow) (seat : ℕ) (mine : ℕ → List Entry) : Type 0
   where
     history : List AnsweredCommand
     explains : ExplainsHistory sizes may_answer line history
     ran : (shard : ℕ) → shard < sizes.shards → mine shard ≡ on_shard shard (log_of sizes.shards seat history)
 
-line_ran : (sizes : Sizes) (may_answer : ℕ → Type 0) (line : LineTold) (before after : Ends Near) (seat : ℕ)
+line_ran : (sizes : Sizes) (may_answer : ℕ → Type 0) (line : LineFlow) (before after : Ends Near) (seat : ℕ)
     (mine : ℕ → List Entry)
     → (at : Served sizes.shards (rules_of sizes) may_answer line before after)
     → ((shard : ℕ) → shard < sizes.shards
-    → AreRun (due.due sizes.shards shard at.told.taken) (at.received shard) (mine shard))
+    → AreRun (due.due sizes.shards shard at.flow.taken) (at.received shard) (mine shard))
     → ((shard : ℕ) → shard < sizes.shards → AllByRecursion (IsMine shard seat) (mine shard))
     → LineRan sizes may_answer line seat mine
 line_ran sizes may_answer line before after seat mine at runs owned =
-    let told = sized sizes.shards (rules_of sizes) at.told in
+    let flow = sized sizes.shards (rules_of sizes) at.flow in
     let received = at.received in
     let core = at.core in
-    let count = length told.taken in
-    let t : Tells sizes.shards told.taken told.accepted received count =
-    tells sizes.shards count told.taken told.accepted received (omega arith) core.story.may (core.serves.fits core.fits)
-    (all_come sizes.shards told.taken received core.exchanges.answered) in
-    let whole : take count told.taken ≡ told.taken = take_all count told.taken (omega arith) in
+    let count = length flow.taken in
+    let t : Tells sizes.shards flow.taken flow.accepted received count =
+    tells sizes.shards count flow.taken flow.accepted received (omega arith) core.story.may (core.serves.fits core.fits)
+    (all_come sizes.shards flow.taken received core.exchanges.answered) in
+    let whole : take count flow.taken ≡ flow.taken = take_all count flow.taken (omega arith) in
     let complete = core.complete in
-    let all : take count (all_texts told) ≡ all_texts told =
-    take_all count (all_texts told) (omega (arith, complete)) in
-    let history_at : List Taken → List AnsweredCommand = λ ts. history_of sizes.shards told.accepted ts in
-    let history = history_at told.taken in
-    let same : map taken_of history ≡ told.taken =
+    let all : take count (all_texts flow) ≡ all_texts flow =
+    take_all count (all_texts flow) (omega (arith, complete)) in
+    let history_at : List Taken → List AnsweredCommand = λ ts. history_of sizes.shards flow.accepted ts in
+    let history = history_at flow.taken in
+    let same : map taken_of history ≡ flow.taken =
     (let P : List Taken → Type 0 = λ ts. map taken_of (history_at ts) ≡ ts in subst P whole t.same) in
-    let texts : all_texts told ≡ map text_done history = sym all
+    let texts : all_texts flow ≡ map text_done history = sym all
     ∙ (t.texts ∙ ap (λ ts. map text_done (history_at ts)) whole) in
     let S : List Taken → List (List ℕ) → Type 0 =
     λ taken texts. Story (rules_of sizes) line.begin line.now line.broke taken texts in
     let R : List _ → List (List ℕ) → Type 0 =
     λ commands texts. ReadsOwingNothing (rules_of sizes) line.begin line.now commands texts in
-    let commands_are : commands_of told.taken ≡ entries_of history = ap commands_of (sym same) ∙ entries_same history in
+    let commands_are : commands_of flow.taken ≡ entries_of history = ap commands_of (sym same) ∙ entries_same history in
     let M : List Taken → Type 0 = λ ts. AllByRecursion (λ (one : Taken). may_answer one.moment) ts in
     let long = ap length same in
     let counted = core.counted in
@@ -275,10 +275,10 @@ line_ran sizes may_answer line before after seat mine at runs owned =
       explains = record {
         story =
             subst (λ texts. S (map taken_of history) texts) texts
-            (subst (λ taken. S taken (all_texts told)) (sym same) core.story);
+            (subst (λ taken. S taken (all_texts flow)) (sym same) core.story);
         reads =
             subst (λ texts. R (entries_of history) texts) texts
-            (subst (λ commands. R commands (all_texts told)) commands_are core.reads);
+            (subst (λ commands. R commands (all_texts flow)) commands_are core.reads);
         answered =
             (let P : List Taken → Type 0 = λ ts. AllByRecursion (IsAnswered sizes.shards) (history_at ts) in
             subst P whole t.answered);
@@ -288,12 +288,12 @@ line_ran sizes may_answer line before after seat mine at runs owned =
       ran = λ s below.
           let P : List Taken → Type 0 = λ ts. due.on_shard s (due.log_of sizes.shards (history_at ts))
           ≡ ran_on s (due.due sizes.shards s ts) (received s) in
-          run_told sizes.shards s seat told.taken (received s) (mine s) history (runs s below) (owned s below)
+          run_flow sizes.shards s seat flow.taken (received s) (mine s) history (runs s below) (owned s below)
           (subst P whole (t.ran s));
     }
 
 -- All connections of the slot are explained by what each shard ran for the slot.
-record SeatRan (sizes : Sizes) (may_answer : ℕ → Type 0) (lines : List LineTold) (seat : ℕ) (mine : ℕ → List Entry) :
+record SeatRan (sizes : Sizes) (may_answer : ℕ → Type 0) (lines : List LineFlow) (seat : ℕ) (mine : ℕ → List Entry) :
     Type 0 where
   histories : List (List AnsweredCommand)
   each : Zips (ExplainsHistory sizes may_answer) lines histories
@@ -301,7 +301,7 @@ record SeatRan (sizes : Sizes) (may_answer : ℕ → Type 0) (lines : List LineT
       ≡ flat_map (λ history. on_shard shard (log_of sizes.shards seat history)) histories
 
 seat_ran : (sizes : Sizes) (may_answer : ℕ → Type 0) (seat : ℕ)
-    → (lines : List LineTold) (before after : Ends Near) (mine : ℕ → List Entry)
+    → (lines : List LineFlow) (before after : Ends Near) (mine : ℕ → List Entry)
     → (chain : Chain sizes.shards (rules_of sizes) may_answer lines before after)
     → ((shard : ℕ) → shard < sizes.shards
     → AreRun (all_due sizes.shards (rules_of sizes) may_answer lines before after chain shard)
@@ -311,11 +311,11 @@ seat_ran : (sizes : Sizes) (may_answer : ℕ → Type 0) (seat : ℕ)
 seat_ran sizes may_answer seat [] before after mine chain runs owned =
     record { histories = []; each = tt; ran = λ s below. none_run (mine s) (runs s below).pieces }
 seat_ran sizes may_answer seat (line ∷ lines) before after mine chain runs owned =
-    let many : ℕ → ℕ = λ s. length (due.due sizes.shards s chain.1.told.taken) in
+    let many : ℕ → ℕ = λ s. length (due.due sizes.shards s chain.1.flow.taken) in
     let first : ℕ → List Entry = λ s. take (many s) (mine s) in
     let others : ℕ → List Entry = λ s. drop (many s) (mine s) in
     let cuts = λ (s : ℕ) (below : s < sizes.shards).
-    cut (due.due sizes.shards s chain.1.told.taken)
+    cut (due.due sizes.shards s chain.1.flow.taken)
     (all_due sizes.shards (rules_of sizes) may_answer lines chain.0 after chain.2 s) (chain.1.received s)
     (all_got sizes.shards (rules_of sizes) may_answer lines chain.0 after chain.2 s) (mine s)
     (chain.1.core.exchanges.answered s) (runs s below) in

@@ -9,7 +9,7 @@ use Rattle.mc_ring.specs.Reply.{Shown}
 use Rattle.mc_conn.specs.History.{AnsweredCommand, Taken, entries_of, taken_of}
 use Rattle.mc_conn.specs.Due as due
 use Rattle.mc_conn.specs.Fits.{HasCome, counts}
-use Rattle.mc_conn.specs.Told.{commands_of}
+use Rattle.mc_conn.specs.Flow.{commands_of}
 
 -- On unused ends nothing was sent or received.
 pub none_read : {A : Type 0} (read : Near → List A) → ((near : Near) → IsUnused near → read near ≡ [])

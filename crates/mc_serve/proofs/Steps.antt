@@ -10,20 +10,20 @@ use Rattle.mc_ring.specs.Route.{Name}
 use Rattle.mc_sizes.specs.Sizes.{rules_of}
 use Rattle.mc_history.specs.Tokens.{Acting}
 use Rattle.mc_conn.specs.declared.conn.Conn.{Conn}
-use Rattle.mc_seat.specs.declared.clerk.Clerk.{Ghosts}
-use Rattle.mc_seat.specs.declared.warrant.Warrant.{Ghosts as Warrants}
-use Rattle.mc_seat.specs.Place.{Place}
-use Rattle.mc_seat.specs.LineServed.{LineServed}
-use Rattle.mc_seat.specs.Explains.{LineTold}
-use Rattle.mc_threads.specs.declared.session.Session.{Session}
-use Rattle.mc_threads.specs.Records.{RecordsPastOf}
-use Rattle.mc_threads.specs.Service.{WasServedBy}
-use Rattle.mc_threads.specs.Session.{HasServed, IsLineAt, IsRuled, IsServingLine, IsVacant, seat_clerk, seat_ends}
-use Rattle.mc_threads.specs.Session.{session_history}
-use Rattle.mc_threads.specs.Ending.{EndsFirst}
-use Rattle.mc_threads.proofs.Ending.{ends_none}
-use Rattle.mc_threads.proofs.Sessions.{SomeAnd, may_serve, some_and}
-use Rattle.mc_doors.specs.Told.{SourceTold, IsFree, took_back}
+use Rattle.mc_transport.specs.declared.clerk.Clerk.{Ghosts}
+use Rattle.mc_transport.specs.declared.warrant.Warrant.{Ghosts as Warrants}
+use Rattle.mc_transport.specs.Place.{Place}
+use Rattle.mc_transport.specs.LineServed.{LineServed}
+use Rattle.mc_transport.specs.Explains.{LineFlow}
+use Rattle.mc_session.specs.declared.session.Session.{Session}
+use Rattle.mc_session.specs.Records.{RecordsPastOf}
+use Rattle.mc_session.specs.Service.{WasServedBy}
+use Rattle.mc_session.specs.Session.{HasServed, IsLineAt, IsRuled, IsServingLine, IsVacant, seat_clerk, seat_ends}
+use Rattle.mc_session.specs.Session.{session_history}
+use Rattle.mc_session.specs.Ending.{EndsFirst}
+use Rattle.mc_session.proofs.Ending.{ends_none}
+use Rattle.mc_session.proofs.Sessions.{SomeAnd, may_serve, some_and}
+use Rattle.mc_net.specs.Flow.{SourceFlow, IsFree, took_back}
 use Rattle.mc_serve.specs.declared.connection_slot.SlotState.{SlotState}
 use Rattle.mc_serve.specs.declared.connection_slot.SlotState.TheVariants as slot_state
 use Rattle.mc_serve.specs.Seats.{Accepts, CanBegin, CanStep, ClosesOn, HasRecorded, Renews, SeatAt, SeatStands}
@@ -38,7 +38,7 @@ same_rules rules old new same ruled keeps = ruled keeps ∙ ap (λ (name : Name)
 
 module _ (shards : ℕ) (rules : Rules) (may_answer : ℕ → Type 0) where
   -- A new slot is free, and has served nothing.
-  pub sits_first : {T : Type 0} {w : Warrants T} {g : Ghosts Acting T} (source : SourceTold)
+  pub sits_first : {T : Type 0} {w : Warrants T} {g : Ghosts Acting T} (source : SourceFlow)
       (session : Session T Acting w g) (window : ℕ)
       → IsFree source → length (seat_ends session).channels ≡ shards → IsVacant rules window session
       → IsRuled rules session
@@ -57,13 +57,13 @@ module _ (shards : ℕ) (rules : Rules) (may_answer : ℕ → Type 0) where
 
   -- A free slot has accepted a connection, or none, or its source has no more.
   pub accepted : {L : Type 0} {T : Type 0} {w : Warrants T} {g : Ghosts Acting T} (place : L → Place)
-      (sight : L → Sight) (sat : SeatAt) (source source' : SourceTold) (session : Session T Acting w g)
+      (sight : L → Sight) (sat : SeatAt) (source source' : SourceFlow) (session : Session T Acting w g)
       (now : SlotState L)
       → (RecordsPastOf session.shard_link (seat_ends session) → HasRecorded (seat_clerk session) (seat_ends session))
       → Accepts place sight (session_history session) now source source'
       → SitsFree shards rules may_answer sat source session
       → SeatStands place sight shards rules may_answer sat source' session now
-  accepted place sight sat source source' session slot_state.Free reads same sits = let S : SourceTold → Type 0 =
+  accepted place sight sat source source' session slot_state.Free reads same sits = let S : SourceFlow → Type 0 =
       λ d. SitsFree shards rules may_answer sat d session in subst S (sym same) sits
   accepted place sight sat source source' session (slot_state.Out line false) reads came sits =
       record { before = source; sits = sits; next = came.1; came = came.2; new = came.0 }
@@ -95,7 +95,7 @@ module _ (shards : ℕ) (rules : Rules) (may_answer : ℕ → Type 0) where
       λ p. CanBegin place p session in absurd (subst P is may)
 
   -- The connection that was accepted begins to be served.
-  pub begins : {T C : Type 0} {w : Warrants T} {g : Ghosts C T} (sat : SeatAt) (source : SourceTold)
+  pub begins : {T C : Type 0} {w : Warrants T} {g : Ghosts C T} (sat : SeatAt) (source : SourceFlow)
       (place place' : Place) (begin : Sight) (session session' : Session T C w g)
       → ((rules : Rules) (window : ℕ) (line : Sight) → IsVacant rules window session
       → IsServingLine (length (seat_ends session).channels) rules may_answer line line (seat_ends session) session')
@@ -121,7 +121,7 @@ module _ (shards : ℕ) (rules : Rules) (may_answer : ℕ → Type 0) where
       }
 
   -- The connection waits, and the session is unchanged.
-  pub still_begins : {T C : Type 0} {w : Warrants T} {g : Ghosts C T} (sat : SeatAt) (source : SourceTold)
+  pub still_begins : {T C : Type 0} {w : Warrants T} {g : Ghosts C T} (sat : SeatAt) (source : SourceFlow)
       (place : Place) (begin : Sight) (session session' : Session T C w g) → session' ≡ session
       → SitsBeginning shards rules may_answer sat source place begin session
       → SitsBeginning shards rules may_answer sat source place begin session'
@@ -130,7 +130,7 @@ module _ (shards : ℕ) (rules : Rules) (may_answer : ℕ → Type 0) where
 
   -- The connection begins to be served if there was memory for it; otherwise it waits, with its output ended.
   pub begins_where : {L E : Type 0} {T : Type 0} {w : Warrants T} {g : Ghosts Acting T} (place : L → Place)
-      (sight : L → Sight) (sat : SeatAt) (source source' : SourceTold) (line begun line' : L)
+      (sight : L → Sight) (sat : SeatAt) (source source' : SourceFlow) (line begun line' : L)
       (session session' : Session T Acting w g) (tried : Result (Unit {0}) E)
       → OnOk tried ((rules : Rules) (window : ℕ) (begin : Sight) → IsVacant rules window session
       → IsServingLine (length (seat_ends session).channels) rules may_answer begin begin (seat_ends session) session')
@@ -139,26 +139,26 @@ module _ (shards : ℕ) (rules : Rules) (may_answer : ℕ → Type 0) where
       → place line' ≡ place begun → sight line' ≡ sight line
       → SitsBeginning shards rules may_answer sat source (place line) (sight line) session
       → SeatStands place sight shards rules may_answer sat source' session' (slot_state.Out line' (is_ok tried))
-  begins_where place sight sat source source' line begun line' session session' (Ok done) serves at same unplaced told
+  begins_where place sight sat source source' line begun line' session session' (Ok done) serves at same unplaced flow
       placed seen came =
-      let D : SourceTold → Type 0 =
+      let D : SourceFlow → Type 0 =
       λ d. SitsServing shards rules may_answer sat d (place line') (sight line') session' in
       let P : Place → Type 0 = λ at. SitsServing shards rules may_answer sat source at (sight line') session' in
       let S : Sight → Type 0 = λ now. SitsServing shards rules may_answer sat source (place begun) now session' in
-      subst D (sym told) (subst P (sym placed) (subst S (sym seen)
+      subst D (sym flow) (subst P (sym placed) (subst S (sym seen)
       (begins sat source (place line) (place begun) (sight line) session session' serves at came)))
   begins_where place sight sat source source' line begun line' session session' (Err refused) serves at same unplaced
-      told placed seen came =
-      let D : SourceTold → Type 0 =
+      flow placed seen came =
+      let D : SourceFlow → Type 0 =
       λ d. SitsBeginning shards rules may_answer sat d (place line') (sight line') session' in
       let P : Place → Type 0 = λ at. SitsBeginning shards rules may_answer sat source at (sight line') session' in
       let S : Sight → Type 0 = λ now. SitsBeginning shards rules may_answer sat source (place line) now session' in
-      subst D (sym told) (subst P (sym (placed ∙ unplaced)) (subst S (sym seen)
+      subst D (sym flow) (subst P (sym (placed ∙ unplaced)) (subst S (sym seen)
       (still_begins sat source (place line) (sight line) session session' same came)))
 
   -- The connection that is out may have been notified: nothing was read or written.
   pub stands_out : {L : Type 0} {T : Type 0} {w : Warrants T} {g : Ghosts Acting T} (place : L → Place)
-      (sight : L → Sight) (sat : SeatAt) (source : SourceTold) (session : Session T Acting w g) (now : SlotState L)
+      (sight : L → Sight) (sat : SeatAt) (source : SourceFlow) (session : Session T Acting w g) (now : SlotState L)
       (line line' : L)
       (begun : Bool) → now ≡ slot_state.Out line begun → place line' ≡ place line → sight line' ≡ sight line
       → SeatStands place sight shards rules may_answer sat source session now
@@ -175,7 +175,7 @@ module _ (shards : ℕ) (rules : Rules) (may_answer : ℕ → Type 0) where
       subst S (sym same) (subst A (sym placed) (subst P is stands))
 
   -- The connection that is out was served by one more step.
-  pub serves_on : {T C : Type 0} {w : Warrants T} {g : Ghosts C T} (sat : SeatAt) (source : SourceTold)
+  pub serves_on : {T C : Type 0} {w : Warrants T} {g : Ghosts C T} (sat : SeatAt) (source : SourceFlow)
       (place place' : Place) (now now' : Sight) (session session' : Session T C w g)
       → ((begin : Sight) (before : Ends Near) → IsServingLine shards rules may_answer begin now before session
       → IsServingLine shards rules may_answer begin now' before session')
@@ -202,7 +202,7 @@ module _ (shards : ℕ) (rules : Rules) (may_answer : ℕ → Type 0) where
       → ends' ≡ ends → LineServed shards rules may_answer begin now before ends conn commands broke
       → LineServed shards rules may_answer begin now before ends' conn commands broke
   renewed begin now before ends ends' conn commands broke same served = record {
-    told = served.told;
+    flow = served.flow;
     shards_is = served.shards_is;
     rules_are = served.rules_are;
     conn_is = served.conn_is;
@@ -220,7 +220,7 @@ module _ (shards : ℕ) (rules : Rules) (may_answer : ℕ → Type 0) where
   }
 
   -- The connection that was out was served and returned. Each reply answered its piece, so the session is renewed.
-  module _ {T : Type 0} {w : Warrants T} {g : Ghosts Acting T} (sat : SeatAt) (source source' : SourceTold)
+  module _ {T : Type 0} {w : Warrants T} {g : Ghosts Acting T} (sat : SeatAt) (source source' : SourceFlow)
       (place place' : Place) (now now' : Sight) (commands : ℕ) (broke another : Bool)
       (session session' last : Session T Acting w g) (keeps : g.keeps)
       (goes : (begin : Sight) (before : Ends Near) → IsServingLine shards rules may_answer begin now before session
@@ -239,7 +239,7 @@ module _ (shards : ℕ) (rules : Rules) (may_answer : ℕ → Type 0) where
         (λ buffered_conn. WasServedBy shards rules may_answer sits.begin now' sits.ends session'.shard_link
         buffered_conn commands broke) (goes sits.begin sits.ends sits.serving)
 
-    abbrev line : LineTold
+    abbrev line : LineFlow
     line = record { begin = sits.begin; now = now'; commands = commands; broke = broke }
 
     abbrev this : ServesSourceLine shards rules may_answer line sits.ends (seat_ends last)
@@ -263,23 +263,23 @@ module _ (shards : ℕ) (rules : Rules) (may_answer : ℕ → Type 0) where
     another_comes : IsTrue another
     another_comes =
         let served = by.holds.served in
-        (renews.when by.some served.told by.is served.conn_is).1 (served.rest (by.holds.fits keeps), served.over)
+        (renews.when by.some served.flow by.is served.conn_is).1 (served.rest (by.holds.fits keeps), served.over)
 
     -- The slot is free for its next connection.
     pub serves_another : SitsFree shards rules may_answer sat source' last
     serves_another =
         let served = by.holds.served in
-        let V : Rules → Type 0 = λ n. IsVacant n served.told.window last in
+        let V : Rules → Type 0 = λ n. IsVacant n served.flow.window last in
         record {
           free = sits.free;
           lines = more.lines;
           passed = more.source;
           lines_are = more.lines_are;
           width = rw renews.ends wide;
-          window = served.told.window;
+          window = served.flow.window;
           vacant =
               subst V served.rules_are
-              (renews.vacant another_comes by.some served.told by.is served.conn_is (served.shards_is ∙ sym wide)
+              (renews.vacant another_comes by.some served.flow by.is served.conn_is (served.shards_is ∙ sym wide)
               by.holds.idle by.holds.recorded);
           ruled = same_rules rules session' last same (stays rules sits.begin sits.line).ruled;
         }
@@ -287,7 +287,7 @@ module _ (shards : ℕ) (rules : Rules) (may_answer : ℕ → Type 0) where
   -- A slot that closes has closed one more channel, or none, or has found all of them closed.
   pub closes_on : {L : Type 0} {T : Type 0} {w : Warrants T} {g : Ghosts Acting T} (place : L → Place)
       (sight : L → Sight) (sat : SeatAt) (count : ℕ)
-      (source : SourceTold) (old new : Session T Acting w g) (now : SlotState L)
+      (source : SourceFlow) (old new : Session T Acting w g) (now : SlotState L)
       → ((served : Ends Near) → EndsFirst count served (seat_ends old) → ClosesOn served now (seat_ends new))
       → ((served : Ends Near) → HasRecorded (seat_clerk old) served → HasRecorded (seat_clerk new) served)
       → SitsClosing shards rules may_answer count sat source (seat_ends old) (seat_clerk old)
@@ -326,7 +326,7 @@ module _ (shards : ℕ) (rules : Rules) (may_answer : ℕ → Type 0) where
 
   -- A slot that satisfies its invariant may make a step.
   pub can_step : {L : Type 0} {T : Type 0} {w : Warrants T} {g : Ghosts Acting T} (place : L → Place)
-      (sight : L → Sight) (sat : SeatAt) (source : SourceTold) (session : Session T Acting w g) (now : SlotState L)
+      (sight : L → Sight) (sat : SeatAt) (source : SourceFlow) (session : Session T Acting w g) (now : SlotState L)
       → SeatStands place sight shards rules may_answer sat source session now
       → CanStep place sight may_answer now session
   can_step place sight sat source session slot_state.Free stands = tt

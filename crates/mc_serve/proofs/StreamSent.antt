@@ -4,19 +4,19 @@ use denote.Param.Send.{IsSend, IsSync, sendable}
 use denote.Param.SendFields.{declared_send, declared_sync}
 use Rattle.std.proofs.Crossing.{crosses}
 use Rattle.http_server.specs.contracts.log.Log as Log
-use Rattle.mc_watch.specs.contracts.counter.Counter as counter
-use Rattle.mc_watch.specs.contracts.counts.EndCounts as ends
-use Rattle.mc_watch.specs.contracts.counts.SeatCounts as counts
-use Rattle.mc_watch.specs.contracts.meter.Meter as meter
-use Rattle.mc_watch.specs.contracts.idle_timer.IdleTimer as idle_timer
-use Rattle.mc_watch.specs.contracts.shutdown.Shutdown as shutdown
-use Rattle.mc_doors.specs.declared.arrivals.Arrivals.{Ghosts as ArrivalsGhosts}
-use Rattle.mc_doors.specs.declared.stream.Stream.{Ghosts as StreamGhosts}
-use Rattle.mc_doors.proofs.lingering.Lingering.TheSendSync as lingering
-use Rattle.mc_doors.specs.contracts.stream_source.StreamSource as stream_source
-use Rattle.mc_doors.specs.contracts.tap.Tap as tap
-use Rattle.mc_doors.specs.contracts.tcp_connection.TcpConnection as tcp_connection
-use Rattle.mc_doors.specs.contracts.trail.Trail as trail
+use Rattle.mc_telemetry.specs.contracts.counter.Counter as counter
+use Rattle.mc_telemetry.specs.contracts.counts.EndCounts as ends
+use Rattle.mc_telemetry.specs.contracts.counts.SeatCounts as counts
+use Rattle.mc_telemetry.specs.contracts.meter.Meter as meter
+use Rattle.mc_telemetry.specs.contracts.idle_timer.IdleTimer as idle_timer
+use Rattle.mc_telemetry.specs.contracts.shutdown.Shutdown as shutdown
+use Rattle.mc_net.specs.declared.arrivals.Arrivals.{Ghosts as ArrivalsGhosts}
+use Rattle.mc_net.specs.declared.stream.Stream.{Ghosts as StreamGhosts}
+use Rattle.mc_net.proofs.lingering.Lingering.TheSendSync as lingering
+use Rattle.mc_net.specs.contracts.stream_source.StreamSource as stream_source
+use Rattle.mc_net.specs.contracts.tap.Tap as tap
+use Rattle.mc_net.specs.contracts.tcp_connection.TcpConnection as tcp_connection
+use Rattle.mc_net.specs.contracts.trail.Trail as trail
 
 -- ---- what a line counts
 counter_send : IsSend counter.the_row

@@ -4,7 +4,7 @@ use Rattle.std.proofs.Common.{slice_set, arith}
 use Rattle.std.specs.List.{AllByRecursion, slice_get}
 use Rattle.std.specs.Prelude.{IfOk, Result, Ok, Err}
 use Rattle.std.proofs.lemmas.Option.{same_Some}
-use Rattle.mc_wake.specs.Zips.{Zips}
+use Rattle.mc_poll.specs.Zips.{Zips}
 
 -- Two lists that are related pair by pair have the same length.
 pub zips_length : {A B : Type 0} (R : A → B → Type 0) (xs : List A) (ys : List B) → Zips R xs ys → length ys ≡ length xs

@@ -4,11 +4,11 @@ use Rattle.std.specs.List.{AllByRecursion, slice_get}
 use Rattle.mc_sizes.specs.declared.sizes.Sizes.{Sizes}
 use Rattle.mc_model.specs.Log.{Entry}
 use Rattle.mc_history.specs.Tokens.{Sight}
-use Rattle.mc_wake.specs.Zips.{Zips}
-use Rattle.mc_seat.specs.Explains.{IsLogOfLines}
-use Rattle.mc_doors.specs.declared.stream.Stream.{Ghosts}
-use Rattle.mc_doors.specs.declared.stream_source.ClosedConnection.{ClosedConnection}
-use Rattle.mc_doors.specs.Tcp.{IsServed, gone_lines}
+use Rattle.mc_poll.specs.Zips.{Zips}
+use Rattle.mc_transport.specs.Explains.{IsLogOfLines}
+use Rattle.mc_net.specs.declared.stream.Stream.{Ghosts}
+use Rattle.mc_net.specs.declared.stream_source.ClosedConnection.{ClosedConnection}
+use Rattle.mc_net.specs.Tcp.{IsServed, gone_lines}
 use Rattle.mc_serve.specs.Served.{ExplainsSeat, IsOfHistory}
 use Rattle.mc_serve.specs.declared.outcome.Outcome.{Outcome}
 

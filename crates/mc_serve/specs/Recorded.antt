@@ -9,8 +9,8 @@ use Rattle.mc_history.specs.Roles.{seat_of}
 use Rattle.mc_history.specs.Tokens.{Acting}
 use Rattle.mc_record.specs.Clerk.{answers_at, work_at}
 use Rattle.mc_record.specs.Recorder.{log_in, shard_of}
-use Rattle.mc_threads.specs.Routes.{AreOnRoutes, IsUpToDate}
-use Rattle.mc_threads.specs.Workers.{IsRecordOf}
+use Rattle.mc_session.specs.Routes.{AreOnRoutes, IsUpToDate}
+use Rattle.mc_session.specs.Workers.{IsRecordOf}
 
 -- the route of the channel to a shard, as a clerk knows it
 abbrev pub route_from : Acting → ℕ → Route

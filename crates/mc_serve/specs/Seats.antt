@@ -9,35 +9,35 @@ use Rattle.mc_record.specs.Clerk.{answers_at, work_at}
 use Rattle.mc_conn.specs.declared.conn.Conn.{Conn}
 use Rattle.mc_conn.specs.Conn.{IsConn}
 use Rattle.mc_conn.specs.Fits.{KeysFit}
-use Rattle.mc_conn.specs.Told.{IsAtRest, IsOver, Told}
-use Rattle.mc_seat.specs.declared.buffered_conn.BufferedConn.{BufferedConn}
-use Rattle.mc_seat.specs.declared.clerk.Clerk.{Ghosts}
-use Rattle.mc_seat.specs.declared.warrant.Warrant.{Ghosts as Warrants}
-use Rattle.mc_seat.specs.Place.{Place, unbegun}
-use Rattle.mc_seat.specs.LineServed.{LineServed}
-use Rattle.mc_seat.specs.Explains.{LineTold}
-use Rattle.mc_threads.specs.Ending.{EndsFirst}
-use Rattle.mc_threads.specs.Records.{RecordsPastOf}
-use Rattle.mc_threads.specs.Routes.{IsUpToDate}
-use Rattle.mc_threads.specs.Serving.{EndsAll, IsIdle}
-use Rattle.mc_threads.specs.Session.{IsLineAt, IsRuled, IsServingLine, IsVacant, MayStep, seat_clerk, seat_ends}
-use Rattle.mc_threads.specs.Session.{session_history}
-use Rattle.mc_threads.specs.declared.session.Session.{Session}
-use Rattle.mc_doors.specs.Told.{SourceTold, IsDone, IsFree, IsNext, Passes, closed, let_in, took_back}
+use Rattle.mc_conn.specs.Flow.{IsAtRest, IsOver, Flow}
+use Rattle.mc_transport.specs.declared.buffered_conn.BufferedConn.{BufferedConn}
+use Rattle.mc_transport.specs.declared.clerk.Clerk.{Ghosts}
+use Rattle.mc_transport.specs.declared.warrant.Warrant.{Ghosts as Warrants}
+use Rattle.mc_transport.specs.Place.{Place, unbegun}
+use Rattle.mc_transport.specs.LineServed.{LineServed}
+use Rattle.mc_transport.specs.Explains.{LineFlow}
+use Rattle.mc_session.specs.Ending.{EndsFirst}
+use Rattle.mc_session.specs.Records.{RecordsPastOf}
+use Rattle.mc_session.specs.Routes.{IsUpToDate}
+use Rattle.mc_session.specs.Serving.{EndsAll, IsIdle}
+use Rattle.mc_session.specs.Session.{IsLineAt, IsRuled, IsServingLine, IsVacant, MayStep, seat_clerk, seat_ends}
+use Rattle.mc_session.specs.Session.{session_history}
+use Rattle.mc_session.specs.declared.session.Session.{Session}
+use Rattle.mc_net.specs.Flow.{SourceFlow, IsDone, IsFree, IsNext, Passes, closed, let_in, took_back}
 use Rattle.mc_serve.specs.declared.connection_slot.SlotState.{SlotState}
 use Rattle.mc_serve.specs.declared.connection_slot.SlotState.TheVariants as slot_state
 use Rattle.mc_command.specs.declared.rules.Rules.{Rules}
 
 -- The connection was served, which took the slot's ends from the first state to the second. Each reply answered the
 -- piece at its index.
-pub record ServesSourceLine (shards : ℕ) (rules : Rules) (may_answer : ℕ → Type 0) (line : LineTold)
+pub record ServesSourceLine (shards : ℕ) (rules : Rules) (may_answer : ℕ → Type 0) (line : LineFlow)
     (before after : Ends Near) : Type 0 where
   pub conn : Conn
   pub served : LineServed shards rules may_answer line.begin line.now before after conn line.commands line.broke
-  pub fits : KeysFit served.told.shards served.told.taken served.received
+  pub fits : KeysFit served.flow.shards served.flow.taken served.received
 
 -- The connections were served, one after another.
-abbrev pub ServesLines : ℕ → Rules → (ℕ → Type 0) → List LineTold → Ends Near → Ends Near → Type 0
+abbrev pub ServesLines : ℕ → Rules → (ℕ → Type 0) → List LineFlow → Ends Near → Ends Near → Type 0
 ServesLines shards rules may_answer [] before after = after ≡ before
 ServesLines shards rules may_answer (line ∷ lines) before after =
     (mid : Ends Near) × ServesSourceLine shards rules may_answer line before mid
@@ -45,11 +45,11 @@ ServesLines shards rules may_answer (line ∷ lines) before after =
 
 -- a slot: its source, its ends and its clerk
 pub record SeatAt : Type 0 where
-  pub source : SourceTold
+  pub source : SourceFlow
   pub ends : Ends Near
   pub clerk : Acting
 
-abbrev pub seat_at : SourceTold → Ends Near → Acting → SeatAt
+abbrev pub seat_at : SourceFlow → Ends Near → Acting → SeatAt
 seat_at source ends clerk = record { source = source; ends = ends; clerk = clerk }
 
 -- The clerk has recorded each piece that was sent on these ends, and each reply that was received there.
@@ -57,22 +57,22 @@ abbrev pub HasRecorded : Acting → Ends Near → Type 0
 HasRecorded clerk ends = IsUpToDate (work_at clerk) (answers_at clerk) ends
 
 -- The source has returned that no more connections will come.
-pub record SourceIsClosed (before after : SourceTold) : Type 0 where
+pub record SourceIsClosed (before after : SourceFlow) : Type 0 where
   pub done : IsDone before
   pub now : after ≡ closed before
 
 -- Connections of the source were served, until it returned that no more will come.
 pub record ServesSource (shards : ℕ) (rules : Rules) (may_answer : ℕ → Type 0) (sat rose : SeatAt) : Type 0 where
-  pub lines : List LineTold
-  pub passed : SourceTold
+  pub lines : List LineFlow
+  pub passed : SourceFlow
   pub source : Passes sat.source lines passed
   pub lines_are : ServesLines shards rules may_answer lines sat.ends rose.ends
   pub over : SourceIsClosed passed rose.source
 
 -- Connections of the source were served, until it returned that no more will come; then each channel was closed.
 pub record SeatServes (shards : ℕ) (rules : Rules) (may_answer : ℕ → Type 0) (sat rose : SeatAt) : Type 0 where
-  pub lines : List LineTold
-  pub passed : SourceTold
+  pub lines : List LineFlow
+  pub passed : SourceFlow
   pub source : Passes sat.source lines passed
   pub served : Ends Near
   pub lines_are : ServesLines shards rules may_answer lines sat.ends served
@@ -83,10 +83,10 @@ pub record SeatServes (shards : ℕ) (rules : Rules) (may_answer : ℕ → Type 
 
 module _ {T C : Type 0} {w : Warrants T} {g : Ghosts C T} where
   -- A free slot: connections of the source were served, none is out, and the session may begin another.
-  pub record SitsFree (shards : ℕ) (rules : Rules) (may_answer : ℕ → Type 0) (sat : SeatAt) (source : SourceTold)
+  pub record SitsFree (shards : ℕ) (rules : Rules) (may_answer : ℕ → Type 0) (sat : SeatAt) (source : SourceFlow)
       (session : Session T C w g) : Type 0 where
     pub free : IsFree sat.source
-    pub lines : List LineTold
+    pub lines : List LineFlow
     pub passed : Passes sat.source lines source
     pub lines_are : ServesLines shards rules may_answer lines sat.ends (seat_ends session)
     pub width : length (seat_ends session).channels ≡ shards
@@ -95,22 +95,22 @@ module _ {T C : Type 0} {w : Warrants T} {g : Ghosts C T} where
     pub ruled : IsRuled rules session
 
   -- A slot whose connection has not begun: connections were served, and one more was accepted.
-  pub record SitsBeginning (shards : ℕ) (rules : Rules) (may_answer : ℕ → Type 0) (sat : SeatAt) (source : SourceTold)
+  pub record SitsBeginning (shards : ℕ) (rules : Rules) (may_answer : ℕ → Type 0) (sat : SeatAt) (source : SourceFlow)
       (place : Place) (now : Sight) (session : Session T C w g) : Type 0 where
     -- the source before it was accepted
-    pub before : SourceTold
+    pub before : SourceFlow
     pub sits : SitsFree shards rules may_answer sat before session
     pub next : IsNext now before
     pub came : source ≡ let_in now before
     pub new : place ≡ unbegun (session_history session)
 
   -- A slot that serves: connections were served, and the one that is out is being served.
-  pub record SitsServing (shards : ℕ) (rules : Rules) (may_answer : ℕ → Type 0) (sat : SeatAt) (source : SourceTold)
+  pub record SitsServing (shards : ℕ) (rules : Rules) (may_answer : ℕ → Type 0) (sat : SeatAt) (source : SourceFlow)
       (place : Place) (now : Sight) (session : Session T C w g) : Type 0 where
     pub free : IsFree sat.source
-    pub lines : List LineTold
+    pub lines : List LineFlow
     -- the source before the connection was accepted; the connection and the ends when it began
-    pub before : SourceTold
+    pub before : SourceFlow
     pub begin : Sight
     pub ends : Ends Near
     pub passed : Passes sat.source lines before
@@ -124,7 +124,7 @@ module _ {T C : Type 0} {w : Warrants T} {g : Ghosts C T} where
 -- Connections of the source were served, until it returned that no more will come; then the first `count` channels were
 -- closed.
 pub record SitsClosing (shards : ℕ) (rules : Rules) (may_answer : ℕ → Type 0) (count : ℕ) (sat : SeatAt)
-    (source : SourceTold) (ends : Ends Near) (clerk : Acting) : Type 0 where
+    (source : SourceFlow) (ends : Ends Near) (clerk : Acting) : Type 0 where
   pub served : Ends Near
   pub serves : ServesSource shards rules may_answer sat (seat_at source served clerk)
   pub recorded : HasRecorded clerk served
@@ -132,7 +132,7 @@ pub record SitsClosing (shards : ℕ) (rules : Rules) (may_answer : ℕ → Type
 
 module _ {T : Type 0} {w : Warrants T} {g : Ghosts Acting T} where
   -- The invariant of a slot between two steps, by its state. The first argument of type `SeatAt` is how it began.
-  abbrev pub SeatStands : {L : Type 0} → (L → Place) → (L → Sight) → ℕ → Rules → (ℕ → Type 0) → SeatAt → SourceTold
+  abbrev pub SeatStands : {L : Type 0} → (L → Place) → (L → Sight) → ℕ → Rules → (ℕ → Type 0) → SeatAt → SourceFlow
       → Session T Acting w g → SlotState L → Type 0
   SeatStands place sight shards rules may_answer sat source session slot_state.Free =
       SitsFree shards rules may_answer sat source session
@@ -147,7 +147,7 @@ module _ {T : Type 0} {w : Warrants T} {g : Ghosts Acting T} where
 
 module _ {T C : Type 0} {w : Warrants T} {g : Ghosts C T} where
   -- A slot before its first step.
-  pub record HasSatDown {L : Type 0} (shards : ℕ) (rules : Rules) (source : SourceTold) (session : Session T C w g)
+  pub record HasSatDown {L : Type 0} (shards : ℕ) (rules : Rules) (source : SourceFlow) (session : Session T C w g)
       (now : SlotState L) : Type 0 where
     pub none : now ≡ slot_state.Free
     pub free : IsFree source
@@ -177,17 +177,17 @@ module _ {T C : Type 0} {w : Warrants T} {g : Ghosts C T} where
 
   -- The session was renewed, which succeeds if its connection has ended with nothing under way.
   pub record Renews (another : Bool) (old new : Session T C w g) : Type 0 where
-    pub when : (buffered_conn : BufferedConn) (told : Told) → old.buffered_conn ≡ Some buffered_conn
-        → IsConn buffered_conn.conn told → IsTrue another ↔ (IsAtRest told × IsOver told)
-    pub vacant : IsTrue another → (buffered_conn : BufferedConn) (told : Told) → old.buffered_conn ≡ Some buffered_conn
-        → IsConn buffered_conn.conn told → told.shards ≡ length (seat_ends old).channels
+    pub when : (buffered_conn : BufferedConn) (flow : Flow) → old.buffered_conn ≡ Some buffered_conn
+        → IsConn buffered_conn.conn flow → IsTrue another ↔ (IsAtRest flow × IsOver flow)
+    pub vacant : IsTrue another → (buffered_conn : BufferedConn) (flow : Flow) → old.buffered_conn ≡ Some buffered_conn
+        → IsConn buffered_conn.conn flow → flow.shards ≡ length (seat_ends old).channels
         → IsIdle old.shard_link.under_way.items → RecordsPastOf old.shard_link (seat_ends old)
-        → IsVacant told.rules told.window new
+        → IsVacant flow.rules flow.window new
     pub ends : seat_ends new ≡ seat_ends old
     pub history : session_history new ≡ session_history old
 
 -- The result of a free slot's `accept`: no connection, one that is out and has not begun, or that no more will come.
-abbrev pub Accepts : {L : Type 0} → (L → Place) → (L → Sight) → Name → SlotState L → SourceTold → SourceTold → Type 0
+abbrev pub Accepts : {L : Type 0} → (L → Place) → (L → Sight) → Name → SlotState L → SourceFlow → SourceFlow → Type 0
 Accepts place sight history slot_state.Free old new = new ≡ old
 Accepts place sight history (slot_state.Out line false) old new =
     (place line ≡ unbegun history) × IsNext (sight line) old × (new ≡ let_in (sight line) old)
@@ -204,7 +204,7 @@ IsOut (slot_state.Closing count) = ⊥
 IsOut slot_state.Over = ⊥
 
 -- The connection that was out was returned to its source.
-abbrev pub IsReturned : {L : Type 0} → (L → Sight) → SlotState L → ℕ → Bool → SourceTold → SourceTold → Type 0
+abbrev pub IsReturned : {L : Type 0} → (L → Sight) → SlotState L → ℕ → Bool → SourceFlow → SourceFlow → Type 0
 IsReturned sight slot_state.Free commands broke old new = ⊥
 IsReturned sight (slot_state.Out line begun) commands broke old new = new ≡ took_back (sight line) commands broke old
 IsReturned sight (slot_state.Closing count) commands broke old new = ⊥

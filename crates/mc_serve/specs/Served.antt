@@ -10,14 +10,14 @@ use Rattle.mc_history.specs.Lawful.{IsHistory}
 use Rattle.mc_history.specs.Tokens.{Sight as Shown}
 use Rattle.mc_history.specs.Worlds.{ran_in, seats_in}
 use Rattle.mc_record.specs.Recorder.{seated}
-use Rattle.mc_wake.specs.Zips.{Zips}
-use Rattle.mc_seat.specs.Story.{Story}
-use Rattle.mc_seat.specs.Reads.{ReadsOwingNothing}
-use Rattle.mc_seat.specs.Explains.{IsLogOfLines, LineTold, log_of}
-use Rattle.mc_doors.specs.Told.{SourceTold, IsDone, Passes, closed}
+use Rattle.mc_poll.specs.Zips.{Zips}
+use Rattle.mc_transport.specs.Story.{Story}
+use Rattle.mc_transport.specs.Reads.{ReadsOwingNothing}
+use Rattle.mc_transport.specs.Explains.{IsLogOfLines, LineFlow, log_of}
+use Rattle.mc_net.specs.Flow.{SourceFlow, IsDone, Passes, closed}
 
 -- The commands, each with its moment and answers, explain what was read from the connection and what was written to it.
-pub record ExplainsHistory (sizes : Sizes) (may_answer : ℕ → Type 0) (line : LineTold)
+pub record ExplainsHistory (sizes : Sizes) (may_answer : ℕ → Type 0) (line : LineFlow)
     (history : List AnsweredCommand) : Type 0 where
   -- The commands are those of the bytes read, and the texts of their replies were written.
   pub story : Story (rules_of sizes) line.begin line.now line.broke (map taken_of history) (map text_done history)
@@ -29,7 +29,7 @@ pub record ExplainsHistory (sizes : Sizes) (may_answer : ℕ → Type 0) (line :
 
 -- The log explains each connection of a slot by a list of commands.
 pub record ExplainsSeat (sizes : Sizes) (may_answer : ℕ → Type 0) (log : List Entry) (seat : ℕ)
-    (lines : List LineTold) : Type 0 where
+    (lines : List LineFlow) : Type 0 where
   pub histories : List (List AnsweredCommand)
   pub each : Zips (ExplainsHistory sizes may_answer) lines histories
   -- A shard ran for the slot exactly the operations of the first connection, then of the second, and so on.
@@ -37,14 +37,14 @@ pub record ExplainsSeat (sizes : Sizes) (may_answer : ℕ → Type 0) (log : Lis
       ≡ flat_map (λ history. on_shard shard (log_of sizes.shards seat history)) histories
 
 -- One source accepted these connections and took them back, until it returned that no more will come.
-pub record PassesAll (before : SourceTold) (lines : List LineTold) (after : SourceTold) : Type 0 where
-  pub passed : SourceTold
+pub record PassesAll (before : SourceFlow) (lines : List LineFlow) (after : SourceFlow) : Type 0 where
+  pub passed : SourceFlow
   pub passes : Passes before lines passed
   pub done : IsDone passed
   pub over : after ≡ closed passed
 
 -- Each source did so with its connections.
-abbrev pub PassEach : List SourceTold → List (List LineTold) → List SourceTold → Type 0
+abbrev pub PassEach : List SourceFlow → List (List LineFlow) → List SourceFlow → Type 0
 PassEach [] [] [] = Unit {0}
 PassEach [] [] (after ∷ afters) = ⊥
 PassEach [] (lines ∷ seats) afters = ⊥
@@ -65,12 +65,12 @@ pub record IsOfHistory (sizes : Sizes) (shown : Shown) (log : List Entry) : Type
 
 -- Each source accepted its connections and took them back, until it returned that no more will come. One log, of the
 -- history that the evidence shows, explains them all.
-pub record ServesSources (sizes : Sizes) (may_answer : ℕ → Type 0) (before after : List SourceTold) (shown : Shown) :
+pub record ServesSources (sizes : Sizes) (may_answer : ℕ → Type 0) (before after : List SourceFlow) (shown : Shown) :
     Type 0 where
-  pub seats : List (List LineTold)
+  pub seats : List (List LineFlow)
   pub back : PassEach before seats after
   pub log : List Entry
   pub log_is : IsLogOfLines sizes (length seats) log
   pub history : IsOfHistory sizes shown log
-  pub each : (seat : ℕ) (lines : List LineTold) → slice_get seats seat ≡ Some lines
+  pub each : (seat : ℕ) (lines : List LineFlow) → slice_get seats seat ≡ Some lines
       → ExplainsSeat sizes may_answer log seat lines

@@ -6,21 +6,21 @@ ghost use Rattle.std.specs.Prelude.{◌≡◌, ◌<◌, Bool, ℕ, IfOk, IsTrue,
 ghost use Rattle.mc_record.specs.Clerk.{IsSeatActor};
 ghost use Rattle.mc_ring.specs.Ends.{Ends};
 ghost use Rattle.mc_ring.specs.Channel.{Near};
-ghost use Rattle.mc_threads.specs.Ending.{EndsFirst};
-ghost use Rattle.mc_threads.specs.Routes.{AreOnRoutes};
-ghost use Rattle.mc_threads.specs.Session.{IsRuled, IsVacant, seat_clerk, seat_ends, session_history};
+ghost use Rattle.mc_session.specs.Ending.{EndsFirst};
+ghost use Rattle.mc_session.specs.Routes.{AreOnRoutes};
+ghost use Rattle.mc_session.specs.Session.{IsRuled, IsVacant, seat_clerk, seat_ends, session_history};
 ghost use Rattle.mc_serve.specs.Recorded.{IsClerkOf, route_from};
 ghost use Rattle.mc_serve.specs.Seats.{Accepts, CanBegin, CanStep, ClosesOn, HasRecorded, IsOut, IsReturned, Renews, SeatAt, SeatStands};
 ghost use Rattle.mc_serve.specs.declared.connection_slot.SlotState.TheVariants as slot_state;
 
-use mc_doors::{Accept, ConnectionSource};
+use mc_net::{Accept, ConnectionSource};
 use mc_history::Evidence;
 use mc_record::SeatClerk;
 use mc_ring::SeatEnds;
-use mc_seat::{BufferPool, Clock, LineStep, Ready, Served, Transport};
+use mc_transport::{BufferPool, Clock, LineStep, Ready, Served, Transport};
 use mc_sizes::Sizes;
-use mc_threads::Session;
-use mc_wake::Wakers;
+use mc_session::Session;
+use mc_poll::Wakers;
 use std::alloc::{AllocError, Global};
 use std::mem;
 
@@ -120,10 +120,10 @@ where
         ensures { (shards : ℕ) (rules : Rules) (sat : SeatAt) →
             SeatStands (λ line. D.Transport.place line) (λ line. D.Transport.sight line) shards
             rules (K.may_answer clock.now) sat
-            (D.told self.old.source) self.old.session self.old.slot_state →
+            (D.flow self.old.source) self.old.session self.old.slot_state →
             SeatStands (λ line. D.Transport.place line) (λ line. D.Transport.sight line) shards
             rules (K.may_answer clock.now) sat
-            (D.told self.new.source) self.new.session self.new.slot_state }
+            (D.flow self.new.source) self.new.session self.new.slot_state }
     {
         match &mut self.slot_state {
             SlotState::Out { line, begun } => {
@@ -153,8 +153,8 @@ where
     fn accept(&mut self) -> Stepped
         requires { self.old.slot_state ≡ slot_state.Free }
         ensures accepts { Accepts (λ line. D.Transport.place line) (λ line. D.Transport.sight line)
-            (session_history self.old.session) self.new.slot_state (D.told self.old.source)
-            (D.told self.new.source) }
+            (session_history self.old.session) self.new.slot_state (D.flow self.old.source)
+            (D.flow self.new.source) }
         ensures session { self.new.session ≡ self.old.session }
     {
         self.slot_state = match self.source.accept() {
@@ -173,10 +173,10 @@ where
         ensures { (shards : ℕ) (rules : Rules) (sat : SeatAt) →
             SeatStands (λ line. D.Transport.place line) (λ line. D.Transport.sight line) shards
             rules (K.may_answer clock.now) sat
-            (D.told self.old.source) self.old.session self.old.slot_state →
+            (D.flow self.old.source) self.old.session self.old.slot_state →
             SeatStands (λ line. D.Transport.place line) (λ line. D.Transport.sight line) shards
             rules (K.may_answer clock.now) sat
-            (D.told self.new.source) self.new.session self.new.slot_state }
+            (D.flow self.new.source) self.new.session self.new.slot_state }
     {
         let SlotState::Out { line, begun } = &mut self.slot_state else {
             unreachable!()
@@ -199,8 +199,8 @@ where
     fn end(&mut self, served: Served) -> Stepped
         requires { IsOut self.old.slot_state }
         ensures free { self.new.slot_state ≡ slot_state.Free }
-        ensures told { IsReturned (λ line. D.Transport.sight line) self.old.slot_state
-            served.commands served.broke (D.told self.old.source) (D.told self.new.source) }
+        ensures flow { IsReturned (λ line. D.Transport.sight line) self.old.slot_state
+            served.commands served.broke (D.flow self.old.source) (D.flow self.new.source) }
         ensures renewed { (another : Bool) × Renews another self.old.session self.new.session }
     {
         let SlotState::Out { line, .. } = mem::replace(&mut self.slot_state, SlotState::Free) else {

@@ -1,6 +1,6 @@
 //! The errors of a server.
 use mc_ring::RingError;
-use mc_wake::ThreadGroupError;
+use mc_poll::ThreadGroupError;
 use std::alloc::AllocError;
 use thiserror::Error;
 
@@ -33,7 +33,7 @@ impl From<AllocError> for ServeError {
 
 impl From<ThreadGroupError> for ServeError {
     ghost use Rattle.std.specs.Prelude.{◌≡◌, ◌≢◌};
-    ghost use Rattle.mc_wake.specs.declared.thread_group.ThreadGroupError.TheVariants as thread_group;
+    ghost use Rattle.mc_poll.specs.declared.thread_group.ThreadGroupError.TheVariants as thread_group;
     ghost use Rattle.mc_serve.specs.declared.error.ServeError.TheVariants.{Bind, Memory, Thread};
 
     ghost from_gives = { λ why refusal.

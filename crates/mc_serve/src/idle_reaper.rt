@@ -1,9 +1,9 @@
 //! The idle reaper: a thread that wakes slots without events, so that they find idle connections
 //! and requests for shutdown.
 use crate::error::ServeError;
-use mc_doors::AcceptorHandle;
-use mc_wake::{Poller, Wakers};
-use mc_watch::{CoarseClock, Drain, IdleLimit, StopToken, Telemetry};
+use mc_net::AcceptorHandle;
+use mc_poll::{Poller, Wakers};
+use mc_telemetry::{CoarseClock, Drain, IdleLimit, StopToken, Telemetry};
 use std::alloc::Global;
 use std::sync::{Arc, Wait};
 use std::thread::{JoinHandle, Threads};

@@ -1,6 +1,6 @@
 //! The report on all connections.
 use http_server::Log;
-use mc_doors::{ClosedConnection, Stream};
+use mc_net::{ClosedConnection, Stream};
 use mc_history::Evidence;
 
 /// The connections that were served and have ended, by slot.

@@ -3,20 +3,20 @@ ghost use Rattle.std.specs.Prelude.{◌≡◌, ◌≢◌, [], IfErr, IfOk, lengt
 ghost use Rattle.std.specs.List.{AllByRecursion};
 ghost use Rattle.mc_sizes.specs.Sizes.{MayServe};
 ghost use Rattle.mc_record.specs.Opening.{IsOpening};
-ghost use Rattle.mc_seat.specs.Place.{unbegun};
-ghost use Rattle.mc_wake.specs.Zips.{Zips};
+ghost use Rattle.mc_transport.specs.Place.{unbegun};
+ghost use Rattle.mc_poll.specs.Zips.{Zips};
 ghost use Rattle.mc_serve.specs.Over.{ServesAll, came_back};
 ghost use Rattle.mc_serve.specs.declared.error.ServeError.TheVariants.{Bind};
-ghost use Rattle.mc_doors.specs.One.{IsBack, told_of, waits};
+ghost use Rattle.mc_net.specs.One.{IsBack, flow_of, waits};
 
 use crate::error::ServeError;
 use crate::serving::serve;
-use mc_doors::{ServedLine, SingleSource};
+use mc_net::{ServedLine, SingleSource};
 use mc_history::Evidence;
 use mc_record::Opening;
-use mc_seat::{Clock, Transport};
+use mc_transport::{Clock, Transport};
 use mc_sizes::Sizes;
-use mc_wake::{Poller, SpinPolicy};
+use mc_poll::{Poller, SpinPolicy};
 use mc_worker::Gate;
 use std::alloc::{AllocError, Global};
 use std::random::RandomSource;
@@ -106,8 +106,8 @@ fn sources_for<L: Transport<Warrant = Evidence> + Drop>(
     history: &Evidence,
 ) -> Result<Vec<SingleSource<L>>, AllocError>
     requires { AllByRecursion (λ line. L.place line ≡ unbegun history.now.name) lines.items }
-    ensures told { IfOk result (λ sources.
-        map (λ source. told_of (λ line. L.sight line) source)
+    ensures flow { IfOk result (λ sources.
+        map (λ source. flow_of (λ line. L.sight line) source)
         sources.items ≡ map (λ line. waits (L.sight line)) lines.items) }
     ensures history { IfOk result (λ sources.
         AllByRecursion (λ source. source.history.value.name ≡ history.now.name) sources.items) }
@@ -129,7 +129,7 @@ fn gather<L: Transport + Drop>(
     ensures evidence { IfOk result (λ report. report.evidence ≡ evidence) }
     ensures back { IfOk result (λ report.
         Zips (λ source one.
-        IsBack (told_of (λ line. L.sight line) source)
+        IsBack (flow_of (λ line. L.sight line) source)
         (L.sight one.line) one.commands one.broke) sources.items report.lines.items) }
     ensures refused { IfErr result (λ refusal. refusal ≢ Bind) }
 {

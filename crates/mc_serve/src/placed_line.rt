@@ -1,9 +1,9 @@
 //! A line in memory that records which connection of a history it is.
 ghost use Rattle.std.specs.Prelude.{◌≡◌};
-ghost use Rattle.mc_seat.specs.Place.{unbegun};
+ghost use Rattle.mc_transport.specs.Place.{unbegun};
 
 use mc_history::Evidence;
-use mc_seat::{Ready, Taking, Transport, TransportError};
+use mc_transport::{Ready, Taking, Transport, TransportError};
 use mc_wire::SinkError;
 use std::io::IoSlice;
 use std::snapshot::Snapshot;
@@ -22,7 +22,7 @@ pub struct PlacedLine<L> {
 }
 
 impl<L: Transport<Warrant = ()> + Drop> PlacedLine<L> {
-    ghost use Rattle.mc_seat.specs.Place.{bytes_seen, place_by};
+    ghost use Rattle.mc_transport.specs.Place.{bytes_seen, place_by};
     ghost use Rattle.mc_history.specs.Places.{place_in};
 
     /// A line of this token's history that has not begun.
@@ -51,7 +51,7 @@ impl<L: Transport<Warrant = ()> + Drop> PlacedLine<L> {
 }
 
 impl<L: Transport<Warrant = ()> + Drop> Transport for PlacedLine<L> {
-    ghost use Rattle.mc_seat.specs.Place.{bytes_seen, place_by};
+    ghost use Rattle.mc_transport.specs.Place.{bytes_seen, place_by};
     ghost use Rattle.mc_history.specs.Places.{place_in};
 
     type Warrant = Evidence;

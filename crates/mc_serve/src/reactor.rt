@@ -2,20 +2,20 @@
 ghost use Rattle.mc_sizes.specs.Sizes.{rules_of};
 ghost use Rattle.std.specs.Prelude.{◌≡◌, IfOk, IsTrue, map};
 ghost use Rattle.std.specs.List.{AllByRecursion};
-ghost use Rattle.mc_threads.specs.Session.{seat_clerk, seat_ends};
-ghost use Rattle.mc_wake.specs.Zips.{Zips};
+ghost use Rattle.mc_session.specs.Session.{seat_clerk, seat_ends};
+ghost use Rattle.mc_poll.specs.Zips.{Zips};
 ghost use Rattle.mc_serve.specs.Seats.{HasSatDown, SeatServes, seat_at};
 ghost use Rattle.mc_serve.specs.declared.connection_slot.SlotState.TheVariants as slot_state;
 
 use crate::connection_slot::ConnectionSlot;
 use crate::slot_table::SlotTable;
-use mc_doors::ConnectionSource;
+use mc_net::ConnectionSource;
 use mc_history::Evidence;
 use mc_record::Recorder;
-use mc_seat::{BufferPool, Clock, Transport};
+use mc_transport::{BufferPool, Clock, Transport};
 use mc_sizes::Sizes;
-use mc_threads::Working;
-use mc_wake::{Poller, Task};
+use mc_session::Working;
+use mc_poll::{Poller, Task};
 use mc_worker::Gate;
 use std::alloc::{AllocError, Global};
 use std::sync::Wait;
@@ -61,11 +61,11 @@ where
         clock: K,
     ) -> Result<Reactor<D, G, K>, AllocError>
         requires { AllByRecursion (λ one.
-            HasSatDown sizes.shards (rules_of sizes) (D.told one.source) one.session one.slot_state)
+            HasSatDown sizes.shards (rules_of sizes) (D.flow one.source) one.session one.slot_state)
             seats.items }
         ensures ready { IfOk result (λ part.
             AllByRecursion (λ one.
-            HasSatDown part.sizes.shards (rules_of part.sizes) (D.told one.source) one.session
+            HasSatDown part.sizes.shards (rules_of part.sizes) (D.flow one.source) one.session
             one.slot_state) part.seats.all.items) }
         ensures seats { IfOk result (λ part. part.seats.all ≡ seats) }
         ensures sizes { IfOk result (λ part. part.sizes ≡ sizes) }
@@ -85,15 +85,15 @@ where
     /// finds nothing to do ends with a wait of the poller.
     fn run<R: Wait>(&mut self, rt: &R)
         requires { AllByRecursion (λ one.
-            HasSatDown self.old.sizes.shards (rules_of self.old.sizes) (D.told one.source)
+            HasSatDown self.old.sizes.shards (rules_of self.old.sizes) (D.flow one.source)
             one.session
             one.slot_state) self.old.seats.all.items }
         ensures { Zips
             (SeatServes self.old.sizes.shards (rules_of self.old.sizes)
             (K.may_answer self.old.clock))
-            (map (λ one. seat_at (D.told one.source) (seat_ends one.session)
+            (map (λ one. seat_at (D.flow one.source) (seat_ends one.session)
             (seat_clerk one.session)) self.old.seats.all.items)
-            (map (λ one. seat_at (D.told one.source) (seat_ends one.session)
+            (map (λ one. seat_at (D.flow one.source) (seat_ends one.session)
             (seat_clerk one.session)) self.new.seats.all.items) }
     {
         for _ in rt.forever() {
@@ -186,14 +186,14 @@ where
 {
     ghost is_ready = { λ part.
         AllByRecursion (λ one.
-        HasSatDown part.sizes.shards (rules_of part.sizes) (D.told one.source) one.session
+        HasSatDown part.sizes.shards (rules_of part.sizes) (D.flow one.source) one.session
         one.slot_state) part.seats.all.items };
 
     ghost does = { λ sat rose.
         Zips (SeatServes sat.sizes.shards (rules_of sat.sizes) (K.may_answer sat.clock))
-        (map (λ one. seat_at (D.told one.source) (seat_ends one.session) (seat_clerk one.session))
+        (map (λ one. seat_at (D.flow one.source) (seat_ends one.session) (seat_clerk one.session))
         sat.seats.all.items)
-        (map (λ one. seat_at (D.told one.source) (seat_ends one.session) (seat_clerk one.session))
+        (map (λ one. seat_at (D.flow one.source) (seat_ends one.session) (seat_clerk one.session))
         rose.seats.all.items) };
 
     fn work<R: Wait>(self, rt: &R) -> Reactor<D, G, K> {

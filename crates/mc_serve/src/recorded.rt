@@ -1,7 +1,7 @@
 //! New channels, with the actors that record what is sent over them.
 ghost use Rattle.std.specs.Prelude.{◌≡◌, IfOk};
 ghost use Rattle.mc_ring.specs.Made.{AreChannels};
-ghost use Rattle.mc_wake.specs.Zips.{Zips};
+ghost use Rattle.mc_poll.specs.Zips.{Zips};
 ghost use Rattle.mc_record.specs.Opening.{IsOpening};
 ghost use Rattle.mc_serve.specs.Recorded.{IsClerkOf, IsRecorderOf};
 

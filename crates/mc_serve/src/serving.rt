@@ -5,10 +5,10 @@ ghost use Rattle.std.specs.List.{AllByRecursion, flat_map};
 ghost use Rattle.std.specs.Vec.Iter.{into_iter_items};
 ghost use Rattle.mc_sizes.specs.Sizes.{MayServe, SuitLines, rules_of};
 ghost use Rattle.mc_record.specs.Opening.{IsOpening};
-ghost use Rattle.mc_threads.specs.Session.{seat_clerk, seat_ends};
+ghost use Rattle.mc_session.specs.Session.{seat_clerk, seat_ends};
 ghost use Rattle.mc_serve.specs.declared.error.ServeError.TheVariants.{Bind};
-ghost use Rattle.mc_doors.specs.Told.{IsFree};
-ghost use Rattle.mc_wake.specs.Zips.{Zips};
+ghost use Rattle.mc_net.specs.Flow.{IsFree};
+ghost use Rattle.mc_poll.specs.Zips.{Zips};
 ghost use Rattle.mc_serve.specs.Recorded.{IsClerkOf};
 ghost use Rattle.mc_serve.specs.Seats.{HasSatDown};
 ghost use Rattle.mc_serve.specs.Served.{ServesSources};
@@ -18,14 +18,14 @@ use crate::error::ServeError;
 use crate::reactor::Reactor;
 use crate::recorded::RecordedChannels;
 use crate::settling::ReturnRoom;
-use mc_doors::ConnectionSource;
+use mc_net::ConnectionSource;
 use mc_history::{Evidence, Member};
 use mc_record::{Opening, Recorder, SeatClerk, close};
 use mc_ring::SeatEnds;
-use mc_seat::{Clock, Transport};
+use mc_transport::{Clock, Transport};
 use mc_sizes::Sizes;
-use mc_threads::{Working, make_recorded_workers};
-use mc_wake::{Poller, ThreadGroup, ThreadGroupError, Wakers};
+use mc_session::{Working, make_recorded_workers};
+use mc_poll::{Poller, ThreadGroup, ThreadGroupError, Wakers};
 use mc_worker::{Gate, Worker};
 use std::alloc::{AllocError, Global};
 use std::random::RandomSource;
@@ -65,12 +65,12 @@ where
         opening.recorders.items opening.clerks.items opening.witness }
     requires history { AllByRecursion (λ source. D.history source ≡ opening.witness.name)
         sources.items }
-    requires free { AllByRecursion (λ source. IsFree (D.told source)) sources.items }
+    requires free { AllByRecursion (λ source. IsFree (D.flow source)) sources.items }
     // One log, of the history that the evidence shows, explains what was read from all connections,
     // what was written to them and what the shards ran.
     ensures explained { IfOk result (λ back.
         ServesSources (record sizes { seats = length sources.items }) (K.may_answer clock)
-        (map (λ source. D.told source) sources.items) (map (λ source. D.told source) back.0.items)
+        (map (λ source. D.flow source) sources.items) (map (λ source. D.flow source) back.0.items)
         back.1) }
     ensures shown { IfOk result (λ back. back.1.name ≡ opening.witness.name) }
     ensures refused { IfErr result (λ refusal. refusal ≢ Bind) }
@@ -107,10 +107,10 @@ where
         opening.witness }
     requires history { AllByRecursion (λ source. D.history source ≡ opening.witness.name)
         sources.items }
-    requires free { AllByRecursion (λ source. IsFree (D.told source)) sources.items }
+    requires free { AllByRecursion (λ source. IsFree (D.flow source)) sources.items }
     ensures explained { IfOk result (λ back.
-        ServesSources sizes (K.may_answer clock) (map (λ source. D.told source) sources.items)
-        (map (λ source. D.told source) back.0.items) back.1) }
+        ServesSources sizes (K.may_answer clock) (map (λ source. D.flow source) sources.items)
+        (map (λ source. D.flow source) back.0.items) back.1) }
     ensures shown { IfOk result (λ back. back.1.name ≡ opening.witness.name) }
 {
     let mut thread_group = ThreadGroup::new(alloc, pollers.len())?;
@@ -170,7 +170,7 @@ where
         opening.witness }
     requires history { AllByRecursion (λ source. D.history source ≡ opening.witness.name)
         sources.items }
-    requires free { AllByRecursion (λ source. IsFree (D.told source)) sources.items }
+    requires free { AllByRecursion (λ source. IsFree (D.flow source)) sources.items }
     requires none { thread_group.old ≡ [] }
     ensures witness { IfOk result (λ witness. witness ≡ opening.witness) }
     ensures clerks { OnOk result
@@ -214,7 +214,7 @@ where
     requires clerks { Zips (IsClerkOf sizes) ends.items clerks.items }
     requires history { Zips (λ source clerk. D.history source ≡ clerk.name)
         sources.items clerks.items }
-    requires free { AllByRecursion (λ source. IsFree (D.told source)) sources.items }
+    requires free { AllByRecursion (λ source. IsFree (D.flow source)) sources.items }
     ensures clerks { IfOk result
         (λ seats. map (λ one. seat_clerk one.session) seats.items ≡ clerks.items) }
     ensures fit { IfOk result (λ seats.
@@ -223,7 +223,7 @@ where
     ensures sources { IfOk result (λ seats. map (λ one. one.source) seats.items ≡ sources.items) }
     ensures begin { IfOk result (λ seats.
         AllByRecursion (λ one.
-        HasSatDown sizes.shards (rules_of sizes) (D.told one.source) one.session one.slot_state)
+        HasSatDown sizes.shards (rules_of sizes) (D.flow one.source) one.session one.slot_state)
         seats.items) }
 {
     let mut seats = Vec::with_capacity(alloc, ends.len())?;
@@ -289,7 +289,7 @@ where
             opening.witness }
         requires history { AllByRecursion (λ source. D.history source ≡ opening.witness.name)
             sources.items }
-        requires free { AllByRecursion (λ source. IsFree (D.told source)) sources.items }
+        requires free { AllByRecursion (λ source. IsFree (D.flow source)) sources.items }
         ensures witness { IfOk result (λ left. left.witness ≡ opening.witness) }
         ensures clerks { IfOk result (λ left.
             map (λ one. seat_clerk one.session) (into_iter_items left.seats) ≡
@@ -302,7 +302,7 @@ where
             map (λ one. one.source) (into_iter_items left.seats) ≡ sources.items) }
         ensures begin { IfOk result (λ left.
             AllByRecursion (λ one.
-            HasSatDown sizes.shards (rules_of sizes) (D.told one.source) one.session one.slot_state)
+            HasSatDown sizes.shards (rules_of sizes) (D.flow one.source) one.session one.slot_state)
             (into_iter_items left.seats)) }
     {
         let RecordedChannels {
@@ -333,11 +333,11 @@ where
         clock: K,
     ) -> Result<Reactor<D, G, K>, AllocError>
         requires begin { AllByRecursion (λ one.
-            HasSatDown sizes.shards (rules_of sizes) (D.told one.source) one.session one.slot_state)
+            HasSatDown sizes.shards (rules_of sizes) (D.flow one.source) one.session one.slot_state)
             (into_iter_items self.old.seats) }
         ensures ready { IfOk result (λ part.
             AllByRecursion (λ one.
-            HasSatDown part.sizes.shards (rules_of part.sizes) (D.told one.source) one.session
+            HasSatDown part.sizes.shards (rules_of part.sizes) (D.flow one.source) one.session
             one.slot_state) part.seats.all.items) }
         ensures seats { IfOk result (λ part.
             part.seats.all.items ++ into_iter_items self.new.seats ≡

@@ -2,17 +2,17 @@
 ghost use Rattle.std.specs.Prelude.{◌≡◌, [], IfOk, OnOk, map};
 ghost use Rattle.std.specs.List.{AllByRecursion, flat_map};
 ghost use Rattle.mc_record.specs.Clerk.{IsSeatActor};
-ghost use Rattle.mc_threads.specs.Routes.{AreOnRoutes};
-ghost use Rattle.mc_threads.specs.Session.{seat_clerk, seat_ends};
+ghost use Rattle.mc_session.specs.Routes.{AreOnRoutes};
+ghost use Rattle.mc_session.specs.Session.{seat_clerk, seat_ends};
 ghost use Rattle.mc_serve.specs.Recorded.{route_from};
 
 use crate::connection_slot::ConnectionSlot;
 use crate::reactor::Reactor;
-use mc_doors::ConnectionSource;
+use mc_net::ConnectionSource;
 use mc_history::Evidence;
 use mc_record::SeatClerk;
-use mc_seat::{Clock, Transport};
-use mc_wake::ThreadGroupError;
+use mc_transport::{Clock, Transport};
+use mc_poll::ThreadGroupError;
 use mc_worker::Gate;
 use std::alloc::{AllocError, Global};
 

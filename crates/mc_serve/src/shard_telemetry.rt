@@ -2,7 +2,7 @@
 use crossbeam_utils::CachePadded;
 use mc_reply::Ticket;
 use mc_store::Shard;
-use mc_watch::ShardCounts;
+use mc_telemetry::ShardCounts;
 use mc_worker::Gate;
 use std::alloc::Global;
 use std::sync::Arc;

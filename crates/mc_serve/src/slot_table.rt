@@ -2,15 +2,15 @@
 ghost use Rattle.mc_command.specs.declared.rules.Rules.{Rules};
 ghost use Rattle.std.specs.Prelude.{◌≡◌, ℕ, List, IsTrue};
 ghost use Rattle.std.specs.List.{AllByRecursion};
-ghost use Rattle.mc_wake.specs.Zips.{Zips};
+ghost use Rattle.mc_poll.specs.Zips.{Zips};
 ghost use Rattle.mc_serve.specs.Seats.{SeatAt, SeatStands};
 ghost use Rattle.mc_serve.specs.declared.connection_slot.SlotState.TheVariants as slot_state;
 
 use crate::connection_slot::{ConnectionSlot, Stepped};
-use mc_doors::ConnectionSource;
+use mc_net::ConnectionSource;
 use mc_history::Evidence;
-use mc_seat::{BufferPool, Clock, Ready, Transport};
-use mc_wake::{Poller, Readiness, SetBits};
+use mc_transport::{BufferPool, Clock, Ready, Transport};
+use mc_poll::{Poller, Readiness, SetBits};
 
 /// Number of slots of a word, each with a bit.
 const WORD: usize = 64;
@@ -48,16 +48,16 @@ where
             Zips (λ sat one.
             SeatStands (λ line. D.Transport.place line) (λ line. D.Transport.sight line) shards
             rules (K.may_answer clock.now) sat
-            (D.told one.source) one.session one.slot_state) sats self.old.all.items }
+            (D.flow one.source) one.session one.slot_state) sats self.old.all.items }
         ensures { (shards : ℕ) (rules : Rules) (sats : List SeatAt) →
             Zips (λ sat one.
             SeatStands (λ line. D.Transport.place line) (λ line. D.Transport.sight line) shards
             rules (K.may_answer clock.now) sat
-            (D.told one.source) one.session one.slot_state) sats self.old.all.items →
+            (D.flow one.source) one.session one.slot_state) sats self.old.all.items →
             Zips (λ sat one.
             SeatStands (λ line. D.Transport.place line) (λ line. D.Transport.sight line) shards
             rules (K.may_answer clock.now) sat
-            (D.told one.source) one.session one.slot_state) sats self.new.all.items }
+            (D.flow one.source) one.session one.slot_state) sats self.new.all.items }
     {
         let (first, end) = poller.roused_words();
         for word in first..end {
@@ -78,16 +78,16 @@ where
             Zips (λ sat one.
             SeatStands (λ line. D.Transport.place line) (λ line. D.Transport.sight line) shards
             rules (K.may_answer clock.now) sat
-            (D.told one.source) one.session one.slot_state) sats self.old.all.items }
+            (D.flow one.source) one.session one.slot_state) sats self.old.all.items }
         ensures { (shards : ℕ) (rules : Rules) (sats : List SeatAt) →
             Zips (λ sat one.
             SeatStands (λ line. D.Transport.place line) (λ line. D.Transport.sight line) shards
             rules (K.may_answer clock.now) sat
-            (D.told one.source) one.session one.slot_state) sats self.old.all.items →
+            (D.flow one.source) one.session one.slot_state) sats self.old.all.items →
             Zips (λ sat one.
             SeatStands (λ line. D.Transport.place line) (λ line. D.Transport.sight line) shards
             rules (K.may_answer clock.now) sat
-            (D.told one.source) one.session one.slot_state) sats self.new.all.items }
+            (D.flow one.source) one.session one.slot_state) sats self.new.all.items }
     {
         let mut again = 0u64;
         for place in SetBits::of(word, poller.roused_in(word)) {
@@ -113,16 +113,16 @@ where
             Zips (λ sat one.
             SeatStands (λ line. D.Transport.place line) (λ line. D.Transport.sight line) shards
             rules (K.may_answer clock.now) sat
-            (D.told one.source) one.session one.slot_state) sats self.old.all.items }
+            (D.flow one.source) one.session one.slot_state) sats self.old.all.items }
         ensures { (shards : ℕ) (rules : Rules) (sats : List SeatAt) →
             Zips (λ sat one.
             SeatStands (λ line. D.Transport.place line) (λ line. D.Transport.sight line) shards
             rules (K.may_answer clock.now) sat
-            (D.told one.source) one.session one.slot_state) sats self.old.all.items →
+            (D.flow one.source) one.session one.slot_state) sats self.old.all.items →
             Zips (λ sat one.
             SeatStands (λ line. D.Transport.place line) (λ line. D.Transport.sight line) shards
             rules (K.may_answer clock.now) sat
-            (D.told one.source) one.session one.slot_state) sats self.new.all.items }
+            (D.flow one.source) one.session one.slot_state) sats self.new.all.items }
     {
         if place >= self.all.len() {
             return Stepped::Waits;

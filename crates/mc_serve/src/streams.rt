@@ -3,20 +3,20 @@ ghost use Rattle.std.specs.Prelude.{◌≡◌, ◌^◌, ◌-◌, IfOk, length, m
 ghost use Rattle.std.specs.List.{AllByRecursion};
 ghost use Rattle.mc_command.specs.Rules.{is_drop_in};
 ghost use Rattle.mc_sizes.specs.Sizes.{MayServe, rules_of};
-ghost use Rattle.mc_wake.specs.Zips.{Zips};
-ghost use Rattle.mc_doors.specs.Tcp.{gone_count, new_source, told_source};
+ghost use Rattle.mc_poll.specs.Zips.{Zips};
+ghost use Rattle.mc_net.specs.Tcp.{gone_count, new_source, flow_source};
 ghost use Rattle.mc_serve.specs.Connections.{AreServed, ServesConnections, seats_of};
 
 use crate::error::ServeError;
 use crate::outcome::Outcome;
 use crate::serving::serve;
 use http_server::Log;
-use mc_doors::{Arrivals, StreamSource};
+use mc_net::{Arrivals, StreamSource};
 use mc_history::Evidence;
 use mc_record::Opening;
-use mc_seat::Clock;
+use mc_transport::Clock;
 use mc_sizes::Sizes;
-use mc_wake::Poller;
+use mc_poll::Poller;
 use mc_worker::Gate;
 use std::alloc::{AllocError, Global};
 use std::random::RandomSource;
@@ -72,8 +72,8 @@ fn sources_for<R: time::Clock + Copy + Drop, A: Arrivals + Drop>(
     arrivals: Vec<A>,
     sizes: Sizes,
 ) -> Result<Vec<StreamSource<R, A, Evidence>>, AllocError>
-    ensures told { IfOk result (λ sources.
-        map (λ source. told_source (A.coming source.arrivals) source.out source.gone.items
+    ensures flow { IfOk result (λ sources.
+        map (λ source. flow_source (A.coming source.arrivals) source.out source.gone.items
         source.is_over)
         sources.items ≡
         map (λ one. new_source A.Stream.remaining A.Stream.contents (A.coming one))
@@ -104,7 +104,7 @@ fn gather<R: time::Clock + Drop, A: Arrivals + Drop>(
         min
         (gone_count
         (map
-        (λ source. told_source (A.coming source.arrivals) source.out source.gone.items
+        (λ source. flow_source (A.coming source.arrivals) source.out source.gone.items
         source.is_over)
         sources.items)) (2 ^ 64 - 1)) ×
         (seats_of served ≡ map (λ source. source.gone.items) sources.items)) }

@@ -20,7 +20,7 @@ use Rattle.mc_conn.specs.internal.Inside.{put_first}
 use Rattle.mc_conn.specs.Due.{due, channel}
 use Rattle.mc_join.specs.Expects.{Expects}
 use Rattle.mc_conn.specs.Fits.{ReceivesFromShard}
-use Rattle.mc_conn.specs.Told.{Told, all_pending_replies, all_pieces}
+use Rattle.mc_conn.specs.Flow.{Flow, all_pending_replies, all_pieces}
 use Rattle.mc_conn.proofs.Counting.{due_beyond}
 use Rattle.mc_conn.proofs.Fitting.{next_expected, next_fits}
 use Rattle.mc_conn.proofs.Places.{channel_there}
@@ -32,8 +32,8 @@ use Rattle.mc_server.specs.internal.Answering.{ShardsAnswered, AnswersMore, Reco
 use Rattle.mc_server.specs.internal.Recording.{CanNoteRun, IsWhole, entry_for, replies_on}
 use Rattle.mc_server.proofs.Backing.{Backs-push}
 use Rattle.mc_history.specs.Tokens.{Acting}
-use Rattle.mc_seat.specs.Place.{Place}
-use Rattle.mc_seat.proofs.Along.{keeps_trans}
+use Rattle.mc_transport.specs.Place.{Place}
+use Rattle.mc_transport.proofs.Along.{keeps_trans}
 use Rattle.mc_ring.proofs.Lists.{all_push}
 
 -- the reply to an entry, as it is made
@@ -52,16 +52,16 @@ channel_ran s (entry ∷ log) = elim (cases_Bool (entry.shard == s)) [
 ]
 
 -- the next piece that is out is the next one that is due at its shard
-next_due : (sizes : Sizes) (told : Told) (shards : List Shard) (log : List Entry) (place : ℕ) (piece : Piece)
-    → ShardsAnswered sizes told shards log → slice_get (all_pieces told) told.out ≡ Some (place, piece)
-    → slice_get (due told.shards place told.taken) (length (replies_on log place)) ≡ Some piece
-next_due sizes told shards log place piece answers next =
+next_due : (sizes : Sizes) (flow : Flow) (shards : List Shard) (log : List Entry) (place : ℕ) (piece : Piece)
+    → ShardsAnswered sizes flow shards log → slice_get (all_pieces flow) flow.out ≡ Some (place, piece)
+    → slice_get (due flow.shards place flow.taken) (length (replies_on log place)) ≡ Some piece
+next_due sizes flow shards log place piece answers next =
     let es = on_shard place log in
-    let ran : channel place (take told.out (all_pieces told)) ≡ pieces_in es = ap (channel place) (sym answers.ran)
+    let ran : channel place (take flow.out (all_pieces flow)) ≡ pieces_in es = ap (channel place) (sym answers.ran)
     ∙ channel_ran place log in
-    let same : length (replies_on log place) ≡ length (channel place (take told.out (all_pieces told))) =
+    let same : length (replies_on log place) ≡ length (channel place (take flow.out (all_pieces flow))) =
     omega (arith, ap length ran, length-map es (λ (entry : Entry). entry.piece), length-map es reply_to) in
-    rw same (channel_there place (all_pieces told) told.out piece next)
+    rw same (channel_there place (all_pieces flow) flow.out piece next)
 
 -- a shard gave one reply more
 receives_entry : (log : List Entry) (entry : Entry)
@@ -74,14 +74,14 @@ receives_entry log entry = record {
 }
 
 -- the next piece was run, and its answer accepted
-answers_next : (sizes : Sizes) (told : Told) (shards : List Shard) (log : List Entry) (place : ℕ) (piece : Piece)
-    (answer : Answer) (was shard : Shard) → ShardsAnswered sizes told shards log → slice_get (all_pieces told) told.out
+answers_next : (sizes : Sizes) (flow : Flow) (shards : List Shard) (log : List Entry) (place : ℕ) (piece : Piece)
+    (answer : Answer) (was shard : Shard) → ShardsAnswered sizes flow shards log → slice_get (all_pieces flow) flow.out
     ≡ Some (place, piece) →
     slice_get shards place ≡ Some was → Steps was piece.op piece.moment answer shard →
-    ShardsAnswered sizes (record told
-    { out = told.out + 1; lent = true; accepted = told.accepted ++ reply_to (entry_for place piece answer) ∷ [] }) (set
+    ShardsAnswered sizes (record flow
+    { out = flow.out + 1; lent = true; accepted = flow.accepted ++ reply_to (entry_for place piece answer) ∷ [] }) (set
     shards place shard) (log ++ entry_for place piece answer ∷ [])
-answers_next sizes told shards log place piece answer was shard answers next got steps =
+answers_next sizes flow shards log place piece answer was shard answers next got steps =
     let entry = entry_for place piece answer in
     record {
       some = answers.some;
@@ -93,82 +93,82 @@ answers_next sizes told shards log place piece answer was shard answers next got
       ran =
           map-append piece_in log (entry ∷ [])
           ∙ (ap (λ ps. ps ++ (place, piece) ∷ []) answers.ran
-          ∙ sym (take_next told.out (all_pieces told) (place, piece) next));
+          ∙ sym (take_next flow.out (all_pieces flow) (place, piece) next));
       fits =
-          next_fits told.shards place told.taken told.accepted (replies_on log) (replies_on (log ++ entry ∷ [])) piece
+          next_fits flow.shards place flow.taken flow.accepted (replies_on log) (replies_on (log ++ entry ∷ [])) piece
           (reply_to entry) answers.fits
-          (next_due sizes told shards log place piece answers next) (record { ticket = refl; part = refl; kind = refl })
+          (next_due sizes flow shards log place piece answers next) (record { ticket = refl; part = refl; kind = refl })
           (receives_entry log entry);
     }
 
 -- before any of them is run
-pub more_none : (sizes : Sizes) (told : Told) (conn : Conn) (shards : List Shard) (log : List Entry) → IsConn conn told
-    → ShardsAnswered sizes told shards log → AnswersMore sizes told conn shards
-more_none sizes told conn shards log is answers = record {
-  out = told.out;
-  lent = told.lent;
-  accepted = told.accepted;
+pub more_none : (sizes : Sizes) (flow : Flow) (conn : Conn) (shards : List Shard) (log : List Entry) → IsConn conn flow
+    → ShardsAnswered sizes flow shards log → AnswersMore sizes flow conn shards
+more_none sizes flow conn shards log is answers = record {
+  out = flow.out;
+  lent = flow.lent;
+  accepted = flow.accepted;
   log = log;
   conn_is = is;
   answers = answers;
-  handed = record { within = (is_sound conn told is).handed; same = refl };
+  handed = record { within = (is_sound conn flow is).handed; same = refl };
 }
 
 -- what is known once these pieces are answered
-abbrev pub told_more : {sizes : Sizes} {conn : Conn} {shards : List Shard} (told : Told)
-    → AnswersMore sizes told conn shards → Told
-told_more told more = record told { out = more.out; lent = more.lent; accepted = more.accepted }
+abbrev pub flow_more : {sizes : Sizes} {conn : Conn} {shards : List Shard} (flow : Flow)
+    → AnswersMore sizes flow conn shards → Flow
+flow_more flow more = record flow { out = more.out; lent = more.lent; accepted = more.accepted }
 
 -- and once the next one is out
-abbrev pub told_next : {sizes : Sizes} {conn : Conn} {shards : List Shard} (told : Told)
-    → AnswersMore sizes told conn shards → Told
-told_next told more = record told { out = more.out + 1; lent = true; accepted = more.accepted }
+abbrev pub flow_next : {sizes : Sizes} {conn : Conn} {shards : List Shard} (flow : Flow)
+    → AnswersMore sizes flow conn shards → Flow
+flow_next flow more = record flow { out = more.out + 1; lent = true; accepted = more.accepted }
 
 -- what is known once the next piece is out
-pub record IsNext (sizes : Sizes) (told : Told) (conn : Conn) (shards : List Shard) (place : ℕ) (piece : Piece)
+pub record IsNext (sizes : Sizes) (flow : Flow) (conn : Conn) (shards : List Shard) (place : ℕ) (piece : Piece)
     (sent : Conn) : Type 0 where
-  pub more : AnswersMore sizes told conn shards
-  pub here : slice_get (all_pieces told) more.out ≡ Some (place, piece)
-  pub sent_is : IsConn sent (told_next told more)
+  pub more : AnswersMore sizes flow conn shards
+  pub here : slice_get (all_pieces flow) more.out ≡ Some (place, piece)
+  pub sent_is : IsConn sent (flow_next flow more)
 
 -- by the contract of the call that took it out
-abbrev pub is_next : (sizes : Sizes) (told : Told) (conn sent : Conn) (shards : List Shard) (place : ℕ) (piece : Piece)
-    → AnswersMore sizes told conn shards →
-    ((now : Told) → IsConn conn now → (slice_get (all_pieces now) now.out ≡ Some (place, piece))
-    × IsConn sent (record now { out = now.out + 1; lent = true })) → IsNext sizes told conn shards place piece sent
-is_next sizes told conn sent shards place piece more gives =
-    let next = gives (told_more told more) more.conn_is in
+abbrev pub is_next : (sizes : Sizes) (flow : Flow) (conn sent : Conn) (shards : List Shard) (place : ℕ) (piece : Piece)
+    → AnswersMore sizes flow conn shards →
+    ((now : Flow) → IsConn conn now → (slice_get (all_pieces now) now.out ≡ Some (place, piece))
+    × IsConn sent (record now { out = now.out + 1; lent = true })) → IsNext sizes flow conn shards place piece sent
+is_next sizes flow conn sent shards place piece more gives =
+    let next = gives (flow_more flow more) more.conn_is in
     record { more = more; here = next.0; sent_is = next.1 }
 
 -- its shard exists
-pub place_there : (sizes : Sizes) (told : Told) (conn sent : Conn) (shards : List Shard) (place : ℕ) (piece : Piece)
-    → IsNext sizes told conn shards place piece sent → place < length shards
-place_there sizes told conn sent shards place piece next =
+pub place_there : (sizes : Sizes) (flow : Flow) (conn sent : Conn) (shards : List Shard) (place : ℕ) (piece : Piece)
+    → IsNext sizes flow conn shards place piece sent → place < length shards
+place_there sizes flow conn sent shards place piece next =
     let answers = next.more.answers in
     let some = answers.some in
     let same = answers.same in
     let count = answers.count in
-    elim (cases_lt place told.shards) [
+    elim (cases_lt place flow.shards) [
       | inl below ↦ omega (arith, below, same, count)
       | inr beyond ↦
-          let found = next_due sizes (told_more told next.more) shards next.more.log place piece answers next.here in
-          let nothing = rw (due_beyond told.shards place told.taken (omega (arith, some, same)) beyond) at found in
+          let found = next_due sizes (flow_more flow next.more) shards next.more.log place piece answers next.here in
+          let nothing = rw (due_beyond flow.shards place flow.taken (omega (arith, some, same)) beyond) at found in
           absurd (cc)
     ]
 
 -- the next piece was run and its answer accepted, by the contracts of the calls
-pub more_step : (sizes : Sizes) (told : Told) (conn sent new : Conn) (shards : List Shard) (place : ℕ) (piece : Piece)
-    (answer : Answer) (was shard : Shard) (reply : Shown) → (next : IsNext sizes told conn shards place piece sent)
+pub more_step : (sizes : Sizes) (flow : Flow) (conn sent new : Conn) (shards : List Shard) (place : ℕ) (piece : Piece)
+    (answer : Answer) (was shard : Shard) (reply : Shown) → (next : IsNext sizes flow conn shards place piece sent)
     → slice_get shards place ≡ Some was → Steps was piece.op piece.moment answer shard → reply
     ≡ reply_to (entry_for place piece answer) →
-    (IsConn sent (told_next told next.more) → Expects (all_pending_replies told) next.more.accepted reply
-    × IsConn new (record (told_next told next.more) { accepted = next.more.accepted ++ reply ∷ [] })) →
-    AnswersMore sizes told new (set shards place shard)
-more_step sizes told conn sent new shards place piece answer was shard reply next got steps same accepts =
+    (IsConn sent (flow_next flow next.more) → Expects (all_pending_replies flow) next.more.accepted reply
+    × IsConn new (record (flow_next flow next.more) { accepted = next.more.accepted ++ reply ∷ [] })) →
+    AnswersMore sizes flow new (set shards place shard)
+more_step sizes flow conn sent new shards place piece answer was shard reply next got steps same accepts =
     let more = next.more in
     let entry = entry_for place piece answer in
-    let out : Told = told_next told more in
-    let later : Told = record out { accepted = more.accepted ++ reply_to entry ∷ [] } in
+    let out : Flow = flow_next flow more in
+    let later : Flow = record out { accepted = more.accepted ++ reply_to entry ∷ [] } in
     let P : Shown → Type 0 = λ r. Expects (all_pending_replies out) out.accepted r
     × IsConn new (record out { accepted = out.accepted ++ r ∷ [] }) in
     let accepted = subst P same (accepts next.sent_is) in
@@ -179,60 +179,60 @@ more_step sizes told conn sent new shards place piece answer was shard reply nex
       log = more.log ++ entry ∷ [];
       conn_is = accepted.1;
       answers =
-          answers_next sizes (told_more told more) shards more.log place piece answer was shard more.answers next.here
+          answers_next sizes (flow_more flow more) shards more.log place piece answer was shard more.answers next.here
           got steps;
       handed =
-          keeps_trans told out later refl (record { within = more.handed.within; same = more.handed.same })
+          keeps_trans flow out later refl (record { within = more.handed.within; same = more.handed.same })
           (keeps_accept sent out (reply_to entry) next.sent_is accepted.0);
     }
 
 -- the answer is expected, so it is not returned
-pub never_strange : (sizes : Sizes) (told : Told) (conn sent : Conn) (shards : List Shard) (place : ℕ) (piece : Piece)
-    (answer : Answer) (reply : Shown) → (next : IsNext sizes told conn shards place piece sent) → reply
+pub never_strange : (sizes : Sizes) (flow : Flow) (conn sent : Conn) (shards : List Shard) (place : ℕ) (piece : Piece)
+    (answer : Answer) (reply : Shown) → (next : IsNext sizes flow conn shards place piece sent) → reply
     ≡ reply_to (entry_for place piece answer) →
-    (IsConn sent (told_next told next.more) → Expects (all_pending_replies told) next.more.accepted reply → ⊥) → ⊥
-never_strange sizes told conn sent shards place piece answer reply next same refuses =
+    (IsConn sent (flow_next flow next.more) → Expects (all_pending_replies flow) next.more.accepted reply → ⊥) → ⊥
+never_strange sizes flow conn sent shards place piece answer reply next same refuses =
     let more = next.more in
-    let expects = next_expected told.shards place told.taken more.accepted (replies_on more.log) piece
+    let expects = next_expected flow.shards place flow.taken more.accepted (replies_on more.log) piece
     (reply_to (entry_for place piece answer)) more.answers.fits
-    (next_due sizes (told_more told more) shards more.log place piece more.answers next.here)
+    (next_due sizes (flow_more flow more) shards more.log place piece more.answers next.here)
     (record { ticket = refl; part = refl; kind = refl }) in
-    let P : Shown → Type 0 = λ r. Expects (all_pending_replies told) more.accepted r in
+    let P : Shown → Type 0 = λ r. Expects (all_pending_replies flow) more.accepted r in
     refuses next.sent_is (subst P (sym same) expects)
 
 -- how many pieces are not out
 abbrev pub unsent_count : Conn → ℕ
 unsent_count conn = length (put_first conn.put_back conn.dispatcher.unsent.items)
 
-unsent_is : (conn : Conn) (told : Told) → IsConn conn told → unsent_count conn ≡ length (all_pieces told) - told.out
+unsent_is : (conn : Conn) (flow : Flow) → IsConn conn flow → unsent_count conn ≡ length (all_pieces flow) - flow.out
 unfolding IsConn
-unsent_is conn told is = ap length is.unsent ∙ length-drop told.out (all_pieces told)
+unsent_is conn flow is = ap length is.unsent ∙ length-drop flow.out (all_pieces flow)
 
 -- one piece less is left
-pub one_less : (sizes : Sizes) (told : Told) (conn sent new : Conn) (shards : List Shard) (place : ℕ) (piece : Piece)
-    (accepted : List Shown) → (next : IsNext sizes told conn shards place piece sent)
-    → IsConn new (record (told_next told next.more) { accepted = accepted }) → unsent_count new < unsent_count conn
-one_less sizes told conn sent new shards place piece accepted next now =
-    let before : unsent_count conn ≡ length (all_pieces told) - next.more.out =
-    unsent_is conn (told_more told next.more) next.more.conn_is in
-    let after : unsent_count new ≡ length (all_pieces told) - (next.more.out + 1) =
-    unsent_is new (record (told_next told next.more) { accepted = accepted }) now in
-    let below = slice_get_within (all_pieces told) next.more.out (place, piece) next.here in
+pub one_less : (sizes : Sizes) (flow : Flow) (conn sent new : Conn) (shards : List Shard) (place : ℕ) (piece : Piece)
+    (accepted : List Shown) → (next : IsNext sizes flow conn shards place piece sent)
+    → IsConn new (record (flow_next flow next.more) { accepted = accepted }) → unsent_count new < unsent_count conn
+one_less sizes flow conn sent new shards place piece accepted next now =
+    let before : unsent_count conn ≡ length (all_pieces flow) - next.more.out =
+    unsent_is conn (flow_more flow next.more) next.more.conn_is in
+    let after : unsent_count new ≡ length (all_pieces flow) - (next.more.out + 1) =
+    unsent_is new (record (flow_next flow next.more) { accepted = accepted }) now in
+    let below = slice_get_within (all_pieces flow) next.more.out (place, piece) next.here in
     omega (arith, before, after, below)
 
 -- before any of them is run, with all that was taken recorded
-pub records_none : (sizes : Sizes) (place : Place) (begin : Sight) (told : Told) (conn : Conn) (shards : List Shard)
-    (log : List Entry) (clerk : Acting) (recorders : List Acting) → IsConn conn told
-    → ShardsAnswered sizes told shards log → IsWhole sizes place begin told.taken log clerk recorders
-    → RecordsMore sizes place begin told conn shards clerk recorders
+pub records_none : (sizes : Sizes) (place : Place) (begin : Sight) (flow : Flow) (conn : Conn) (shards : List Shard)
+    (log : List Entry) (clerk : Acting) (recorders : List Acting) → IsConn conn flow
+    → ShardsAnswered sizes flow shards log → IsWhole sizes place begin flow.taken log clerk recorders
+    → RecordsMore sizes place begin flow conn shards clerk recorders
 unfolding more_none
-records_none sizes place begin told conn shards log clerk recorders is answers whole =
-    record { more = more_none sizes told conn shards log is answers; recorded = whole }
+records_none sizes place begin flow conn shards log clerk recorders is answers whole =
+    record { more = more_none sizes flow conn shards log is answers; recorded = whole }
 
 -- what the call that took the next piece out says
 abbrev pub Gives : Conn → Conn → ℕ → Piece → Type 0
 Gives conn sent one piece =
-    (now : Told) → IsConn conn now → (slice_get (all_pieces now) now.out ≡ Some (one, piece))
+    (now : Flow) → IsConn conn now → (slice_get (all_pieces now) now.out ≡ Some (one, piece))
     × IsConn sent (record now { out = now.out + 1; lent = true })
 
 -- The reply shows the entry that it answers.
@@ -242,57 +242,57 @@ entry_is one piece sent answer reply same is =
     ap (λ p. entry_for one p reply.answer) same ∙ ap (λ (r : Shown). entry_for one piece r.answer) is
 
 -- the next piece was run and recorded, and its answer accepted
-pub records_step : (sizes : Sizes) (place : Place) (begin : Sight) (told : Told) (conn sent new : Conn)
+pub records_step : (sizes : Sizes) (place : Place) (begin : Sight) (flow : Flow) (conn sent new : Conn)
     (shards : List Shard) (one : ℕ) (piece : Piece) (answer : Answer) (was shard : Shard) (reply : Shown)
     (clerk clerk' : Acting) (recorders recorders' : List Acting) (entry : Entry)
-    → (records : RecordsMore sizes place begin told conn shards clerk recorders)
+    → (records : RecordsMore sizes place begin flow conn shards clerk recorders)
     → Gives conn sent one piece → slice_get shards one ≡ Some was
     → Steps was piece.op piece.moment answer shard → reply ≡ reply_to (entry_for one piece answer) →
-    (IsConn sent (told_next told records.more) → Expects (all_pending_replies told) records.more.accepted reply
-    × IsConn new (record (told_next told records.more) { accepted = records.more.accepted ++ reply ∷ [] })) →
+    (IsConn sent (flow_next flow records.more) → Expects (all_pending_replies flow) records.more.accepted reply
+    × IsConn new (record (flow_next flow records.more) { accepted = records.more.accepted ++ reply ∷ [] })) →
     entry ≡ entry_for one piece answer
-    → IsWhole sizes place begin told.taken (records.more.log ++ entry ∷ []) clerk' recorders'
-    → RecordsMore sizes place begin told new (set shards one shard) clerk' recorders'
+    → IsWhole sizes place begin flow.taken (records.more.log ++ entry ∷ []) clerk' recorders'
+    → RecordsMore sizes place begin flow new (set shards one shard) clerk' recorders'
 unfolding more_step
-records_step sizes place begin told conn sent new shards one piece answer was shard reply clerk clerk' recorders
+records_step sizes place begin flow conn sent new shards one piece answer was shard reply clerk clerk' recorders
     recorders' entry records gives got steps is accepts entry_is whole =
-    let next = is_next sizes told conn sent shards one piece records.more gives in
+    let next = is_next sizes flow conn sent shards one piece records.more gives in
     record {
-      more = more_step sizes told conn sent new shards one piece answer was shard reply next got steps is accepts;
+      more = more_step sizes flow conn sent new shards one piece answer was shard reply next got steps is accepts;
       recorded =
-          subst (λ (e : Entry). IsWhole sizes place begin told.taken (records.more.log ++ e ∷ []) clerk' recorders')
+          subst (λ (e : Entry). IsWhole sizes place begin flow.taken (records.more.log ++ e ∷ []) clerk' recorders')
           entry_is whole;
     }
 
 -- what is known before the next piece is recorded
-pub can_note : (sizes : Sizes) (place : Place) (begin : Sight) (told : Told) (conn sent : Conn) (shards : List Shard)
+pub can_note : (sizes : Sizes) (place : Place) (begin : Sight) (flow : Flow) (conn sent : Conn) (shards : List Shard)
     (one : ℕ) (piece : Piece) (answer : Answer) (was shard : Shard) (clerk : Acting) (recorders : List Acting)
-    → (records : RecordsMore sizes place begin told conn shards clerk recorders) → Gives conn sent one piece
+    → (records : RecordsMore sizes place begin flow conn shards clerk recorders) → Gives conn sent one piece
     → slice_get shards one ≡ Some was → Steps was piece.op piece.moment answer shard
     → (piece' : Piece) (answer' : Answer) → entry_for one piece' answer' ≡ entry_for one piece answer
     → CanNoteRun clerk recorders one piece' answer'
-can_note sizes place begin told conn sent shards one piece answer was shard clerk recorders records gives got steps
+can_note sizes place begin flow conn sent shards one piece answer was shard clerk recorders records gives got steps
     piece' answer' same =
     let more = records.more in
     let answers = more.answers in
-    let next = is_next sizes told conn sent shards one piece more gives in
-    let below = place_there sizes told conn sent shards one piece next in
+    let next = is_next sizes flow conn sent shards one piece more gives in
+    let below = place_there sizes flow conn sent shards one piece next in
     let count = answers.count in
-    let due_is = next_due sizes (told_more told more) shards more.log one piece answers next.here in
+    let due_is = next_due sizes (flow_more flow more) shards more.log one piece answers next.here in
     let state = answers.backs one was got in
     let after = steps state.0 state.2 in
     subst (λ (e : Entry). CanNoteRun clerk recorders one e.piece e.answer) (sym same) (record {
       sizes = sizes;
       place = place;
       begin = begin;
-      taken = told.taken;
+      taken = flow.taken;
       log = more.log;
       recorded = records.recorded;
       mine = answers.mine;
       there = omega (arith, below, count);
       next =
-          ap (λ n. slice_get (due n one told.taken) (length (on_shard one more.log))) (sym answers.same)
-          ∙ (ap (λ n. slice_get (due told.shards one told.taken) n)
+          ap (λ n. slice_get (due n one flow.taken) (length (on_shard one more.log))) (sym answers.same)
+          ∙ (ap (λ n. slice_get (due flow.shards one flow.taken) n)
           (sym (length-map (on_shard one more.log) reply_to)) ∙ due_is);
       runs = record { before = state.0; after = after.0; ran = state.1; step = after.1 };
     })

@@ -21,7 +21,7 @@ use Rattle.mc_conn.specs.Due as due
 use Rattle.mc_conn.specs.Fits.{HasCome, KeysFit, Tells, counts}
 use Rattle.mc_conn.specs.History.{AnsweredCommand, IsAnswered, Taken, entries_of, planned, taken_of, text_done}
 use Rattle.mc_conn.specs.History.{texts_of}
-use Rattle.mc_conn.specs.Told.{Told, all_pieces, all_texts, commands_of}
+use Rattle.mc_conn.specs.Flow.{Flow, all_pieces, all_texts, commands_of}
 use Rattle.mc_conn.proofs.Counting.{count_from_come}
 use Rattle.mc_conn.proofs.Places.{channel-append}
 use Rattle.mc_conn.proofs.Serving.{keys_came}
@@ -33,9 +33,9 @@ use Rattle.mc_model.specs.Alone.{empty_shards}
 use Rattle.mc_model.proofs.Lists.{all_unmap}
 use Rattle.mc_model.proofs.Alone.{Continues, all_mine, alone_goes, on_its_shard, pieces_of_ran, ran_of, replies_of_ran}
 use Rattle.mc_model.proofs.Alone.{run_of}
-use Rattle.mc_seat.specs.Story.{Story}
-use Rattle.mc_seat.specs.internal.Steps.{IsServed}
-use Rattle.mc_seat.specs.Explains.{IsExplained, entry_of}
+use Rattle.mc_transport.specs.Story.{Story}
+use Rattle.mc_transport.specs.internal.Steps.{IsServed}
+use Rattle.mc_transport.specs.Explains.{IsExplained, entry_of}
 use Rattle.mc_server.specs.internal.Answering.{ShardsAnswered, piece_in}
 use Rattle.mc_server.specs.internal.Recording.{replies_on}
 use Rattle.mc_server.proofs.Answering.{channel_ran}
@@ -43,88 +43,88 @@ use Rattle.mc_server.proofs.Backing.{lawful}
 use Rattle.mc_ring.proofs.Lists.{all_append}
 
 -- all pieces that are due were run
-pub record RanAll (sizes : Sizes) (told : Told) (shards : List Shard) (log : List Entry) : Type 0 where
-  pub answers : ShardsAnswered sizes told shards log
-  pub all : told.out ≡ length (all_pieces told)
+pub record RanAll (sizes : Sizes) (flow : Flow) (shards : List Shard) (log : List Entry) : Type 0 where
+  pub answers : ShardsAnswered sizes flow shards log
+  pub all : flow.out ≡ length (all_pieces flow)
 
 -- what a shard ran is what was due there
-pub ran_due : (sizes : Sizes) (told : Told) (shards : List Shard) (log : List Entry) (s : ℕ)
-    → RanAll sizes told shards log → pieces_in (on_shard s log) ≡ due told.shards s told.taken
-ran_due sizes told shards log s ran =
+pub ran_due : (sizes : Sizes) (flow : Flow) (shards : List Shard) (log : List Entry) (s : ℕ)
+    → RanAll sizes flow shards log → pieces_in (on_shard s log) ≡ due flow.shards s flow.taken
+ran_due sizes flow shards log s ran =
     let all = ran.all in
     sym (channel_ran s log) ∙
-    (ap (channel s) ran.answers.ran ∙ ap (channel s) (take_all told.out (all_pieces told) (omega (arith, all))))
+    (ap (channel s) ran.answers.ran ∙ ap (channel s) (take_all flow.out (all_pieces flow) (omega (arith, all))))
 
 -- replies came for all commands taken
-pub all_come : (sizes : Sizes) (told : Told) (shards : List Shard) (log : List Entry) → RanAll sizes told shards log
-    → HasCome told.shards told.taken (counts (replies_on log)) (length told.taken)
-all_come sizes told shards log ran s =
+pub all_come : (sizes : Sizes) (flow : Flow) (shards : List Shard) (log : List Entry) → RanAll sizes flow shards log
+    → HasCome flow.shards flow.taken (counts (replies_on log)) (length flow.taken)
+all_come sizes flow shards log ran s =
     let es = on_shard s log in
-    let is = ap length (ran_due sizes told shards log s ran) in
-    let whole = ap (λ ts. length (due told.shards s ts)) (take_all (length told.taken) told.taken (omega arith)) in
+    let is = ap length (ran_due sizes flow shards log s ran) in
+    let whole = ap (λ ts. length (due flow.shards s ts)) (take_all (length flow.taken) flow.taken (omega arith)) in
     omega (arith, is, whole, length-map es (λ (entry : Entry). entry.piece), length-map es reply_to)
 
 -- every command taken has its reply
-pub all_complete : (sizes : Sizes) (told : Told) (shards : List Shard) (log : List Entry) (conn : Conn)
-    → IsConn conn told → RanAll sizes told shards log → length (all_texts told) ≡ length told.taken
-all_complete sizes told shards log conn is ran =
-    let complete = (is_sound conn told is).complete in
-    let most = count_from_come told.shards (length told.taken) told.taken told.accepted (replies_on log) (omega arith)
-    ran.answers.fits (all_come sizes told shards log ran) in
+pub all_complete : (sizes : Sizes) (flow : Flow) (shards : List Shard) (log : List Entry) (conn : Conn)
+    → IsConn conn flow → RanAll sizes flow shards log → length (all_texts flow) ≡ length flow.taken
+all_complete sizes flow shards log conn is ran =
+    let complete = (is_sound conn flow is).complete in
+    let most = count_from_come flow.shards (length flow.taken) flow.taken flow.accepted (replies_on log) (omega arith)
+    ran.answers.fits (all_come sizes flow shards log ran) in
     omega (arith, complete, most)
 
 -- The history whose answers are those accepted has all commands taken.
-pub record TellsAll (sizes : Sizes) (told : Told) (log : List Entry) (history : List AnsweredCommand) : Type 0 where
-  pub same : map taken_of history ≡ told.taken
-  pub texts : all_texts told ≡ map text_done history
-  pub bytes : concat (all_texts told) ≡ texts_of history
-  pub answered : AllByRecursion (IsAnswered told.shards) history
-  pub ran : (s : ℕ) → due.on_shard s (due.log_of told.shards history)
-      ≡ ran_on s (due told.shards s told.taken) (replies_on log s)
+pub record TellsAll (sizes : Sizes) (flow : Flow) (log : List Entry) (history : List AnsweredCommand) : Type 0 where
+  pub same : map taken_of history ≡ flow.taken
+  pub texts : all_texts flow ≡ map text_done history
+  pub bytes : concat (all_texts flow) ≡ texts_of history
+  pub answered : AllByRecursion (IsAnswered flow.shards) history
+  pub ran : (s : ℕ) → due.on_shard s (due.log_of flow.shards history)
+      ≡ ran_on s (due flow.shards s flow.taken) (replies_on log s)
 
-tells_all : (sizes : Sizes) (told : Told) (shards : List Shard) (log : List Entry) (conn : Conn) → IsConn conn told
-    → RanAll sizes told shards log
-    → TellsAll sizes told log (history_of told.shards told.accepted (take (length told.taken) told.taken))
-tells_all sizes told shards log conn is ran =
-    let count = length told.taken in
-    let t : Tells told.shards told.taken told.accepted (replies_on log) count =
-    tells told.shards count told.taken told.accepted (replies_on log) (omega arith) (is_sound conn told is).may
-    ran.answers.fits (all_come sizes told shards log ran) in
-    let whole : take count told.taken ≡ told.taken = take_all count told.taken (omega arith) in
-    let complete = all_complete sizes told shards log conn is ran in
-    let texts : take count (all_texts told) ≡ all_texts told =
-    take_all count (all_texts told) (omega (arith, complete)) in
+tells_all : (sizes : Sizes) (flow : Flow) (shards : List Shard) (log : List Entry) (conn : Conn) → IsConn conn flow
+    → RanAll sizes flow shards log
+    → TellsAll sizes flow log (history_of flow.shards flow.accepted (take (length flow.taken) flow.taken))
+tells_all sizes flow shards log conn is ran =
+    let count = length flow.taken in
+    let t : Tells flow.shards flow.taken flow.accepted (replies_on log) count =
+    tells flow.shards count flow.taken flow.accepted (replies_on log) (omega arith) (is_sound conn flow is).may
+    ran.answers.fits (all_come sizes flow shards log ran) in
+    let whole : take count flow.taken ≡ flow.taken = take_all count flow.taken (omega arith) in
+    let complete = all_complete sizes flow shards log conn is ran in
+    let texts : take count (all_texts flow) ≡ all_texts flow =
+    take_all count (all_texts flow) (omega (arith, complete)) in
     record {
       same = t.same ∙ whole;
       texts = sym texts ∙ t.texts;
       bytes = ap concat (sym texts) ∙ t.bytes;
       answered = t.answered;
-      ran = λ s. t.ran s ∙ ap (λ ts. ran_on s (due told.shards s ts) (replies_on log s)) whole;
+      ran = λ s. t.ran s ∙ ap (λ ts. ran_on s (due flow.shards s ts) (replies_on log s)) whole;
     }
 
 -- what the history logs on a shard is what the shard ran
-on_shard_is : (sizes : Sizes) (told : Told) (shards : List Shard) (log : List Entry) (history : List AnsweredCommand)
-    → RanAll sizes told shards log → TellsAll sizes told log history → (s : ℕ)
-    → due.on_shard s (due.log_of told.shards history) ≡ map ran_of (on_shard s log)
-on_shard_is sizes told shards log history ran t s =
+on_shard_is : (sizes : Sizes) (flow : Flow) (shards : List Shard) (log : List Entry) (history : List AnsweredCommand)
+    → RanAll sizes flow shards log → TellsAll sizes flow log history → (s : ℕ)
+    → due.on_shard s (due.log_of flow.shards history) ≡ map ran_of (on_shard s log)
+on_shard_is sizes flow shards log history ran t s =
     let es = on_shard s log in
-    t.ran s ∙ rw (← ran_due sizes told shards log s ran, ← pieces_of_ran es, ← replies_of_ran es)
+    t.ran s ∙ rw (← ran_due sizes flow shards log s ran, ← pieces_of_ran es, ← replies_of_ran es)
     (ran_on-same s (map ran_of es) (on_its_shard s log))
 
 -- the keys of the replies are those of what was due
-pub keys_fit : (sizes : Sizes) (told : Told) (shards : List Shard) (log : List Entry)
-    → ShardsAnswered sizes told shards log → KeysFit told.shards told.taken (replies_on log)
-keys_fit sizes told shards log answers = keys_came told.shards told.taken (replies_on log) (λ s.
+pub keys_fit : (sizes : Sizes) (flow : Flow) (shards : List Shard) (log : List Entry)
+    → ShardsAnswered sizes flow shards log → KeysFit flow.shards flow.taken (replies_on log)
+keys_fit sizes flow shards log answers = keys_came flow.shards flow.taken (replies_on log) (λ s.
     let es = on_shard s log in
-    let front = take told.out (all_pieces told) in
-    let back = drop told.out (all_pieces told) in
+    let front = take flow.out (all_pieces flow) in
+    let back = drop flow.out (all_pieces flow) in
     let ran : channel s front ≡ map (λ (r : Ran). r.piece) (map ran_of es) = ap (channel s) (sym answers.ran)
     ∙ (channel_ran s log ∙ sym (pieces_of_ran es)) in
     record {
       ran = map ran_of es;
       rest = channel s back;
       asked =
-          ap (channel s) (sym (take-append-drop told.out (all_pieces told)))
+          ap (channel s) (sym (take-append-drop flow.out (all_pieces flow)))
           ∙ (channel-append s front back ∙ ap (λ ps. ps ++ channel s back) ran);
       replies_are = sym (replies_of_ran es);
     })
@@ -179,31 +179,31 @@ pieces_there shards number (one ∷ taken) some =
     (pieces_there shards (number + 1) taken some)
 
 -- One log explains the line, from its connection's lists and what its shards ran.
-pub explains : (sizes : Sizes) (may_answer : ℕ → Type 0) (begin now : Sight) (told : Told) (broke : Bool) (commands : ℕ)
-    (conn last : Conn) (shards : List Shard) (log : List Entry) → IsConn conn told → RanAll sizes told shards log →
-    AllByRecursion (λ (one : Taken). may_answer one.moment) told.taken → commands ≡ length told.taken
-    → IsServed (replies_on log) begin now told broke last →
+pub explains : (sizes : Sizes) (may_answer : ℕ → Type 0) (begin now : Sight) (flow : Flow) (broke : Bool) (commands : ℕ)
+    (conn last : Conn) (shards : List Shard) (log : List Entry) → IsConn conn flow → RanAll sizes flow shards log →
+    AllByRecursion (λ (one : Taken). may_answer one.moment) flow.taken → commands ≡ length flow.taken
+    → IsServed (replies_on log) begin now flow broke last →
     IsExplained sizes may_answer (record { begin = begin; now = now; commands = commands; broke = broke })
-explains sizes may_answer begin now told broke commands conn last shards log is ran moments counted served =
+explains sizes may_answer begin now flow broke commands conn last shards log is ran moments counted served =
     let answers = ran.answers in
-    let history = history_of told.shards told.accepted (take (length told.taken) told.taken) in
-    let t = tells_all sizes told shards log conn is ran in
+    let history = history_of flow.shards flow.accepted (take (length flow.taken) flow.taken) in
+    let t = tells_all sizes flow shards log conn is ran in
     let long = ap length t.same in
-    let commands_are : commands_of told.taken ≡ entries_of history = ap commands_of (sym t.same)
+    let commands_are : commands_of flow.taken ≡ entries_of history = ap commands_of (sym t.same)
     ∙ map-map (λ (one : Taken). one.entry) taken_of history in
     let story : Story (rules_of sizes) begin now broke (map taken_of history) (map text_done history) =
     rw (← answers.rules_are, t.same, ← t.texts) served.story in
     let answered : AllByRecursion (IsAnswered sizes.shards) history = rw (← answers.same) t.answered in
     let logged : (s : ℕ) → due.on_shard s (due.log_of sizes.shards history) ≡ map ran_of (on_shard s log) =
-    λ s. rw (← answers.same) (on_shard_is sizes told shards log history ran t s) in
+    λ s. rw (← answers.same) (on_shard_is sizes flow shards log history ran t s) in
     let mine : (s : ℕ) → AllByRecursion (λ (entry : Entry). entry.asker ≡ 0) (on_shard s log) =
     λ s. mine_on s log answers.mine in
     let law = lawful sizes shards log answers.count answers.backs in
     let all = ran.all in
-    let whole : take told.out (all_pieces told) ≡ all_pieces told =
-    take_all told.out (all_pieces told) (omega (arith, all)) in
+    let whole : take flow.out (all_pieces flow) ≡ all_pieces flow =
+    take_all flow.out (all_pieces flow) (omega (arith, all)) in
     let there : AllByRecursion (λ (piece : ℕ × Piece). piece.0 < sizes.shards) (map piece_in log) =
-    rw (answers.ran, whole, ← answers.same) (pieces_there told.shards 0 told.taken (rw answers.same answers.some)) in
+    rw (answers.ran, whole, ← answers.same) (pieces_there flow.shards 0 flow.taken (rw answers.same answers.some)) in
     let goes : Continues sizes.shards (empty_shards sizes) (due.log_of sizes.shards history) = λ s below.
     let run = law s below in
     (run.0, rw (logged s) (run_of (empty_shard sizes s) (on_shard s log) run.0 run.1)) in
@@ -214,7 +214,7 @@ explains sizes may_answer begin now told broke commands conn last shards log is 
         history = history;
         story = story;
         reads =
-            rw (← answers.rules_are, ← commands_are, ← t.texts) (served.reads (keys_fit sizes told shards log answers));
+            rw (← answers.rules_are, ← commands_are, ← t.texts) (served.reads (keys_fit sizes flow shards log answers));
         answered = answered;
         moments = all_unmap (λ (one : Taken). may_answer one.moment) taken_of history (rw t.same moments);
         counted = omega (arith, counted, long, length-map history taken_of);

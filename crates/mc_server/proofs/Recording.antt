@@ -17,7 +17,7 @@ use Rattle.mc_conn.specs.declared.conn.Conn.{Conn}
 use Rattle.mc_conn.specs.Conn.{IsConn, taken_by}
 use Rattle.mc_conn.specs.Due.{due}
 use Rattle.mc_conn.specs.History.{MayBeTaken, Taken, carried_out}
-use Rattle.mc_conn.specs.Told.{Told}
+use Rattle.mc_conn.specs.Flow.{Flow}
 use Rattle.mc_conn.proofs.Logged.{due_carried, log_is, may_carried}
 use Rattle.mc_model.specs.Grows.{Lengthens}
 use Rattle.mc_model.specs.Log.{Entry, of_asker, on_shard, pieces_in, replies_in, reply_to}
@@ -26,8 +26,8 @@ use Rattle.mc_model.proofs.Alone.{all_mine}
 use Rattle.mc_model.proofs.Growing.{further}
 use Rattle.mc_model.proofs.Lists.{set_cases}
 use Rattle.mc_model.proofs.Logs.{on_shard-no, on_shard-yes}
-use Rattle.mc_seat.specs.Clerk.{AddsWork}
-use Rattle.mc_seat.specs.Place.{Place}
+use Rattle.mc_transport.specs.Clerk.{AddsWork}
+use Rattle.mc_transport.specs.Place.{Place}
 use Rattle.mc_worker.specs.Scribe.{Runs}
 use Rattle.mc_history.specs.declared.knowledge.Role.TheVariants.{Seat as of_seat}
 use Rattle.mc_history.specs.Tokens.{Acting}
@@ -106,27 +106,27 @@ sizes_same : (sizes : Sizes) (clerk clerk' : Acting) → route_to clerk' ≡ rou
 sizes_same sizes clerk clerk' route are = ap (λ (r : ℕ → Route). (r 0).name.sizes) route ∙ are
 
 -- Of what the connection took the clerk has recorded the first.
-pub taken_begin : (sizes : Sizes) (place : Place) (begin : Sight) (told : Told) (log : List Entry) (clerk : Acting)
-    (recorders : List Acting) (conn : Conn) → IsConn conn told
-    → IsHistoryOf sizes place begin told.taken log clerk recorders → Lengthens (taken_now clerk) (taken_by conn)
-taken_begin sizes place begin told log clerk recorders conn is was =
-    subst (λ l. Lengthens (taken_now clerk) l) (sym (log_is conn told is)) was.begins
+pub taken_begin : (sizes : Sizes) (place : Place) (begin : Sight) (flow : Flow) (log : List Entry) (clerk : Acting)
+    (recorders : List Acting) (conn : Conn) → IsConn conn flow
+    → IsHistoryOf sizes place begin flow.taken log clerk recorders → Lengthens (taken_now clerk) (taken_by conn)
+taken_begin sizes place begin flow log clerk recorders conn is was =
+    subst (λ l. Lengthens (taken_now clerk) l) (sym (log_is conn flow is)) was.begins
 
 -- Each of these commands may be taken.
-pub taken_may : (told : Told) (conn : Conn) → IsConn conn told → AllByRecursion MayBeTaken (taken_by conn)
-taken_may told conn is = subst (AllByRecursion MayBeTaken) (sym (log_is conn told is)) (may_carried told.taken)
+pub taken_may : (flow : Flow) (conn : Conn) → IsConn conn flow → AllByRecursion MayBeTaken (taken_by conn)
+taken_may flow conn is = subst (AllByRecursion MayBeTaken) (sym (log_is conn flow is)) (may_carried flow.taken)
 
 -- The clerk has recorded all that the connection took.
-pub history_noted : (sizes : Sizes) (place : Place) (begin : Sight) (told : Told) (log : List Entry)
-    (clerk clerk' : Acting) (recorders : List Acting) (conn : Conn) → IsConn conn told
-    → IsHistoryOf sizes place begin told.taken log clerk recorders → HasOpened clerk' → taken_now clerk'
+pub history_noted : (sizes : Sizes) (place : Place) (begin : Sight) (flow : Flow) (log : List Entry)
+    (clerk clerk' : Acting) (recorders : List Acting) (conn : Conn) → IsConn conn flow
+    → IsHistoryOf sizes place begin flow.taken log clerk recorders → HasOpened clerk' → taken_now clerk'
     ≡ taken_by conn
     → ((shard : ℕ) → AddsWork clerk.name.sizes.shards shard (taken_now clerk) (taken_now clerk') (work_at clerk shard)
     (work_at clerk' shard)) → ((shard : ℕ) → Lengthens (answers_at clerk shard) (answers_at clerk' shard))
     → route_to clerk' ≡ route_to clerk → place_of clerk' ≡ place_of clerk
-    → IsWhole sizes place begin told.taken log clerk' recorders
-history_noted sizes place begin told log clerk clerk' recorders conn conn_is was opened takes adds grows route same =
-    let all : taken_now clerk' ≡ map carried_out told.taken = takes ∙ log_is conn told conn_is in
+    → IsWhole sizes place begin flow.taken log clerk' recorders
+history_noted sizes place begin flow log clerk clerk' recorders conn conn_is was opened takes adds grows route same =
+    let all : taken_now clerk' ≡ map carried_out flow.taken = takes ∙ log_is conn flow conn_is in
     record {
       is = record {
         opened = opened;

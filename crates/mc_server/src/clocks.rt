@@ -5,7 +5,7 @@ ghost use Rattle.mc_reply.specs.Server.{no_server};
 
 use mc_conn::StatsSource;
 use mc_reply::ServerStats;
-use mc_seat::Clock;
+use mc_transport::Clock;
 use std::time::Duration;
 use std::{io, time};
 

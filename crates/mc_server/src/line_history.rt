@@ -3,11 +3,11 @@ ghost use Rattle.std.specs.Prelude.{◌≡◌, List, IfOk, [], ◌∷◌, ◌++�
 ghost use Rattle.std.specs.List.{AllByRecursion};
 ghost use Rattle.mc_conn.specs.Conn.{IsConn};
 ghost use Rattle.mc_conn.specs.History.{Taken};
-ghost use Rattle.mc_conn.specs.Told.{Told};
+ghost use Rattle.mc_conn.specs.Flow.{Flow};
 ghost use Rattle.mc_model.specs.Log.{Entry, reply_to};
 ghost use Rattle.mc_record.specs.Opening.{IsOpening};
 ghost use Rattle.mc_ring.specs.Reply.{shown};
-ghost use Rattle.mc_seat.specs.Place.{Place, unbegun};
+ghost use Rattle.mc_transport.specs.Place.{Place, unbegun};
 ghost use Rattle.mc_sizes.specs.declared.sizes.Sizes.{Sizes};
 ghost use Rattle.mc_wire.specs.Sink.{Sight};
 ghost use Rattle.mc_server.specs.internal.Recording.{CanNote, CanNoteRun, IsFresh, IsHistoryOf, IsWhole, entry_for};
@@ -16,7 +16,7 @@ use mc_conn::Conn;
 use mc_history::Evidence;
 use mc_record::{Opening, Recorder, SeatClerk};
 use mc_ring::Reply;
-use mc_seat::{Clerk, Transport};
+use mc_transport::{Clerk, Transport};
 use mc_sizes::Sizes;
 use mc_split::Piece;
 use mc_worker::Scribe;
@@ -79,10 +79,10 @@ impl LineHistory {
     /// Records what the connection took beyond what is recorded.
     pub(crate) fn note_taken(&mut self, conn: &Conn)
         requires { CanNote self.old.clerk self.old.recorders.items conn.now }
-        ensures { (sizes : Sizes) (place : Place) (begin : Sight) (told : Told)
-            (log : List Entry) → IsConn conn.now told →
-            IsHistoryOf sizes place begin told.taken log self.old.clerk self.old.recorders.items →
-            IsWhole sizes place begin told.taken log self.new.clerk self.new.recorders.items }
+        ensures { (sizes : Sizes) (place : Place) (begin : Sight) (flow : Flow)
+            (log : List Entry) → IsConn conn.now flow →
+            IsHistoryOf sizes place begin flow.taken log self.old.clerk self.old.recorders.items →
+            IsWhole sizes place begin flow.taken log self.new.clerk self.new.recorders.items }
     {
         self.clerk.take_all(conn);
     }

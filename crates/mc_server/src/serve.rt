@@ -3,8 +3,8 @@
 ghost use Rattle.std.specs.Prelude.{◌≡◌, ◌+◌, [], IfOk, OnErr, length};
 ghost use Rattle.mc_record.specs.Opening.{IsOpening};
 ghost use Rattle.mc_sizes.specs.Sizes.{SuitLines, SuitShards};
-ghost use Rattle.mc_seat.specs.Explains.{IsExplained};
-ghost use Rattle.mc_seat.specs.Place.{unbegun};
+ghost use Rattle.mc_transport.specs.Explains.{IsExplained};
+ghost use Rattle.mc_transport.specs.Place.{unbegun};
 ghost use Rattle.mc_server.specs.internal.Answering.{AnswersAll, Backs, CanAnswer};
 
 use crate::line_history::LineHistory;
@@ -12,7 +12,7 @@ use mc_conn::Conn;
 use mc_history::Evidence;
 use mc_record::Opening;
 use mc_ring::Reply;
-use mc_seat::{BufferPool, BufferedConn, Clerk, Clock, LineStep, Served, Transport};
+use mc_transport::{BufferPool, BufferedConn, Clerk, Clock, LineStep, Served, Transport};
 use mc_sizes::Sizes;
 use mc_store::Shard;
 use std::alloc::{AllocError, Global};

@@ -1,7 +1,7 @@
 //! One line is served: how often it is read and written, when the clock is read, and what a refused
 //! allocation changes. The worked rows are in the crate mc_rows.
 ghost use Rattle.std.specs.Prelude.{◌≡◌, IfOk};
-ghost use Rattle.mc_seat.specs.Place.{unbegun};
+ghost use Rattle.mc_transport.specs.Place.{unbegun};
 ghost use Rattle.mc_record.specs.Opening.{IsOpening};
 ghost use Rattle.mc_serving_tests.specs.declared.line.TheConstants.{SIZES};
 
@@ -11,7 +11,7 @@ use crate::sizes::SMALL;
 use mc_conn::StatsSource;
 use mc_record::Opening;
 use mc_reply::ServerStats;
-use mc_seat::{Clock, Transport};
+use mc_transport::{Clock, Transport};
 use mc_serve::PlacedLine;
 use mc_server::{FixedClock, LineError, open_one, serve_one};
 use mc_sizes::Sizes;

@@ -1,7 +1,7 @@
 //! A line over memory, which records the bytes that it gave and took.
 ghost use Rattle.std.specs.Prelude.{◌≤◌, None, length, take};
 
-use mc_seat::{Transport, TransportError};
+use mc_transport::{Transport, TransportError};
 use mc_wire::{Sink, SinkError};
 use std::alloc::{AllocError, Global};
 
@@ -35,7 +35,7 @@ impl MemoryLine {
 
 impl Transport for MemoryLine {
     ghost use Rattle.mc_ring.specs.Route.{no_history};
-    ghost use Rattle.mc_seat.specs.Place.{unbegun};
+    ghost use Rattle.mc_transport.specs.Place.{unbegun};
 
     type Warrant = ();
 

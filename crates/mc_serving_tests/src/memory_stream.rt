@@ -4,11 +4,11 @@ ghost use Rattle.std.specs.Vec.Iter.{into_iter_items};
 
 use crate::asserting::{equal, holds};
 use crate::sizes::SMALL;
-use mc_doors::{Accept, Arrivals, NewStream, Stream};
+use mc_net::{Accept, Arrivals, NewStream, Stream};
 use mc_serve::{ServeError, serve_streams};
 use mc_server::FixedClock;
-use mc_wake::{Poller, SpinPolicy};
-use mc_watch::Meter;
+use mc_poll::{Poller, SpinPolicy};
+use mc_telemetry::Meter;
 use mc_worker::OpenGate;
 use std::alloc::{AllocError, Global};
 use std::io;

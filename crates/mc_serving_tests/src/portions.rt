@@ -1,7 +1,7 @@
 //! Replies that a line takes in portions, and sometimes not at all.
 use crate::asserting::{equal, holds};
 use crate::memory_line::MemoryLine;
-use mc_seat::{Transport, TransportError, WriteBuffer};
+use mc_transport::{Transport, TransportError, WriteBuffer};
 use mc_wire::{Sink, SinkError, write_all};
 use std::alloc::{AllocError, Global};
 use std::sync::ArcSlice;

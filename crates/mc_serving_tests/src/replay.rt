@@ -42,7 +42,7 @@ fn a_file_is_read(rt: HostRuntime) -> Result<(), Fail> {
 
 /// The first bad line of each text.
 #[test]
-fn bad_lines_are_told(rt: HostRuntime) {
+fn bad_lines_are_flow(rt: HostRuntime) {
     let files = [
         (b"".as_slice(), 1),
         (b"\n".as_slice(), 1),
@@ -83,12 +83,12 @@ const ENDS: &[u8] =
 
 /// The events that are done are counted, and the idle ones.
 #[test]
-fn what_was_done_is_told(rt: HostRuntime) -> Result<(), Fail> {
+fn what_was_done_is_flow(rt: HostRuntime) -> Result<(), Fail> {
     let plan = read_schedule(rt.alloc(), ENDS)?;
-    let mut told = MemoryLine::new(rt.alloc(), b"")?;
-    replay(&rt, rt.alloc(), &plan, &mut told)?;
+    let mut flow = MemoryLine::new(rt.alloc(), b"")?;
+    replay(&rt, rt.alloc(), &plan, &mut flow)?;
     let wanted = b"conn 0 seat 0 4d4e0d0a\ndone 5 idle 4\n";
-    equal(&rt, told.output.as_slice(), wanted.as_slice());
+    equal(&rt, flow.output.as_slice(), wanted.as_slice());
     Ok(())
 }
 
@@ -96,9 +96,9 @@ fn what_was_done_is_told(rt: HostRuntime) -> Result<(), Fail> {
 fn a_size_out_of_its_limits_is_refused(rt: HostRuntime) -> Result<(), Fail> {
     let mut plan = read_schedule(rt.alloc(), ENDS)?;
     plan.sizes.seats = 65_537;
-    let mut told = MemoryLine::new(rt.alloc(), b"")?;
-    let refused = replay(&rt, rt.alloc(), &plan, &mut told);
+    let mut flow = MemoryLine::new(rt.alloc(), b"")?;
+    let refused = replay(&rt, rt.alloc(), &plan, &mut flow);
     equal(&rt, refused, Err(ReplayError::Size(SizeError::Seats)));
-    equal(&rt, told.output.len(), 0);
+    equal(&rt, flow.output.len(), 0);
     Ok(())
 }

@@ -1,7 +1,7 @@
 //! Nothing is read of lines whose threads can't all be started.
 ghost use Rattle.std.specs.Prelude.{◌≡◌, IfOk, length};
 ghost use Rattle.std.specs.List.{AllByRecursion};
-ghost use Rattle.mc_seat.specs.Place.{unbegun};
+ghost use Rattle.mc_transport.specs.Place.{unbegun};
 ghost use Rattle.mc_record.specs.Opening.{IsOpening};
 ghost use Rattle.mc_serving_tests.specs.declared.sizes.TheConstants.{SMALL};
 
@@ -9,7 +9,7 @@ use crate::asserting::{equal, holds};
 use crate::memory_line::MemoryLine;
 use crate::sizes::SMALL;
 use mc_record::Opening;
-use mc_seat::{Transport, TransportError};
+use mc_transport::{Transport, TransportError};
 use mc_serve::{PlacedLine, ServeError, serve_over};
 use mc_server::FixedClock;
 use mc_wire::SinkError;

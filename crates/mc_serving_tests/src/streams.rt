@@ -1,11 +1,11 @@
 //! A connection over a stream that moves few bytes at a call, and whose calls a signal interrupts.
 use crate::asserting::{equal, holds};
 use crate::sizes::SMALL;
-use mc_doors::{Stream, TcpConnection};
-use mc_seat::{Ready, Transport, WriteBuffer};
+use mc_net::{Stream, TcpConnection};
+use mc_transport::{Ready, Transport, WriteBuffer};
 use mc_server::{FixedClock, open_one, serve_one};
 use mc_sizes::Sizes;
-use mc_watch::Meter;
+use mc_telemetry::Meter;
 use mc_wire::{Sink, write_all};
 use std::alloc::Global;
 use std::io;

@@ -3,11 +3,11 @@ ghost use Rattle.std.specs.Prelude.{◌≤◌};
 
 use crate::asserting::equal;
 use crate::sizes::SMALL;
-use mc_doors::Listener;
+use mc_net::Listener;
 use mc_serve::serve_tcp;
 use mc_server::FixedClock;
 use mc_sizes::Sizes;
-use mc_watch::{CoarseClock, Counts, EndTotals, IdleLimit, ShardTotals, Telemetry, Totals};
+use mc_telemetry::{CoarseClock, Counts, EndTotals, IdleLimit, ShardTotals, Telemetry, Totals};
 use std::alloc::Global;
 use std::io::{Read, Write};
 use std::net::{Net, SocketAddr, TcpListener, TcpStream};

@@ -2,7 +2,7 @@
 ghost use Rattle.std.specs.Prelude.{◌≡◌, true};
 
 use crate::asserting::{equal, holds};
-use mc_wake::{Task, ThreadGroup, ThreadGroupError};
+use mc_poll::{Task, ThreadGroup, ThreadGroupError};
 use std::alloc::{AllocError, Global};
 use std::sync::atomic::{AtomicU64, Ordering};
 use std::sync::{Arc, Wait};
@@ -102,7 +102,7 @@ fn none_does_where_one_is_refused(rt: HostRuntime) -> Result<(), Fail> {
 }
 
 #[test]
-fn one_that_is_not_told_to_begin_leaves(rt: HostRuntime) -> Result<(), Fail> {
+fn one_that_is_not_flow_to_begin_leaves(rt: HostRuntime) -> Result<(), Fail> {
     let sum = Arc::new(rt.alloc(), AtomicU64::new(0))?;
     let mut thread_group = ThreadGroup::new(rt.alloc(), 1)?;
     let task = Adds {

@@ -1,6 +1,6 @@
 //! Threads wake each other, whether they sleep in a parker or in a poll, and none sleeps on.
 use crate::asserting::{equal, holds};
-use mc_wake::{Poller, Readiness, SetBits, SpinPolicy, Wakers};
+use mc_poll::{Poller, Readiness, SetBits, SpinPolicy, Wakers};
 use mio::net::TcpStream;
 use std::alloc::{AllocError, Global};
 use std::io::Write;
@@ -207,7 +207,7 @@ fn none_of_many_wakes_is_lost(rt: HostRuntime) -> Result<(), Fail> {
 
 /// The second of two threads has the second shard, and the first one the slot.
 #[test]
-fn a_call_is_told_once(rt: HostRuntime) -> Result<(), Fail> {
+fn a_call_is_flow_once(rt: HostRuntime) -> Result<(), Fail> {
     let alloc = rt.alloc();
     let first = Poller::new(alloc, AT_ONCE, 70, 70, 1)?;
     let second = Poller::new(alloc, AT_ONCE, 70, 0, 1)?;

@@ -12,7 +12,7 @@ use mc_item::{Answer, Expiry, Item, Kind, Op, PackedExpiry, Value, expiry};
 use mc_reader::{Next, Reader};
 use mc_reply::{ServerStats, Ticket};
 use mc_ring::{Reply, Request, SeatEnds, ShardEnds, channels};
-use mc_seat::Transport;
+use mc_transport::Transport;
 use mc_sizes::Sizes;
 use mc_split::Piece;
 use mc_store::Shard;

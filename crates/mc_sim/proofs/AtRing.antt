@@ -13,7 +13,7 @@ use Rattle.mc_ring.specs.EndsLaws.{get-set_same, length-slice_set}
 use Rattle.mc_split.specs.declared.plan.Piece.{Piece}
 use Rattle.mc_conn.specs.declared.conn.Conn.{Conn}
 use Rattle.mc_conn.specs.Conn.{IsConn}
-use Rattle.mc_conn.specs.Told.{Told, all_pieces}
+use Rattle.mc_conn.specs.Flow.{Flow, all_pieces}
 use Rattle.mc_conn.specs.Due.{channel, pieces}
 use Rattle.mc_conn.proofs.Counting.{due_beyond}
 use Rattle.mc_conn.proofs.Places.{channel-append, channel-no, channel-yes}
@@ -27,7 +27,7 @@ use Rattle.mc_model.specs.Events.Event.{Send, Give}
 use Rattle.mc_model.specs.Schedule.{Happens}
 use Rattle.mc_model.specs.declared.event.StepReply.TheVariants.{Done}
 use Rattle.mc_sim.specs.Rings.{AreWired, GivesNone, GivesReply, KeepsPiece, SendsPiece, Wires, with_channel, with_shard}
-use Rattle.mc_sim.specs.Stands.{HandIs, IsHolding, IsServing, IsWorld, KeepsLink, SeatIs, Stands, StepsByEvent, told_of}
+use Rattle.mc_sim.specs.Stands.{HandIs, IsHolding, IsServing, IsWorld, KeepsLink, SeatIs, Stands, StepsByEvent, flow_of}
 use Rattle.mc_sim.specs.Stands.{unreceived, unrun}
 use Rattle.mc_model.proofs.Lists.{at_once, set_cases, take_next}
 use Rattle.mc_model.proofs.Every.{event_kept}
@@ -143,8 +143,8 @@ waiting sizes w old c number link shard world at =
 -- A piece was sent.
 pub sends : (old new : Sim) (c number shard : ℕ) (piece : Piece) (place after : Seat) → Finds old c number place
     → number < length old.connections.items →
-    ((told : Told) → IsConn place.conn told → (slice_get (all_pieces told) told.out ≡ Some (shard, piece))
-    × IsConn after.conn (record told { out = told.out + 1; lent = true })) →
+    ((flow : Flow) → IsConn place.conn flow → (slice_get (all_pieces flow) flow.out ≡ Some (shard, piece))
+    × IsConn after.conn (record flow { out = flow.out + 1; lent = true })) →
     after.current ≡ place.current → new.seats.items ≡ slice_set old.seats.items c after → new.connections.items
     ≡ old.connections.items → new.log.items ≡ old.log.items →
     ((sizes : Sizes) (wires : Wires) → AreWired sizes old.rings wires → SendsPiece sizes wires c shard piece new.rings)
@@ -155,7 +155,7 @@ sends old new c number shard piece place after finds below conn same set connect
     let link = f.0 in
     let at = f.1 in
     let s = f.2 in
-    let o = conn (told_of sizes link s.lent s.accepted) s.is in
+    let o = conn (flow_of sizes link s.lent s.accepted) s.is in
     let own = world.law.links number link at.here in
     let sent = send sizes world.wires world.wired in
     let count = waiting sizes w old c number link shard world at in
@@ -214,7 +214,7 @@ sends old new c number shard piece place after finds below conn same set connect
 
 -- No piece is unsent.
 pub sends_none : (old new : Sim) (c number : ℕ) (place after : Seat) → Finds old c number place
-    → ((told : Told) → IsConn place.conn told → (told.out ≡ length (all_pieces told)) × IsConn after.conn told) →
+    → ((flow : Flow) → IsConn place.conn flow → (flow.out ≡ length (all_pieces flow)) × IsConn after.conn flow) →
     after.current ≡ place.current → new.seats.items ≡ slice_set old.seats.items c after → new.connections.items
     ≡ old.connections.items → new.log.items ≡ old.log.items → new.rings ≡ old.rings
     → StepsByEvent old (Send c) replied.Idle new
@@ -223,7 +223,7 @@ sends_none old new c number place after finds conn same set connections log ring
     let f = found sizes w old c number place world finds.here finds.current in
     let link = f.0 in
     let s = f.2 in
-    let o = conn (told_of sizes link s.lent s.accepted) s.is in (
+    let o = conn (flow_of sizes link s.lent s.accepted) s.is in (
       w,
       (
         inl (λ e.
@@ -242,8 +242,8 @@ sends_none old new c number place after finds conn same set connections log ring
 
 -- The piece was put back: its ring is full.
 pub sends_full : (old new : Sim) (c number shard : ℕ) (piece : Piece) (place after : Seat) → Finds old c number place →
-    ((told : Told) → IsConn place.conn told → (slice_get (all_pieces told) told.out ≡ Some (shard, piece))
-    × IsConn after.conn (record told { lent = false })) →
+    ((flow : Flow) → IsConn place.conn flow → (slice_get (all_pieces flow) flow.out ≡ Some (shard, piece))
+    × IsConn after.conn (record flow { lent = false })) →
     after.current ≡ place.current → new.seats.items ≡ slice_set old.seats.items c after → new.connections.items
     ≡ old.connections.items → new.log.items ≡ old.log.items →
     ((sizes : Sizes) (wires : Wires) → AreWired sizes old.rings wires → KeepsPiece sizes wires c shard new.rings)
@@ -254,7 +254,7 @@ sends_full old new c number shard piece place after finds conn same set connecti
     let link = f.0 in
     let at = f.1 in
     let s = f.2 in
-    let o = conn (told_of sizes link s.lent s.accepted) s.is in
+    let o = conn (flow_of sizes link s.lent s.accepted) s.is in
     let kept = send sizes world.wires world.wired in
     let seat : c < sizes.seats = let below = world.seated number link at.here in let e = at.seat_is in
     omega (arith, below, e) in
@@ -285,21 +285,21 @@ set_twice (z ∷ xs) (suc i) x y = ap (λ zs. z ∷ zs) (set_twice xs i x y)
 
 -- A piece that was taken out and put back.
 pub put_back : (conn mid mid' after : Conn) (shard : ℕ) (piece back : Piece)
-    → ((told : Told) → IsConn conn told → (slice_get (all_pieces told) told.out ≡ Some (shard, piece))
-    × IsConn mid (record told { out = told.out + 1; lent = true })) →
+    → ((flow : Flow) → IsConn conn flow → (slice_get (all_pieces flow) flow.out ≡ Some (shard, piece))
+    × IsConn mid (record flow { out = flow.out + 1; lent = true })) →
     mid' ≡ mid → back ≡ piece →
-    ((told : Told) (before : ℕ) → IsConn mid' told → IsTrue told.lent → told.out ≡ before + 1
-    → slice_get (all_pieces told) before ≡ Some (shard, back)
-    → IsConn after (record told { out = before; lent = false })) →
-    (told : Told) → IsConn conn told → (slice_get (all_pieces told) told.out ≡ Some (shard, piece))
-    × IsConn after (record told { lent = false })
-put_back conn mid mid' after shard piece back next same is putting told was =
-    let n = next told was in
-    let this : slice_get (all_pieces told) told.out ≡ Some (shard, back) = n.0
+    ((flow : Flow) (before : ℕ) → IsConn mid' flow → IsTrue flow.lent → flow.out ≡ before + 1
+    → slice_get (all_pieces flow) before ≡ Some (shard, back)
+    → IsConn after (record flow { out = before; lent = false })) →
+    (flow : Flow) → IsConn conn flow → (slice_get (all_pieces flow) flow.out ≡ Some (shard, piece))
+    × IsConn after (record flow { lent = false })
+put_back conn mid mid' after shard piece back next same is putting flow was =
+    let n = next flow was in
+    let this : slice_get (all_pieces flow) flow.out ≡ Some (shard, back) = n.0
     ∙ ap (λ (p : Piece). Some (shard, p)) (sym is) in (
       n.0,
-      putting (record told { out = told.out + 1; lent = true }) told.out
-          (subst (λ x. IsConn x (record told { out = told.out + 1; lent = true })) (sym same) n.1) refl refl this,
+      putting (record flow { out = flow.out + 1; lent = true }) flow.out
+          (subst (λ x. IsConn x (record flow { out = flow.out + 1; lent = true })) (sym same) n.1) refl refl this,
     )
 
 -- A simulator whose rings alone changed inside, with an unchanged world.

@@ -16,7 +16,7 @@ use Rattle.mc_ring.specs.Reply.{Shown}
 use Rattle.mc_reply.specs.declared.ticket.Ticket.{Ticket}
 use Rattle.mc_join.specs.Replies.{replies}
 use Rattle.mc_conn.specs.Conn.{FillsWindow, IsConn, NeedsMore, TakesCommand}
-use Rattle.mc_conn.specs.Told.{IsOver, Told}
+use Rattle.mc_conn.specs.Flow.{IsOver, Flow}
 use Rattle.mc_conn.specs.History.{Taken}
 use Rattle.mc_conn.specs.Due.{pending_replies_from, pending_replies_of, channel, pieces, pieces_from}
 use Rattle.mc_conn.proofs.Fitting.{fits_take, pieces_from-append}
@@ -34,7 +34,7 @@ use Rattle.mc_model.specs.declared.event.StepReply.TheVariants.{Done}
 use Rattle.mc_model.specs.Headline.{handed_bytes}
 use Rattle.mc_model.specs.Law.{Law, LinkLaw}
 use Rattle.mc_sim.specs.Rings.{AreWired}
-use Rattle.mc_sim.specs.Stands.{IsServing, IsWorld, KeepsLink, SeatIs, Stands, StepsByEvent, received_by, told_of}
+use Rattle.mc_sim.specs.Stands.{IsServing, IsWorld, KeepsLink, SeatIs, Stands, StepsByEvent, received_by, flow_of}
 use Rattle.mc_sim.specs.Stands.{unrun}
 use Rattle.mc_model.proofs.Every.{event_kept}
 use Rattle.mc_model.proofs.Lists.{at_once}
@@ -106,7 +106,7 @@ world_stays sizes w old new world same = record {
 -- The connection ends.
 pub ends : (old new : Sim) (c number : ℕ) (place after : Seat) (kept : Connection) → Finds old c number place
     → slice_get old.connections.items number ≡ Some kept → kept.ended ≡ false →
-    ((told : Told) → IsConn place.conn told → IsConn after.conn (record told { ended = true })) → after.current
+    ((flow : Flow) → IsConn place.conn flow → IsConn after.conn (record flow { ended = true })) → after.current
     ≡ place.current → Differs old new c after →
     new.connections.items ≡ slice_set old.connections.items number (record kept { ended = true })
     → StepsByEvent old (End c) replied.Done new
@@ -125,7 +125,7 @@ ends old new c number place after kept finds at_kept unset conn same differs con
     record {
       lent = s.lent;
       accepted = s.accepted;
-      is = conn (told_of sizes link s.lent s.accepted) s.is;
+      is = conn (flow_of sizes link s.lent s.accepted) s.is;
       fits = s.fits;
     } in
     let keeps : KeepsLink sizes (with_link w number next) number next (record kept { ended = true }) =
@@ -160,7 +160,7 @@ ended_before old new c number place kept finds at_kept ended same sizes w world 
 -- The connection breaks.
 pub breaks : (old new : Sim) (c number : ℕ) (place after : Seat) (kept : Connection) → Finds old c number place
     → slice_get old.connections.items number ≡ Some kept → kept.broken ≡ false →
-    ((told : Told) → IsConn place.conn told → IsConn after.conn (record told { broken = true })) → after.current
+    ((flow : Flow) → IsConn place.conn flow → IsConn after.conn (record flow { broken = true })) → after.current
     ≡ place.current → Differs old new c after →
     new.connections.items ≡ slice_set old.connections.items number (record kept { broken = true })
     → StepsByEvent old (Break c) replied.Done new
@@ -179,7 +179,7 @@ breaks old new c number place after kept finds at_kept unset conn same differs c
     record {
       lent = s.lent;
       accepted = s.accepted;
-      is = conn (told_of sizes link s.lent s.accepted) s.is;
+      is = conn (flow_of sizes link s.lent s.accepted) s.is;
       fits = s.fits;
     } in
     let keeps : KeepsLink sizes (with_link w number next) number next (record kept { broken = true }) =
@@ -255,7 +255,7 @@ taken_bytes sizes w k link one law =
 -- A command is taken.
 pub takes : {may_show : ServerStats → Type 0} (old new : Sim) (c number moment : ℕ) (ticket : Ticket)
     (place after : Seat) → Finds old c number place → number < length old.connections.items
-    → ((told : Told) → IsConn place.conn told → TakesCommand told moment may_show ticket after.conn) →
+    → ((flow : Flow) → IsConn place.conn flow → TakesCommand flow moment may_show ticket after.conn) →
     after.current ≡ place.current → Differs old new c after → new.connections.items ≡ old.connections.items
     → StepsByEvent old (Take c moment) replied.Done new
 unfolding Stands
@@ -264,7 +264,7 @@ takes old new c number moment ticket place after finds below conn same differs c
     let link = f.0 in
     let at = f.1 in
     let s = f.2 in
-    let o = conn (told_of sizes link s.lent s.accepted) s.is in
+    let o = conn (flow_of sizes link s.lent s.accepted) s.is in
     let one = o.one in
     let next : Link = record link { taken = link.taken ++ one ∷ [] } in
     let w' = with_link w number next in
@@ -330,9 +330,9 @@ not_after_last sizes link command closed next =
 -- No command is taken, and the lists stay.
 takes_none : (old new : Sim) (c number moment : ℕ) (place after : Seat) → Finds old c number place → after.current
     ≡ place.current → Differs old new c after → new.connections.items ≡ old.connections.items →
-    ((told : Told) → IsConn place.conn told → IsConn after.conn told) →
+    ((flow : Flow) → IsConn place.conn flow → IsConn after.conn flow) →
     ((sizes : Sizes) (link : Link) (lent : Bool) (accepted : List Shown) (command : Command)
-    → IsConn place.conn (told_of sizes link lent accepted) → IsNextCommand sizes link command → HasWindow sizes link
+    → IsConn place.conn (flow_of sizes link lent accepted) → IsNextCommand sizes link command → HasWindow sizes link
     → link.broken ≡ false → ⊥) →
     StepsByEvent old (Take c moment) replied.Idle new
 unfolding Stands
@@ -355,7 +355,7 @@ takes_none old new c number moment place after finds same differs connections co
           (record {
             lent = s.lent;
             accepted = s.accepted;
-            is = conn (told_of sizes link s.lent s.accepted) s.is;
+            is = conn (flow_of sizes link s.lent s.accepted) s.is;
             fits = s.fits;
           }) connections,
     )
@@ -363,25 +363,25 @@ takes_none old new c number moment place after finds same differs connections co
 -- A Take is idle if all commands in the input were parsed, and more bytes are needed for another.
 pub takes_all : (old new : Sim) (c number moment : ℕ) (place after : Seat) → Finds old c number place → after.current
     ≡ place.current → Differs old new c after → new.connections.items ≡ old.connections.items →
-    ((told : Told) → IsConn place.conn told → NeedsMore told after.conn)
+    ((flow : Flow) → IsConn place.conn flow → NeedsMore flow after.conn)
     → StepsByEvent old (Take c moment) replied.Idle new
 takes_all old new c number moment place after finds same differs connections conn =
-    takes_none old new c number moment place after finds same differs connections (λ told is. (conn told is).now)
+    takes_none old new c number moment place after finds same differs connections (λ flow is. (conn flow is).now)
     (λ sizes link lent accepted command is next window unset. not_one_more sizes link command
-    (conn (told_of sizes link lent accepted) is).all next)
+    (conn (flow_of sizes link lent accepted) is).all next)
 
 -- A Take is idle where the connection has as many open commands as its window has room for.
 pub takes_full : (old new : Sim) (c number moment : ℕ) (place after : Seat) → Finds old c number place → after.current
     ≡ place.current → Differs old new c after → new.connections.items ≡ old.connections.items →
-    ((told : Told) → IsConn place.conn told → FillsWindow told after.conn)
+    ((flow : Flow) → IsConn place.conn flow → FillsWindow flow after.conn)
     → StepsByEvent old (Take c moment) replied.Idle new
 takes_full old new c number moment place after finds same differs connections conn =
-    takes_none old new c number moment place after finds same differs connections (λ told is. (conn told is).now)
+    takes_none old new c number moment place after finds same differs connections (λ flow is. (conn flow is).now)
     (λ sizes link lent accepted command is next window unset. let full =
-    (conn (told_of sizes link lent accepted) is).full in absurd (omega (arith, full, window)))
+    (conn (flow_of sizes link lent accepted) is).full in absurd (omega (arith, full, window)))
 
 over_none : (sizes : Sizes) (link : Link) (lent : Bool) (accepted : List Shown) (command : Command)
-    → IsOver (told_of sizes link lent accepted) → IsNextCommand sizes link command → link.broken ≡ false → ⊥
+    → IsOver (flow_of sizes link lent accepted) → IsNextCommand sizes link command → link.broken ≡ false → ⊥
 over_none sizes link lent accepted command (inl broken) next unset =
     absurd (let e : true ≡ false = sym broken ∙ unset in cc)
 over_none sizes link lent accepted command (inr (inl shut)) next unset = not_after_last sizes link command shut next
@@ -390,12 +390,12 @@ over_none sizes link lent accepted command (inr (inr done)) next unset = not_one
 -- A Take is idle where the connection is closed or broken.
 pub takes_closed : (old new : Sim) (c number moment : ℕ) (place after : Seat) → Finds old c number place → after.current
     ≡ place.current → Differs old new c after → new.connections.items ≡ old.connections.items →
-    ((told : Told) → IsConn place.conn told → IsOver told × IsConn after.conn told)
+    ((flow : Flow) → IsConn place.conn flow → IsOver flow × IsConn after.conn flow)
     → StepsByEvent old (Take c moment) replied.Idle new
 takes_closed old new c number moment place after finds same differs connections conn =
-    takes_none old new c number moment place after finds same differs connections (λ told is. (conn told is).1)
+    takes_none old new c number moment place after finds same differs connections (λ flow is. (conn flow is).1)
     (λ sizes link lent accepted command is next window unset. over_none sizes link lent accepted command
-    (conn (told_of sizes link lent accepted) is).0 next unset)
+    (conn (flow_of sizes link lent accepted) is).0 next unset)
 
 -- the element at a place
 pub get_index : {X : Type 0} (xs : List X) (i : ℕ) (x : X) → i < length xs → x ≡ slice_index_or xs i x → slice_get xs i

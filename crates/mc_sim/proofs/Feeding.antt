@@ -13,7 +13,7 @@ use Rattle.mc_conn.specs.declared.conn.Taken.{Taken as Took}
 use Rattle.mc_conn.specs.declared.conn.Taken.TheVariants as took
 use Rattle.mc_conn.specs.History.{Taken}
 use Rattle.mc_conn.specs.Conn.{IsAwaiting, IsConn, TakeSays}
-use Rattle.mc_conn.specs.Told.{IsAllTaken, IsOpen, IsOver, IsShut, IsUsedUp, Told, commands_of}
+use Rattle.mc_conn.specs.Flow.{IsAllTaken, IsOpen, IsOver, IsShut, IsUsedUp, Flow, commands_of}
 use Rattle.mc_model.specs.declared.event.StepReply.{StepReply}
 use Rattle.mc_model.specs.declared.event.StepReply.TheVariants as replied
 use Rattle.mc_sim.specs.declared.sim.Connection.{Connection}
@@ -27,7 +27,7 @@ use Rattle.mc_model.specs.Events.Event.{Feed}
 use Rattle.mc_model.specs.Schedule.{Happens}
 use Rattle.mc_model.specs.declared.event.StepReply.TheVariants.{Done}
 use Rattle.mc_sim.specs.Feeding.{FeedsInto, MayTake, Refreshed, TakesBytes}
-use Rattle.mc_sim.specs.Stands.{IsServing, IsWorld, KeepsLink, SeatIs, Stands, StepsByEvent, told_of}
+use Rattle.mc_sim.specs.Stands.{IsServing, IsWorld, KeepsLink, SeatIs, Stands, StepsByEvent, flow_of}
 use Rattle.mc_model.proofs.Every.{event_kept}
 use Rattle.mc_sim.proofs.Changing.{one_at}
 use Rattle.std.proofs.lemmas.Bool.{cases_eq}
@@ -36,55 +36,55 @@ use Rattle.mc_sim.proofs.Standing.{KeptBut, SeatsBut, found, kept_set, seats_set
 use Rattle.mc_sim.proofs.AtSeat.{Differs, Finds, IsSame, seat_stays, world_stays}
 use Rattle.mc_reply.specs.declared.server_stats.ServerStats.{ServerStats}
 
-one_more_than_all : (told : Told) (one : Taken) → IsAllTaken told
-    → BeginCommands told.rules told.fed (commands_of (told.taken ++ one ∷ [])) → ⊥
-one_more_than_all told one all next =
-    let begun = commands_begin told.rules told.fed [] (commands_of (told.taken ++ one ∷ [])) (commands_of told.taken)
-    next (subst (λ bytes. AreCommands told.rules bytes (commands_of told.taken)) (sym (append-nil told.fed)) all) in
+one_more_than_all : (flow : Flow) (one : Taken) → IsAllTaken flow
+    → BeginCommands flow.rules flow.fed (commands_of (flow.taken ++ one ∷ [])) → ⊥
+one_more_than_all flow one all next =
+    let begun = commands_begin flow.rules flow.fed [] (commands_of (flow.taken ++ one ∷ [])) (commands_of flow.taken)
+    next (subst (λ bytes. AreCommands flow.rules bytes (commands_of flow.taken)) (sym (append-nil flow.fed)) all) in
     let long = ap length begun.1 in
-    let whole = length-map (told.taken ++ one ∷ []) (λ (t : Taken). t.entry) in
-    let part = length-map told.taken (λ (t : Taken). t.entry) in
+    let whole = length-map (flow.taken ++ one ∷ []) (λ (t : Taken). t.entry) in
+    let part = length-map flow.taken (λ (t : Taken). t.entry) in
     absurd (omega (
       arith,
       long,
       whole,
       part,
-      length-append (commands_of (told.taken ++ one ∷ [])) begun.0,
-      length-append told.taken (one ∷ []),
+      length-append (commands_of (flow.taken ++ one ∷ [])) begun.0,
+      length-append flow.taken (one ∷ []),
     ))
 
-shut_of : (told : Told) → IsOpen told → IsOver told → IsShut told
-shut_of told is (inl broken) = absurd (let e : true ≡ false = sym broken ∙ is.whole in cc)
-shut_of told is (inr (inl shut)) = shut
-shut_of told is (inr (inr done)) = absurd (let e : true ≡ false = sym done.0 ∙ is.comes in cc)
+shut_of : (flow : Flow) → IsOpen flow → IsOver flow → IsShut flow
+shut_of flow is (inl broken) = absurd (let e : true ≡ false = sym broken ∙ is.whole in cc)
+shut_of flow is (inr (inl shut)) = shut
+shut_of flow is (inr (inr done)) = absurd (let e : true ≡ false = sym done.0 ∙ is.comes in cc)
 
 -- The state of a connection after `take` found no command.
 pub asked : (may_show : ServerStats → Type 0) (old new : Conn) (moment : ℕ) (result : Took)
-    → TakeSays old moment may_show result new → (told : Told) → IsConn old told → IsAllTaken told → Refreshed told new
-asked may_show old new moment (took.Opened ticket) says told is all = let o =
-    says told is in absurd (one_more_than_all told o.one all o.next)
-asked may_show old new moment took.NeedMore says told is all = let n =
-    says told is in record { now = n.now; waits = λ unset every place. inr n.waits }
-asked may_show old new moment took.Full says told is all = let n =
-    says told is in record {
+    → TakeSays old moment may_show result new → (flow : Flow) → IsConn old flow → IsAllTaken flow → Refreshed flow new
+asked may_show old new moment (took.Opened ticket) says flow is all = let o =
+    says flow is in absurd (one_more_than_all flow o.one all o.next)
+asked may_show old new moment took.NeedMore says flow is all = let n =
+    says flow is in record { now = n.now; waits = λ unset every place. inr n.waits }
+asked may_show old new moment took.Full says flow is all = let n =
+    says flow is in record {
       now = n.now;
       waits = λ unset every place. absurd (let full = n.full in omega (arith, full, place));
     }
-asked may_show old new moment took.Closed says told is all = let n =
-    says told is in record { now = n.1; waits = λ unset every place. inl (shut_of told unset n.0) }
+asked may_show old new moment took.Closed says flow is all = let n =
+    says flow is in record { now = n.1; waits = λ unset every place. inl (shut_of flow unset n.0) }
 
 -- all of a piece is taken where all before it is used up, whether or not more commands come
-pub takes_bytes : (old new : Conn) (told : Told) (bytes : List ℕ) (count : ℕ) → IsOpen told → Refreshed told old
-    → count ≤ length bytes → IsConn new (record told { fed = told.fed ++ take count bytes }) →
-    (IsAllTaken told → IsAwaiting old → 0 < length bytes → 0 < count)
-    → (IsUsedUp told → length bytes ≤ told.rules.line_limit → count ≡ length bytes)
-    → (IsShut told → count ≡ length bytes) → TakesBytes told bytes count new
-takes_bytes old new told bytes count unset ready within now progress whole shut = record {
+pub takes_bytes : (old new : Conn) (flow : Flow) (bytes : List ℕ) (count : ℕ) → IsOpen flow → Refreshed flow old
+    → count ≤ length bytes → IsConn new (record flow { fed = flow.fed ++ take count bytes }) →
+    (IsAllTaken flow → IsAwaiting old → 0 < length bytes → 0 < count)
+    → (IsUsedUp flow → length bytes ≤ flow.rules.line_limit → count ≡ length bytes)
+    → (IsShut flow → count ≡ length bytes) → TakesBytes flow bytes count new
+takes_bytes old new flow bytes count unset ready within now progress whole shut = record {
   within = within;
   now = now;
   whole =
-      λ used short. elim (is_closed (commands_of told.taken)) as
-      (λ b. is_closed (commands_of told.taken) ≡ b → count ≡ length bytes) [
+      λ used short. elim (is_closed (commands_of flow.taken)) as
+      (λ b. is_closed (commands_of flow.taken) ≡ b → count ≡ length bytes) [
         | true ↦ λ closed. shut closed
         | false ↦ λ goes_on. whole (record { used = used; goes_on = goes_on }) short
       ] refl;
@@ -98,7 +98,7 @@ takes_bytes old new told bytes count unset ready within now progress whole shut 
 pub feeds : (old new : Sim) (c number : ℕ) (bytes : List ℕ) (count : ℕ) (place after : Seat) (kept kept' : Connection)
     → Finds old c number place → slice_get old.connections.items number ≡ Some kept → kept.ended ≡ false → kept.broken
     ≡ false → 0 < length bytes → 0 < count →
-    ((told : Told) → IsConn place.conn told → IsOpen told → TakesBytes told bytes count after.conn) → after.current
+    ((flow : Flow) → IsConn place.conn flow → IsOpen flow → TakesBytes flow bytes count after.conn) → after.current
     ≡ place.current → Differs old new c after →
     new.connections.items ≡ slice_set old.connections.items number kept' → kept'.seat ≡ kept.seat → kept'.ended
     ≡ kept.ended → kept'.broken ≡ kept.broken → kept'.fed.items ≡ kept.fed.items ++ take count bytes → kept'.handed
@@ -112,7 +112,7 @@ feeds old new c number bytes count place after kept kept' finds at_kept comes wh
     let at = f.1 in
     let s = f.2 in
     let h = world.keeps number link kept at.here at_kept in
-    let t = conn (told_of sizes link s.lent s.accepted) s.is
+    let t = conn (flow_of sizes link s.lent s.accepted) s.is
     (record { comes = sym h.ended ∙ comes; whole = sym h.broken ∙ whole }) in
     let next : Link = record link { fed = link.fed ++ take count bytes } in
     let w' = with_link w number next in
@@ -217,10 +217,10 @@ feeds_into old new c number bytes replied.Idle place after kept kept' finds at_k
     let at = f.1 in
     let s = f.2 in
     let h = world.keeps number link kept at.here at_kept in
-    let t = into.1 (told_of sizes link s.lent s.accepted) s.is
+    let t = into.1 (flow_of sizes link s.lent s.accepted) s.is
     (record { comes = sym h.ended ∙ may.0; whole = sym h.broken ∙ may.1 }) in
-    let is : IsConn after.conn (told_of sizes link s.lent s.accepted) =
-    subst (λ xs. IsConn after.conn (record (told_of sizes link s.lent s.accepted) { fed = xs })) (append-nil link.fed)
+    let is : IsConn after.conn (flow_of sizes link s.lent s.accepted) =
+    subst (λ xs. IsConn after.conn (record (flow_of sizes link s.lent s.accepted) { fed = xs })) (append-nil link.fed)
     t.now in (
       w,
       (inr (number, link, at, record { within = t.within; whole = t.whole; some = t.some }), refl),
@@ -243,8 +243,8 @@ feeds_into old new c number bytes replied.NoMemory place after kept kept' finds 
     let at = f.1 in
     let s = f.2 in
     let h = world.keeps number link kept at.here at_kept in
-    let is : IsConn after.conn (told_of sizes link s.lent s.accepted) =
-    subst (λ x. IsConn x (told_of sizes link s.lent s.accepted)) (sym into.1) s.is in (
+    let is : IsConn after.conn (flow_of sizes link s.lent s.accepted) =
+    subst (λ x. IsConn x (flow_of sizes link s.lent s.accepted)) (sym into.1) s.is in (
       w,
       ((tt, (number, link, (at, sym h.ended ∙ may.0, sym h.broken ∙ may.1, may.2))), refl),
       feeds_none sizes w old new c number place after kept kept' world finds at_kept link

@@ -17,7 +17,7 @@ use Rattle.mc_split.specs.Pieces.{ShardOp, pieces_of}
 use Rattle.mc_conn.specs.declared.conn.Conn.{Conn}
 use Rattle.mc_conn.specs.Conn.{IsConn}
 use Rattle.mc_conn.specs.History.{Taken, planned, text_done}
-use Rattle.mc_conn.specs.Told.{Told, all_texts, waiting_text}
+use Rattle.mc_conn.specs.Flow.{Flow, all_texts, waiting_text}
 use Rattle.mc_conn.specs.Due.{done_at, due, pending_replies_of, history_from, channel, pieces, pieces_at, pieces_from}
 use Rattle.mc_conn.specs.Due.{ticket_at}
 use Rattle.mc_conn.specs.Fits.{Fits, HasCome, counts}
@@ -42,7 +42,7 @@ use Rattle.mc_model.specs.Law.{LinkLaw}
 use Rattle.mc_model.specs.Headline.{handed_bytes}
 use Rattle.mc_model.proofs.Lists.{all_from}
 use Rattle.mc_model.proofs.Growing.{concat-append}
-use Rattle.mc_sim.specs.Stands.{IsServing, IsWorld, KeepsLink, SeatIs, Stands, StepsByEvent, received_by, told_of}
+use Rattle.mc_sim.specs.Stands.{IsServing, IsWorld, KeepsLink, SeatIs, Stands, StepsByEvent, received_by, flow_of}
 use Rattle.mc_model.proofs.Every.{event_kept}
 use Rattle.mc_sim.proofs.Changing.{one_at}
 use Rattle.mc_sim.proofs.Standing.{found, kept_set, seats_set}
@@ -81,10 +81,10 @@ come_back sizes own link count law come s = let here = come s in let same =
 -- The replies whose turn has come are those to as many commands as need no further answer.
 pub is_turn : (sizes : Sizes) (own : List Entry) (link : Link) (conn : Conn) → LinkLaw sizes own link
     → (s : IsServing sizes own link conn)
-    → IsTurn sizes link (length (all_texts (told_of sizes link s.lent s.accepted)))
+    → IsTurn sizes link (length (all_texts (flow_of sizes link s.lent s.accepted)))
 is_turn sizes own link conn law s =
-    let sound = is_sound conn (told_of sizes link s.lent s.accepted) s.is in
-    let count = length (all_texts (told_of sizes link s.lent s.accepted)) in
+    let sound = is_sound conn (flow_of sizes link s.lent s.accepted) s.is in
+    let count = length (all_texts (flow_of sizes link s.lent s.accepted)) in
     record {
       within = sound.complete;
       come =
@@ -96,25 +96,25 @@ is_turn sizes own link conn law s =
     }
 
 -- what was accepted for a piece
-abbrev told_for : List Shown → ℕ × Piece → Option Answer
-told_for accepted piece = answer_to accepted piece.1.ticket piece.1.part
+abbrev flow_for : List Shown → ℕ × Piece → Option Answer
+flow_for accepted piece = answer_to accepted piece.1.ticket piece.1.part
 
-parts_told : (accepted : List Shown) (first : ℕ) (ticket : Ticket) (moment : ℕ) (asked : List ShardOp)
-    → map (told_for accepted) (parts_from first ticket moment asked)
+parts_flow : (accepted : List Shown) (first : ℕ) (ticket : Ticket) (moment : ℕ) (asked : List ShardOp)
+    → map (flow_for accepted) (parts_from first ticket moment asked)
     ≡ slots_after accepted ticket first (no_answers asked)
-parts_told accepted first ticket moment [] = refl
-parts_told accepted first ticket moment (one ∷ asked) =
-    ap (λ xs. answer_to accepted ticket first ∷ xs) (parts_told accepted (first + 1) ticket moment asked)
+parts_flow accepted first ticket moment [] = refl
+parts_flow accepted first ticket moment (one ∷ asked) =
+    ap (λ xs. answer_to accepted ticket first ∷ xs) (parts_flow accepted (first + 1) ticket moment asked)
 
 abbrev AgreeOn : List Shown → List Shown → List (ℕ × Piece) → Type 0
-AgreeOn one other all = AllByRecursion (λ piece. told_for one piece ≡ told_for other piece) all
+AgreeOn one other all = AllByRecursion (λ piece. flow_for one piece ≡ flow_for other piece) all
 
-map_agree : (one other : List Shown) (all : List (ℕ × Piece)) → AgreeOn one other all → map (told_for one) all
-    ≡ map (told_for other) all
+map_agree : (one other : List Shown) (all : List (ℕ × Piece)) → AgreeOn one other all → map (flow_for one) all
+    ≡ map (flow_for other) all
 map_agree one other [] agree = refl
 map_agree one other (piece ∷ all) agree =
-    ap (λ a. a ∷ map (told_for one) all) agree.0
-    ∙ ap (λ as'. told_for other piece ∷ as') (map_agree one other all agree.1)
+    ap (λ a. a ∷ map (flow_for one) all) agree.0
+    ∙ ap (λ as'. flow_for other piece ∷ as') (map_agree one other all agree.1)
 
 all_front : {X : Type 0} (P : X → Type 0) (xs ys : List X) → AllByRecursion P (xs ++ ys) → AllByRecursion P xs
     × AllByRecursion P ys
@@ -127,14 +127,14 @@ history_same : (shards : ℕ) (one other : List Shown) (number : ℕ) (taken : L
     ≡ history_from shards other number taken
 history_same shards one other number [] agree = refl
 history_same shards one other number (first ∷ taken) agree =
-    let both = all_front (λ piece. told_for one piece ≡ told_for other piece) (pieces_at shards number first)
+    let both = all_front (λ piece. flow_for one piece ≡ flow_for other piece) (pieces_at shards number first)
     (pieces_from shards (number + 1) taken) agree in
     let asked = pieces_of shards (planned first) in
     let slots : slots_after one (ticket_at number) 0 (no_answers asked)
     ≡ slots_after other (ticket_at number) 0 (no_answers asked) =
-    sym (parts_told one 0 (ticket_at number) first.moment asked)
+    sym (parts_flow one 0 (ticket_at number) first.moment asked)
     ∙ (map_agree one other (pieces_at shards number first) both.0
-    ∙ parts_told other 0 (ticket_at number) first.moment asked) in
+    ∙ parts_flow other 0 (ticket_at number) first.moment asked) in
     ap (λ xs. record {
       entry = first.entry;
       moment = first.moment;
@@ -155,7 +155,7 @@ same_texts sizes own link accepted count law fits within come =
     let first = take count link.taken in
     let full : ℕ → List Shown = λ s. replies_in (on_shard s own) in
     let agree : AgreeOn accepted (replies_in own) (pieces shards first) =
-    all_from (λ piece. told_for accepted piece ≡ told_for (replies_in own) piece) (pieces shards first) (λ i piece here.
+    all_from (λ piece. flow_for accepted piece ≡ flow_for (replies_in own) piece) (pieces shards first) (λ i piece here.
     let s = piece.0 in
     let p = piece.1 in
     let place = length (channel s (take i (pieces shards first))) in
@@ -168,7 +168,7 @@ same_texts sizes own link accepted count law fits within come =
     take_less (link.received s) (full s) place less in
     fits.answers s place p due_at ∙
     (ap (λ o. option_map (λ (r : Shown). r.answer) o) same ∙ sym (law.fits.answers s place p due_at))) in
-    let told = tells shards count link.taken accepted (received_by link own) within law.may fits
+    let flow = tells shards count link.taken accepted (received_by link own) within law.may fits
     (come_on sizes own link count law come) in
     let logged = tells shards count link.taken (replies_in own) full within law.may law.fits (λ s.
     let came = come s in
@@ -176,37 +176,37 @@ same_texts sizes own link accepted count law fits within come =
     let given = law.given s in
     let long = length-map (on_shard s own) reply_to in
     omega (arith, came, received, given, long)) in
-    told.texts ∙ (ap (λ history. map text_done history) (history_same shards accepted (replies_in own) 0 first agree)
+    flow.texts ∙ (ap (λ history. map text_done history) (history_same shards accepted (replies_in own) 0 first agree)
     ∙ sym logged.texts)
 
 -- The bytes that the connection was handed before, with those that were waiting, are those that it is handed
 -- now.
 pub handed_now : (sizes : Sizes) (w : World) (k : ℕ) (link : Link) (conn : Conn)
     (law : LinkLaw sizes (of_asker k w.log) link) (s : IsServing sizes (of_asker k w.log) link conn) →
-    let told = told_of sizes link s.lent s.accepted in
-    handed_bytes sizes w k link ++ waiting_text told
-    ≡ handed_bytes sizes w k (record link { handed = length (all_texts told) })
+    let flow = flow_of sizes link s.lent s.accepted in
+    handed_bytes sizes w k link ++ waiting_text flow
+    ≡ handed_bytes sizes w k (record link { handed = length (all_texts flow) })
 handed_now sizes w k link conn law s =
     let own = of_asker k w.log in
-    let told = told_of sizes link s.lent s.accepted in
-    let texts = all_texts told in
+    let flow = flow_of sizes link s.lent s.accepted in
+    let texts = all_texts flow in
     let n = length texts in
     let turn = is_turn sizes own link conn law s in
     let logged = replies (pending_replies_of sizes.shards link.taken) (replies_in own) in
-    let sound = is_sound conn told s.is in
+    let sound = is_sound conn flow s.is in
     let same : texts ≡ take n logged = sym (take_all n texts (omega arith))
     ∙ same_texts sizes own link s.accepted n law s.fits turn.within turn.come in
     let front : take link.handed texts ≡ take link.handed logged = ap (λ ts. take link.handed ts) same
     ∙ take-take link.handed n logged sound.handed in
-    ap (λ ts. concat ts ++ waiting_text told) (sym front)
+    ap (λ ts. concat ts ++ waiting_text flow) (sym front)
     ∙ (sym (concat-append (take link.handed texts) (drop link.handed texts))
     ∙ (ap (λ ts. concat ts) (take-append-drop link.handed texts) ∙ ap (λ ts. concat ts) same))
 
 -- However it is answered, a Hand leads the core on.
 pub hands : (old new : Sim) (c number : ℕ) (reply : StepReply) (place after : Seat) (kept kept' : Connection)
     (passes : ℕ) → Finds old c number place → slice_get old.connections.items number ≡ Some kept → 0 < passes →
-    ((told : Told) → IsConn place.conn told → told.broken ≡ false → told.handed + passes ≡ length (all_texts told))
-    → ((told : Told) → IsConn place.conn told → IsTrue told.broken → passes ≡ 0) →
+    ((flow : Flow) → IsConn place.conn flow → flow.broken ≡ false → flow.handed + passes ≡ length (all_texts flow))
+    → ((flow : Flow) → IsConn place.conn flow → IsTrue flow.broken → passes ≡ 0) →
     HandsInto place.conn kept.handed.items reply after.conn kept'.handed.items → after.current ≡ place.current
     → Differs old new c after → new.connections.items ≡ slice_set old.connections.items number kept' →
     kept'.seat ≡ kept.seat → kept'.ended ≡ kept.ended → kept'.broken ≡ kept.broken → kept'.fed ≡ kept.fed
@@ -218,15 +218,15 @@ hands old new c number reply place after kept kept' passes finds at_kept some pa
     let link = f.0 in
     let at = f.1 in
     let s = f.2 in
-    let told = told_of sizes link s.lent s.accepted in
+    let flow = flow_of sizes link s.lent s.accepted in
     let own = of_asker number w.log in
     let law = world.law.links number link at.here in
     let h = world.keeps number link kept at.here at_kept in
     let whole : link.broken ≡ false = elim link.broken as (λ b. link.broken ≡ b → link.broken ≡ false) [
       | false ↦ λ is. is
-      | true ↦ λ is. let zero_passes = none told s.is is in absurd (omega (arith, zero_passes, some))
+      | true ↦ λ is. let zero_passes = none flow s.is is in absurd (omega (arith, zero_passes, some))
     ] refl in
-    let count = pass told s.is whole in
+    let count = pass flow s.is whole in
     let turn = is_turn sizes own link place.conn law s in
     let within = turn.within in
     let next_come : HasCome sizes.shards link.taken link.received (link.handed + 1) =
@@ -237,8 +237,8 @@ hands old new c number reply place after kept kept' passes finds at_kept some pa
     elim reply as (λ r. HandsInto place.conn kept.handed.items r after.conn kept'.handed.items → (w' : World)
     × Happens sizes w (Hand c) r w' × IsWorld sizes new w') [
       | replied.Done ↦ λ done.
-          let d = done told s.is whole in
-          let n = length (all_texts told) in
+          let d = done flow s.is whole in
+          let n = length (all_texts flow) in
           let next : Link = record link { handed = n } in
           let w' = with_link w number next in
           let happens : Happens sizes w (Hand c) Done w' = (number, link, allows, (n, turn, refl)) in
@@ -247,7 +247,7 @@ hands old new c number reply place after kept kept' passes finds at_kept some pa
           record {
             lent = s.lent;
             accepted = s.accepted;
-            is = subst (λ m. IsConn after.conn (record told { handed = m })) d.all d.now;
+            is = subst (λ m. IsConn after.conn (record flow { handed = m })) d.all d.now;
             fits = s.fits;
           } in
           let keeps : KeepsLink sizes w' number next kept' = record {
@@ -256,7 +256,7 @@ hands old new c number reply place after kept kept' passes finds at_kept some pa
             broken = broken ∙ h.broken;
             fed = ap (λ v. v.items) fed ∙ h.fed;
             handed =
-                d.bytes ∙ (ap (λ xs. xs ++ waiting_text told) h.handed
+                d.bytes ∙ (ap (λ xs. xs ++ waiting_text flow) h.handed
                 ∙ handed_now sizes w number link place.conn law s);
           } in (
             w',
@@ -266,9 +266,9 @@ hands old new c number reply place after kept kept' passes finds at_kept some pa
                 connections keeps)
                 (λ t. refl) refl refl,
           )
-      | replied.Idle ↦ λ never. absurd (never told s.is whole)
+      | replied.Idle ↦ λ never. absurd (never flow s.is whole)
       | replied.NoMemory ↦ λ stays.
-          let d = stays told s.is whole in
+          let d = stays flow s.is whole in
           let is : SeatIs sizes w c after.conn after.current =
           subst (λ o. SeatIs sizes w c after.conn o) (sym (same ∙ finds.current))
           (link, at, record { lent = s.lent; accepted = s.accepted; is = d.1; fits = s.fits }) in
@@ -293,7 +293,7 @@ hands old new c number reply place after kept kept' passes finds at_kept some pa
 
 -- No reply's turn has come.
 pub hands_none : (old new : Sim) (c number passes : ℕ) (place : Seat) → Finds old c number place
-    → ((told : Told) → IsConn place.conn told → told.broken ≡ false → told.handed + passes ≡ length (all_texts told))
+    → ((flow : Flow) → IsConn place.conn flow → flow.broken ≡ false → flow.handed + passes ≡ length (all_texts flow))
     → passes ≡ 0 → IsSame old new → StepsByEvent old (Hand c) replied.Idle new
 unfolding Stands
 hands_none old new c number passes place finds pass none same sizes w world =
@@ -303,7 +303,7 @@ hands_none old new c number passes place finds pass none same sizes w world =
     let s = f.2 in
     let own = of_asker number w.log in
     let law = world.law.links number link at.here in
-    let told = told_of sizes link s.lent s.accepted in (
+    let flow = flow_of sizes link s.lent s.accepted in (
       w,
       (
         inl (λ e.
@@ -313,7 +313,7 @@ hands_none old new c number passes place finds pass none same sizes w world =
             subst (λ (x : Link). (x.handed < length x.taken) × HasCome sizes.shards x.taken x.received (x.handed + 1)
             × (x.broken ≡ false)) (sym one.1) (e.2.1, e.2.2, e.2.3) in
             let less = may.0 in
-            let count = pass told s.is may.2 in
+            let count = pass flow s.is may.2 in
             let more = count_from_come sizes.shards (link.handed + 1) link.taken s.accepted (received_by link own)
             (omega (arith, less)) s.fits (come_on sizes own link (link.handed + 1) law may.1) in
             absurd (omega (arith, count, more, none))),

@@ -13,7 +13,7 @@ use Rattle.mc_ring.specs.EndsLaws.{get-set_other, get-set_same, length-slice_set
 use Rattle.mc_ring.specs.Reply.{Shown}
 use Rattle.mc_conn.specs.declared.conn.Conn.{Conn}
 use Rattle.mc_conn.specs.Conn.{IsConn}
-use Rattle.mc_conn.specs.Told.{IsAtRest, IsOver, Told, all_texts, told_nothing}
+use Rattle.mc_conn.specs.Flow.{IsAtRest, IsOver, Flow, all_texts, new_flow}
 use Rattle.mc_conn.specs.Due.{due, channel, pieces}
 use Rattle.mc_conn.specs.Fits.{HasCome}
 use Rattle.mc_conn.proofs.Counting.{come_from_count, count_from_come}
@@ -40,7 +40,7 @@ use Rattle.mc_model.proofs.Logs.{none_of}
 use Rattle.mc_model.proofs.Every.{event_kept}
 use Rattle.mc_sim.proofs.Changing.{one_at}
 use Rattle.mc_sim.specs.Stands.{HandIs, IsServing, IsWorld, KeepsLink, Mirrors, SeatIs, Stands, StepsByEvent}
-use Rattle.mc_sim.specs.Stands.{received_by, told_of, unreceived, unrun}
+use Rattle.mc_sim.specs.Stands.{received_by, flow_of, unreceived, unrun}
 use Rattle.mc_model.proofs.Links.{ran_within}
 use Rattle.mc_sim.proofs.AtSeat.{IsSame, world_stays}
 use Rattle.mc_sim.proofs.Handing.{come_back, come_on}
@@ -48,7 +48,7 @@ use Rattle.mc_ring.proofs.Lists.{get_last}
 
 -- where all that is due was received, and only there, every command has its reply
 all_due : (sizes : Sizes) (own : List Entry) (link : Link) (conn : Conn) → LinkLaw sizes own link
-    → (s : IsServing sizes own link conn) → length (all_texts (told_of sizes link s.lent s.accepted))
+    → (s : IsServing sizes own link conn) → length (all_texts (flow_of sizes link s.lent s.accepted))
     ≡ length link.taken → IsAllReceived sizes link
 all_due sizes own link conn law s all t =
     let come = come_back sizes own link (length link.taken) law
@@ -62,7 +62,7 @@ all_due sizes own link conn law s all t =
 
 all_answered : (sizes : Sizes) (own : List Entry) (link : Link) (conn : Conn) → LinkLaw sizes own link
     → (s : IsServing sizes own link conn) → IsAllReceived sizes link
-    → length (all_texts (told_of sizes link s.lent s.accepted)) ≡ length link.taken
+    → length (all_texts (flow_of sizes link s.lent s.accepted)) ≡ length link.taken
 all_answered sizes own link conn law s all =
     let n = length link.taken in
     let come : HasCome sizes.shards link.taken link.received n = λ t.
@@ -71,16 +71,16 @@ all_answered sizes own link conn law s all =
     omega (arith, whole, here) in
     let enough = count_from_come sizes.shards n link.taken s.accepted (received_by link own) (omega arith) s.fits
     (come_on sizes own link n law come) in
-    let most = (is_sound conn (told_of sizes link s.lent s.accepted) s.is).complete in
+    let most = (is_sound conn (flow_of sizes link s.lent s.accepted) s.is).complete in
     omega (arith, enough, most)
 
 -- A seat's connection is at rest where its world's is.
 pub rests : (sizes : Sizes) (own : List Entry) (link : Link) (conn : Conn) → LinkLaw sizes own link
-    → (s : IsServing sizes own link conn) → IsAtRest (told_of sizes link s.lent s.accepted) → AtRest sizes link
+    → (s : IsServing sizes own link conn) → IsAtRest (flow_of sizes link s.lent s.accepted) → AtRest sizes link
 rests sizes own link conn law s rest =
-    let told = told_of sizes link s.lent s.accepted in
+    let flow = flow_of sizes link s.lent s.accepted in
     let sent : IsAllSent sizes link = rest.sent in
-    elim link.broken as (λ b. MatchBool b (length (all_texts told) ≡ length link.taken)
+    elim link.broken as (λ b. MatchBool b (length (all_texts flow) ≡ length link.taken)
     (IsAllTaken sizes link × (link.handed ≡ length link.taken))
     → MatchBool b (IsAllSent sizes link × IsAllReceived sizes link)
     (IsAllTaken sizes link × IsAllSent sizes link × (link.handed ≡ length link.taken))) [
@@ -89,15 +89,15 @@ rests sizes own link conn law s rest =
     ] rest.done
 
 pub rests_back : (sizes : Sizes) (own : List Entry) (link : Link) (conn : Conn) → LinkLaw sizes own link
-    → (s : IsServing sizes own link conn) → AtRest sizes link → IsAtRest (told_of sizes link s.lent s.accepted)
+    → (s : IsServing sizes own link conn) → AtRest sizes link → IsAtRest (flow_of sizes link s.lent s.accepted)
 rests_back sizes own link conn law s rest =
-    let told = told_of sizes link s.lent s.accepted in
+    let flow = flow_of sizes link s.lent s.accepted in
     let both : IsAllSent sizes link
-    × MatchBool link.broken (length (all_texts told) ≡ length link.taken)
+    × MatchBool link.broken (length (all_texts flow) ≡ length link.taken)
     (IsAllTaken sizes link × (link.handed ≡ length link.taken)) =
     elim link.broken as (λ b. MatchBool b (IsAllSent sizes link × IsAllReceived sizes link)
     (IsAllTaken sizes link × IsAllSent sizes link × (link.handed ≡ length link.taken)) → IsAllSent sizes link
-    × MatchBool b (length (all_texts told) ≡ length link.taken)
+    × MatchBool b (length (all_texts flow) ≡ length link.taken)
     (IsAllTaken sizes link × (link.handed ≡ length link.taken))) [
       | true ↦ λ r. (r.0, all_answered sizes own link conn law s r.1)
       | false ↦ λ r. (r.1, (r.0, r.2))
@@ -105,33 +105,33 @@ rests_back sizes own link conn law s rest =
     record { sent = both.0; done = both.1 }
 
 pub overs : (sizes : Sizes) (link : Link) (lent : Bool) (accepted : List Shown)
-    → IsOver (told_of sizes link lent accepted) → IsClosed sizes link ⊎ IsTrue link.broken
+    → IsOver (flow_of sizes link lent accepted) → IsClosed sizes link ⊎ IsTrue link.broken
 overs sizes link lent accepted (inl broken) = inr broken
 overs sizes link lent accepted (inr closed) = inl closed
 
 pub overs_back : (sizes : Sizes) (link : Link) (lent : Bool) (accepted : List Shown) → IsClosed sizes link
-    ⊎ IsTrue link.broken → IsOver (told_of sizes link lent accepted)
+    ⊎ IsTrue link.broken → IsOver (flow_of sizes link lent accepted)
 overs_back sizes link lent accepted (inl closed) = inr closed
 overs_back sizes link lent accepted (inr broken) = inl broken
 
 -- A connection that was renewed, or was new, is new.
-pub is_renewed : (old new : Conn) (result : Bool) (sizes : Sizes) (told : Told) → IsConn old told → told.shards
-    ≡ sizes.shards → told.rules ≡ rules_of sizes → told.window ≡ sizes.window → IsTrue result
-    ↔ (IsAtRest told × IsOver told) →
-    (IsTrue result → IsConn new (told_nothing told.shards told.rules told.window)) → IsAtRest told × IsOver told
-    → IsConn new (told_nothing sizes.shards (rules_of sizes) sizes.window)
-is_renewed old new result sizes told is shards rules window when fresh may =
-    let e : told_nothing told.shards told.rules told.window ≡ told_nothing sizes.shards (rules_of sizes) sizes.window =
-    λ i. told_nothing (shards i) (rules i) (window i) in
+pub is_renewed : (old new : Conn) (result : Bool) (sizes : Sizes) (flow : Flow) → IsConn old flow → flow.shards
+    ≡ sizes.shards → flow.rules ≡ rules_of sizes → flow.window ≡ sizes.window → IsTrue result
+    ↔ (IsAtRest flow × IsOver flow) →
+    (IsTrue result → IsConn new (new_flow flow.shards flow.rules flow.window)) → IsAtRest flow × IsOver flow
+    → IsConn new (new_flow sizes.shards (rules_of sizes) sizes.window)
+is_renewed old new result sizes flow is shards rules window when fresh may =
+    let e : new_flow flow.shards flow.rules flow.window ≡ new_flow sizes.shards (rules_of sizes) sizes.window =
+    λ i. new_flow (shards i) (rules i) (window i) in
     subst (λ t. IsConn new t) e (fresh (when.1 may))
 
 pub is_still_new : (old new : Conn) (result : Bool) (sizes : Sizes)
-    → IsConn old (told_nothing sizes.shards (rules_of sizes) sizes.window)
-    → (IsTrue result → IsConn new (told_nothing sizes.shards (rules_of sizes) sizes.window))
-    → (result ≡ false → new ≡ old) → IsConn new (told_nothing sizes.shards (rules_of sizes) sizes.window)
+    → IsConn old (new_flow sizes.shards (rules_of sizes) sizes.window)
+    → (IsTrue result → IsConn new (new_flow sizes.shards (rules_of sizes) sizes.window))
+    → (result ≡ false → new ≡ old) → IsConn new (new_flow sizes.shards (rules_of sizes) sizes.window)
 is_still_new old new true sizes is fresh same = fresh refl
 is_still_new old new false sizes is fresh same =
-    subst (λ c. IsConn c (told_nothing sizes.shards (rules_of sizes) sizes.window)) (sym (same refl)) is
+    subst (λ c. IsConn c (new_flow sizes.shards (rules_of sizes) sizes.window)) (sym (same refl)) is
 
 -- all that was due at rest was received
 pub due_received : (sizes : Sizes) (own : List Entry) (link : Link) → LinkLaw sizes own link → AtRest sizes link
@@ -218,7 +218,7 @@ quiet sizes w old c s world (inr free) =
 pub opens : (old new : Sim) (c : ℕ) (place after : Seat) (kept : Connection) → slice_get old.seats.items c
     ≡ Some place →
     ((sizes : Sizes) (w : World) → Stands sizes old w → (IsUnusedSeat w c ⊎ IsRenewable sizes w c)
-    × IsConn after.conn (told_nothing sizes.shards (rules_of sizes) sizes.window)) →
+    × IsConn after.conn (new_flow sizes.shards (rules_of sizes) sizes.window)) →
     after.current ≡ Some (length old.connections.items) → new.seats.items ≡ slice_set old.seats.items c after
     → new.connections.items ≡ old.connections.items ++ kept ∷ [] →
     kept.seat ≡ c → kept.ended ≡ false → kept.broken ≡ false → kept.fed.items ≡ [] → kept.handed.items ≡ []
@@ -369,28 +369,28 @@ opens old new c place after kept here free current set connections seat ended br
 
 -- The seat in its world, and its connection after a reset, if a new connection may open on it.
 pub frees : (old : Sim) (c : ℕ) (place : Seat) (after : Conn) (renewed : Bool) → slice_get old.seats.items c
-    ≡ Some place → ((told : Told) → IsConn place.conn told → MayBegin told place.current) →
-    ((told : Told) → IsConn place.conn told → IsTrue renewed ↔ (IsAtRest told × IsOver told))
-    → (IsTrue renewed → (told : Told) → IsConn place.conn told
-    → IsConn after (told_nothing told.shards told.rules told.window)) → (renewed ≡ false → after ≡ place.conn) →
+    ≡ Some place → ((flow : Flow) → IsConn place.conn flow → MayBegin flow place.current) →
+    ((flow : Flow) → IsConn place.conn flow → IsTrue renewed ↔ (IsAtRest flow × IsOver flow))
+    → (IsTrue renewed → (flow : Flow) → IsConn place.conn flow
+    → IsConn after (new_flow flow.shards flow.rules flow.window)) → (renewed ≡ false → after ≡ place.conn) →
     (sizes : Sizes) (w : World) → Stands sizes old w → (IsUnusedSeat w c ⊎ IsRenewable sizes w c)
-    × IsConn after (told_nothing sizes.shards (rules_of sizes) sizes.window)
+    × IsConn after (new_flow sizes.shards (rules_of sizes) sizes.window)
 unfolding Stands
 frees old c place after renewed here may when fresh same sizes w world =
-    elim place.current as (λ o. ((told : Told) → IsConn place.conn told → MayBegin told o)
+    elim place.current as (λ o. ((flow : Flow) → IsConn place.conn flow → MayBegin flow o)
     → SeatIs sizes w c place.conn o → (IsUnusedSeat w c ⊎ IsRenewable sizes w c)
-    × IsConn after (told_nothing sizes.shards (rules_of sizes) sizes.window)) [
+    × IsConn after (new_flow sizes.shards (rules_of sizes) sizes.window)) [
       | None ↦ λ may' is. (
         inl is.0,
         is_still_new place.conn after renewed sizes is.1
-            (λ yes'. fresh yes' (told_nothing sizes.shards (rules_of sizes) sizes.window) is.1) same,
+            (λ yes'. fresh yes' (new_flow sizes.shards (rules_of sizes) sizes.window) is.1) same,
       )
       | Some k ↦ λ may' is.
           let link = is.0 in
           let at = is.1 in
           let s = is.2 in
-          let told = told_of sizes link s.lent s.accepted in
-          let both : IsAtRest told × IsOver told = elim (may' told s.is) [
+          let flow = flow_of sizes link s.lent s.accepted in
+          let both : IsAtRest flow × IsOver flow = elim (may' flow s.is) [
             | inl none ↦ absurd (cc)
             | inr these ↦ these
           ] in
@@ -398,8 +398,8 @@ frees old c place after renewed here may when fresh same sizes w world =
           let renews : MayRenew sizes link =
           (rests sizes (of_asker k w.log) link place.conn law s both.0, overs sizes link s.lent s.accepted both.1) in (
             inr (k, link, at, renews),
-            is_renewed place.conn after renewed sizes told s.is refl refl refl (when told s.is)
-                (λ yes'. fresh yes' told s.is) both,
+            is_renewed place.conn after renewed sizes flow s.is refl refl refl (when flow s.is)
+                (λ yes'. fresh yes' flow s.is) both,
           )
     ] may (world.each_seat c place here)
 
@@ -416,16 +416,16 @@ opens_beyond old new c beyond same sizes w world =
 
 -- The seat's connection may not be followed yet.
 pub opens_not : (old new : Sim) (c : ℕ) (place : Seat) → slice_get old.seats.items c ≡ Some place
-    → ((told : Told) → IsConn place.conn told → MayBegin told place.current → ⊥) → IsSame old new
+    → ((flow : Flow) → IsConn place.conn flow → MayBegin flow place.current → ⊥) → IsSame old new
     → StepsByEvent old (Open c) replied.Idle new
 unfolding Stands
 opens_not old new c place here not same sizes w world = (
   w,
   (
     inl (λ e.
-        elim place.current as (λ o. ((told : Told) → IsConn place.conn told → MayBegin told o → ⊥)
+        elim place.current as (λ o. ((flow : Flow) → IsConn place.conn flow → MayBegin flow o → ⊥)
         → SeatIs sizes w c place.conn o → ⊥) [
-          | None ↦ λ never is. never (told_nothing sizes.shards (rules_of sizes) sizes.window) is.1 (inl refl)
+          | None ↦ λ never is. never (new_flow sizes.shards (rules_of sizes) sizes.window) is.1 (inl refl)
           | Some k ↦ λ never is.
               let link = is.0 in
               let at = is.1 in
@@ -435,7 +435,7 @@ opens_not old new c place here not same sizes w world = (
                 | inr free ↦
                     let one = one_at w c free.0 k free.1 link free.2 at in
                     let renews : MayRenew sizes link = subst (λ x. MayRenew sizes x) one.1 free.3 in
-                    never (told_of sizes link s.lent s.accepted) s.is
+                    never (flow_of sizes link s.lent s.accepted) s.is
                     (inr (
                       rests_back sizes (of_asker k w.log) link place.conn (world.law.links k link at.here) s
                           renews.0,
@@ -450,22 +450,22 @@ opens_not old new c place here not same sizes w world = (
 
 -- There was no memory for what is kept of it.
 pub opens_unkept : (old new : Sim) (c : ℕ) (place : Seat) → slice_get old.seats.items c ≡ Some place
-    → ((told : Told) → IsConn place.conn told → MayBegin told place.current) → IsSame old new
+    → ((flow : Flow) → IsConn place.conn flow → MayBegin flow place.current) → IsSame old new
     → StepsByEvent old (Open c) replied.NoMemory new
 unfolding Stands
 opens_unkept old new c place here may same sizes w world =
     let below = slice_get_within old.seats.items c place here in
     let counted = world.seat_count in
     let free : IsUnusedSeat w c ⊎ IsRenewable sizes w c =
-    elim place.current as (λ o. ((told : Told) → IsConn place.conn told → MayBegin told o)
+    elim place.current as (λ o. ((flow : Flow) → IsConn place.conn flow → MayBegin flow o)
     → SeatIs sizes w c place.conn o → IsUnusedSeat w c ⊎ IsRenewable sizes w c) [
       | None ↦ λ may' is. inl is.0
       | Some k ↦ λ may' is.
           let link = is.0 in
           let at = is.1 in
           let s = is.2 in
-          let both : IsAtRest (told_of sizes link s.lent s.accepted) × IsOver (told_of sizes link s.lent s.accepted) =
-          elim (may' (told_of sizes link s.lent s.accepted) s.is) [
+          let both : IsAtRest (flow_of sizes link s.lent s.accepted) × IsOver (flow_of sizes link s.lent s.accepted) =
+          elim (may' (flow_of sizes link s.lent s.accepted) s.is) [
             | inl none ↦ absurd (cc)
             | inr these ↦ these
           ] in

@@ -13,7 +13,7 @@ use Rattle.mc_join.specs.declared.reorder_buffer.UnexpectedReply.{UnexpectedRepl
 use Rattle.mc_join.specs.Expects.{Expects}
 use Rattle.mc_conn.specs.declared.conn.Conn.{Conn}
 use Rattle.mc_conn.specs.Conn.{IsConn}
-use Rattle.mc_conn.specs.Told.{Told, all_pending_replies}
+use Rattle.mc_conn.specs.Flow.{Flow, all_pending_replies}
 use Rattle.mc_conn.specs.Due.{due}
 use Rattle.mc_conn.specs.Fits.{IsReplyTo, ReceivesFromShard}
 use Rattle.mc_conn.proofs.Counting.{due_beyond}
@@ -30,7 +30,7 @@ use Rattle.mc_model.specs.Schedule.{Happens}
 use Rattle.mc_model.specs.declared.event.StepReply.TheVariants.{Done}
 use Rattle.mc_model.specs.Law.{LinkLaw}
 use Rattle.mc_sim.specs.Rings.{AreWired, ReceivesNone, ReceivesReply, Wires, with_channel}
-use Rattle.mc_sim.specs.Stands.{IsServing, KeepsLink, SeatIs, Stands, StepsByEvent, received_by, told_of, unreceived}
+use Rattle.mc_sim.specs.Stands.{IsServing, KeepsLink, SeatIs, Stands, StepsByEvent, received_by, flow_of, unreceived}
 use Rattle.mc_model.proofs.Lists.{take_next}
 use Rattle.mc_model.proofs.Links.{ran_within}
 use Rattle.mc_model.proofs.Every.{event_kept}
@@ -43,14 +43,14 @@ use Rattle.mc_ring.proofs.Lists.{get_map, get_below}
 
 -- a reply that is expected is accepted
 pub accepts : (result : Result (Unit {0}) UnexpectedReply) (conn after : Conn) (reply : Shown) →
-    OnOk result ((told : Told) → IsConn conn told → Expects (all_pending_replies told) told.accepted reply
-    × IsConn after (record told { accepted = told.accepted ++ reply ∷ [] })) →
-    OnErr result ((told : Told) → IsConn conn told → (¬ Expects (all_pending_replies told) told.accepted reply)
-    × IsConn after told) →
-    (told : Told) → IsConn conn told → Expects (all_pending_replies told) told.accepted reply
-    → IsConn after (record told { accepted = told.accepted ++ reply ∷ [] })
-accepts (Ok done) conn after reply ok err told is expects = (ok told is).1
-accepts (Err unexpected_reply) conn after reply ok err told is expects = absurd ((err told is).0 expects)
+    OnOk result ((flow : Flow) → IsConn conn flow → Expects (all_pending_replies flow) flow.accepted reply
+    × IsConn after (record flow { accepted = flow.accepted ++ reply ∷ [] })) →
+    OnErr result ((flow : Flow) → IsConn conn flow → (¬ Expects (all_pending_replies flow) flow.accepted reply)
+    × IsConn after flow) →
+    (flow : Flow) → IsConn conn flow → Expects (all_pending_replies flow) flow.accepted reply
+    → IsConn after (record flow { accepted = flow.accepted ++ reply ∷ [] })
+accepts (Ok done) conn after reply ok err flow is expects = (ok flow is).1
+accepts (Err unexpected_reply) conn after reply ok err flow is expects = absurd ((err flow is).0 expects)
 
 -- The oldest reply that waits for a connection, and the piece that it answers.
 record Answers (sizes : Sizes) (own : List Entry) (link : Link) (shard : ℕ) (reply : Shown) : Type 0 where
@@ -83,8 +83,8 @@ pub receives : (old new : Sim) (c number shard : ℕ) (reply : Shown) (place aft
     → number < length old.connections.items →
     ((sizes : Sizes) (wires : Wires) → AreWired sizes old.rings wires
     → ReceivesReply sizes wires c shard reply new.rings) →
-    ((told : Told) → IsConn place.conn told → Expects (all_pending_replies told) told.accepted reply
-    → IsConn after.conn (record told { accepted = told.accepted ++ reply ∷ [] })) →
+    ((flow : Flow) → IsConn place.conn flow → Expects (all_pending_replies flow) flow.accepted reply
+    → IsConn after.conn (record flow { accepted = flow.accepted ++ reply ∷ [] })) →
     after.current ≡ place.current → new.seats.items ≡ slice_set old.seats.items c after → new.connections.items
     ≡ old.connections.items → new.log.items ≡ old.log.items → StepsByEvent old (Receive c shard) replied.Done new
 unfolding Stands
@@ -125,7 +125,7 @@ receives old new c number shard reply place after finds below receive conn same 
     let serving : IsServing sizes own next after.conn = record {
       lent = s.lent;
       accepted = s.accepted ++ reply ∷ [];
-      is = conn (told_of sizes link s.lent s.accepted) s.is expects;
+      is = conn (flow_of sizes link s.lent s.accepted) s.is expects;
       fits =
           next_fits sizes.shards shard link.taken s.accepted (received_by link own) (received_by next own) a.piece reply
           s.fits asked a.fits comes;

@@ -237,13 +237,13 @@ tells_zero old mid c s n m look no_wait sizes wires was = record {
   now = looked_wired sizes old mid wires c s n m was look;
 }
 
-some_told : (hand : Option (ℕ × Shown)) → is_some (option_map (λ held. held.0) hand) ≡ true → hand ≡ None → ⊥
-some_told None test free = let e : false ≡ true = test in cc
-some_told (Some held) test free = let e : Some held ≡ None = free in cc
+some_flow : (hand : Option (ℕ × Shown)) → is_some (option_map (λ held. held.0) hand) ≡ true → hand ≡ None → ⊥
+some_flow None test free = let e : false ≡ true = test in cc
+some_flow (Some held) test free = let e : Some held ≡ None = free in cc
 
-pub none_told : (hand : Option (ℕ × Shown)) → is_some (option_map (λ held. held.0) hand) ≡ false → hand ≡ None
-none_told None test = refl
-none_told (Some held) test = absurd (let e : true ≡ false = test in cc)
+pub none_flow : (hand : Option (ℕ × Shown)) → is_some (option_map (λ held. held.0) hand) ≡ false → hand ≡ None
+none_flow None test = refl
+none_flow (Some held) test = absurd (let e : true ≡ false = test in cc)
 
 -- If a look finds a piece waiting, it is right to answer by whether the worker's hand is empty.
 pub tells_held : (old mid : Laid) (c s n m : ℕ) (worker_state : WorkerState) (result : Bool) → LooksAt c s old mid n m
@@ -251,14 +251,14 @@ pub tells_held : (old mid : Laid) (c s n m : ℕ) (worker_state : WorkerState) (
     ≡ not result
     → (sizes : Sizes) (wires : Wires) → AreWired sizes old wires → TellsWaiting sizes wires s c result mid
 unfolding AreWired
-tells_held old mid c s n m worker_state result look some read told sizes wires was =
+tells_held old mid c s n m worker_state result look some read flow sizes wires was =
     let now = looked_wired sizes old mid wires c s n m was look in
     let there = worker_state_read old mid c s n m worker_state look read in
     let hand_is = (now.each_worker s worker_state there).hand_is in
     let count = (seen sizes old mid wires c s n m was look).piece_count in
     record {
-      some = λ test. (sym hand_is ∙ none_told worker_state.hand (told ∙ ap not test), omega arith);
-      none = λ test in_it free. absurd (some_told worker_state.hand (told ∙ ap not test) (hand_is ∙ free));
+      some = λ test. (sym hand_is ∙ none_flow worker_state.hand (flow ∙ ap not test), omega arith);
+      none = λ test in_it free. absurd (some_flow worker_state.hand (flow ∙ ap not test) (hand_is ∙ free));
       now = now;
     }
 
@@ -279,18 +279,18 @@ pub free_hand : (mid : Laid) (s : ℕ) (before worker_state : WorkerState) → s
     → worker_state.hand ≡ None
 free_hand mid s before worker_state there there' test =
     ap (λ (worker_state : WorkerState). worker_state.hand) (same_Some worker_state before (sym there' ∙ there))
-    ∙ none_told before.hand test
+    ∙ none_flow before.hand test
 
 -- If the worker's hand is full, running no piece is right.
 pub runs_held : (old mid : Laid) (c s n m : ℕ) (worker_state : WorkerState) → LooksAt c s old mid n m → worker_state
     ≡ get_or mid.workers s worker_state → is_some (option_map (λ held. held.0) worker_state.hand) ≡ true
     → (sizes : Sizes) (wires : Wires) → AreWired sizes old wires → RunsNone sizes wires s c mid
 unfolding AreWired
-runs_held old mid c s n m worker_state look read told sizes wires was =
+runs_held old mid c s n m worker_state look read flow sizes wires was =
     let now = looked_wired sizes old mid wires c s n m was look in
     let there = worker_state_read old mid c s n m worker_state look read in
     let hand_is = (now.each_worker s worker_state there).hand_is in
-    record { none = λ in_it free. absurd (some_told worker_state.hand told (hand_is ∙ free)); now = now }
+    record { none = λ in_it free. absurd (some_flow worker_state.hand flow (hand_is ∙ free)); now = now }
 
 -- If a look finds a piece waiting and the worker's hand is empty, the piece that it runs is the seat's
 -- oldest.

@@ -7,7 +7,7 @@ use Rattle.mc_split.specs.declared.plan.Piece.{Piece}
 use Rattle.mc_ring.specs.Reply.{Shown}
 use Rattle.mc_conn.specs.declared.conn.Conn.{Conn}
 use Rattle.mc_conn.specs.Conn.{IsConn}
-use Rattle.mc_conn.specs.Told.{Told, told_nothing}
+use Rattle.mc_conn.specs.Flow.{Flow, new_flow}
 use Rattle.mc_conn.specs.Due.{channel, pieces}
 use Rattle.mc_conn.specs.Fits.{Fits}
 use Rattle.mc_model.specs.declared.event.StepReply.{StepReply}
@@ -26,8 +26,8 @@ use Rattle.mc_model.specs.Law.{Law}
 use Rattle.mc_sim.specs.Rings.{AreWired, Wires}
 
 -- the history of a connection that received these replies, in this order
-abbrev pub told_of : Sizes → Link → Bool → List Shown → Told
-told_of sizes link lent accepted =
+abbrev pub flow_of : Sizes → Link → Bool → List Shown → Flow
+flow_of sizes link lent accepted =
     record {
       shards = sizes.shards;
       rules = rules_of sizes;
@@ -50,19 +50,19 @@ received_by link own s = take (link.received s) (replies_in (on_shard s own))
 pub record IsServing (sizes : Sizes) (own : List Entry) (link : Link) (conn : Conn) : Type 0 where
   pub lent : Bool
   pub accepted : List Shown
-  pub is : IsConn conn (told_of sizes link lent accepted)
+  pub is : IsConn conn (flow_of sizes link lent accepted)
   pub fits : Fits sizes.shards link.taken accepted (received_by link own)
 
 -- a seat that has had no connection, or has this one
 abbrev pub SeatIs : Sizes → World → ℕ → Conn → Option ℕ → Type 0
 SeatIs sizes w seat conn None =
-    IsUnusedSeat w seat × IsConn conn (told_nothing sizes.shards (rules_of sizes) sizes.window)
+    IsUnusedSeat w seat × IsConn conn (new_flow sizes.shards (rules_of sizes) sizes.window)
 SeatIs sizes w seat conn (Some k) = (link : Link) × IsAt w seat k link × IsServing sizes (of_asker k w.log) link conn
 
 -- A seat that has had no connection.
 abbrev pub IsNewSeat : Sizes → Seat → Type 0
 IsNewSeat sizes seat =
-    (seat.current ≡ None) × IsConn seat.conn (told_nothing sizes.shards (rules_of sizes) sizes.window)
+    (seat.current ≡ None) × IsConn seat.conn (new_flow sizes.shards (rules_of sizes) sizes.window)
 
 -- The history of a connection.
 pub record KeepsLink (sizes : Sizes) (w : World) (k : ℕ) (link : Link) (kept : Connection) : Type 0 where

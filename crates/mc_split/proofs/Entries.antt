@@ -5,7 +5,7 @@ use Rattle.std.proofs.Common.{length-append}
 use Rattle.std.proofs.lemmas.Bool.{false≢true}
 use Rattle.std.proofs.lemmas.List.Concat.{flat_map-append}
 use Rattle.std.specs.List.{AllByRecursion}
-use Rattle.mc_plain.proofs.Lines.{is_zero}
+use Rattle.mc_fast.proofs.Lines.{is_zero}
 use Rattle.mc_split.specs.declared.queue.Entry.{Entry}
 use Rattle.mc_split.specs.declared.run.Run.{Run}
 use Rattle.mc_split.specs.internal.Queue.{IsBegun, IsFilled, begun_left, pieces_in, queued}

@@ -8,7 +8,7 @@ ghost use Rattle.mc_command.specs.declared.rules.Profile.{Profile};
 ghost use Rattle.mc_wire.specs.Key.{key_fault};
 ghost use Rattle.mc_wire.specs.Words.{words_of};
 ghost use Rattle.mc_wire.specs.declared.TheConstants.{MAX_VALUE_LIMIT};
-ghost use Rattle.mc_plain.specs.FastCommand.{get_of, meta_get_of, set_of};
+ghost use Rattle.mc_fast.specs.FastCommand.{get_of, meta_get_of, set_of};
 ghost use Rattle.mc_split.specs.Plan.{pending_reply_of, Queues, SplitsInto};
 
 use crate::classic::{asked_with, plain_line};

@@ -2,7 +2,7 @@
 //! each began and ended.
 use crate::chooser::Chooser;
 use crate::gates::Come;
-use mc_seat::{Transport, TransportError};
+use mc_transport::{Transport, TransportError};
 use mc_wire::SinkError;
 use std::alloc::{AllocError, Global};
 use std::sync::Arc;
@@ -116,18 +116,18 @@ impl Asking {
 
 impl Transport for Asking {
     ghost use Rattle.std.specs.Prelude.{None};
-    ghost use Rattle.mc_wire.specs.Sink.{Untold};
+    ghost use Rattle.mc_wire.specs.Sink.{Unlisted};
     ghost use Rattle.mc_ring.specs.Route.{no_history};
-    ghost use Rattle.mc_seat.specs.Place.{unbegun};
+    ghost use Rattle.mc_transport.specs.Place.{unbegun};
 
     type Warrant = ();
 
     ghost sight = { λ line.
         record {
-          given = Untold;
+          given = Unlisted;
           ended = line.ended;
           reads = None;
-          taken = Untold;
+          taken = Unlisted;
           failed = line.failed;
         } };
 

@@ -1,6 +1,6 @@
 //! Lines that return nothing before the other lines, or pieces at the gate, have arrived.
 use crate::gates::{Come, LOOKS};
-use mc_seat::{Transport, TransportError};
+use mc_transport::{Transport, TransportError};
 use mc_wire::SinkError;
 use std::alloc::{AllocError, Global};
 use std::sync::Arc;

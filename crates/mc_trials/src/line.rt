@@ -1,7 +1,7 @@
 //! A line in memory that returns its input in pieces, takes its output in portions, and may fail.
 ghost use Rattle.std.specs.Prelude.{◌≤◌, None, length, take};
 
-use mc_seat::{Transport, TransportError};
+use mc_transport::{Transport, TransportError};
 use mc_wire::SinkError;
 use std::alloc::{AllocError, Global};
 
@@ -118,7 +118,7 @@ impl Transport for MemoryLine {
     ghost use Rattle.std.specs.Prelude.{take};
     ghost use Rattle.mc_wire.specs.Sink.{Listed};
     ghost use Rattle.mc_ring.specs.Route.{no_history};
-    ghost use Rattle.mc_seat.specs.Place.{unbegun};
+    ghost use Rattle.mc_transport.specs.Place.{unbegun};
 
     type Warrant = ();
 

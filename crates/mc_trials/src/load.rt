@@ -1,6 +1,6 @@
 //! The commands of a load, and their expected replies.
 use crate::line::{Cutting, MemoryLine};
-use mc_doors::ServedLine;
+use mc_net::ServedLine;
 use std::alloc::{AllocError, Global};
 
 /// Number of keys of each line.

@@ -3,7 +3,7 @@ use crate::line::MemoryLine;
 use crate::load::{Loads, wrong_among};
 use crate::server::Server;
 use mc_command::Profile;
-use mc_doors::ServedLine;
+use mc_net::ServedLine;
 use mc_sizes::Sizes;
 use mc_wire::number_u64;
 use std::alloc::Global;

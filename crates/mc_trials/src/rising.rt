@@ -1,7 +1,7 @@
 //! A clock that advances by a second at each call.
 use mc_conn::StatsSource;
 use mc_reply::ServerStats;
-use mc_seat::Clock;
+use mc_transport::Clock;
 use std::alloc::{AllocError, Global};
 use std::boxed::Box;
 use std::sync::atomic::{AtomicU64, Ordering};

@@ -1,14 +1,14 @@
 //! Serving lines in memory, by threads or by a single thread.
 ghost use Rattle.std.specs.Prelude.{◌≡◌, IfOk, length};
 ghost use Rattle.std.specs.List.{AllByRecursion};
-ghost use Rattle.mc_seat.specs.Place.{unbegun};
+ghost use Rattle.mc_transport.specs.Place.{unbegun};
 ghost use Rattle.mc_record.specs.Opening.{IsOpening};
 
 use crate::line::MemoryLine;
-use mc_doors::ServedLine;
+use mc_net::ServedLine;
 use mc_history::Evidence;
 use mc_record::Opening;
-use mc_seat::{Clock, Transport};
+use mc_transport::{Clock, Transport};
 use mc_serve::{PlacedLine, serve_over};
 use mc_server::{FixedClock, open_one, serve_one};
 use mc_sizes::Sizes;

@@ -7,7 +7,7 @@ use crate::rising::Rising;
 use crate::server::{MOMENT, Server};
 use crate::text::split_line;
 use mc_command::Profile;
-use mc_doors::ServedLine;
+use mc_net::ServedLine;
 use mc_server::FixedClock;
 use mc_sizes::Sizes;
 use mc_wire::number_u64;

@@ -6,17 +6,17 @@ use Rattle.std.proofs.lemmas.List.{take-append-le, take-append-drop, at_drop_mor
 use Rattle.std.proofs.lemmas.Grind.{flat_map-append}
 use Rattle.std.specs.List.{flat_map}
 use Rattle.std.proofs.Math.Seq.{take-add, take-append-add}
-use Rattle.mc_wire.specs.Sink.{BreaksOff, Sight, Trace, Untold, Counted, Listed, Writes, broke, took, with_bytes}
+use Rattle.mc_wire.specs.Sink.{BreaksOff, Sight, Trace, Unlisted, Counted, Listed, Writes, broke, took, with_bytes}
 
 -- The history of two pieces written in turn is that of both at once.
 pub with_bytes-append : (trace : Trace) (a b : List ℕ) → with_bytes (with_bytes trace a) b ≡ with_bytes trace (a ++ b)
-with_bytes-append Untold a b = refl
+with_bytes-append Unlisted a b = refl
 with_bytes-append (Counted count) a b = ap (λ n. Counted n) (omega (arith, length-append a b))
 with_bytes-append (Listed before) a b = ap (λ xs. Listed xs) (append_assoc before a b)
 
 -- The history is unchanged if no bytes come.
 pub with_bytes-nil : (trace : Trace) → with_bytes trace [] ≡ trace
-with_bytes-nil Untold = refl
+with_bytes-nil Unlisted = refl
 with_bytes-nil (Counted count) = ap (λ n. Counted n) (omega arith)
 with_bytes-nil (Listed before) = ap (λ xs. Listed xs) (append-nil before)
 

@@ -4,13 +4,13 @@ use Rattle.std.specs.Prelude.{Some, None, Result, Ok, Err}
 
 -- the history of one direction: unknown, the number of bytes, or the bytes
 pub data Trace : Type 0 where
-  Untold : Trace
+  Unlisted : Trace
   Counted : ℕ → Trace
   Listed : List ℕ → Trace
 
 -- the history with these bytes appended
 abbrev pub with_bytes : Trace → List ℕ → Trace
-with_bytes Untold bytes = Untold
+with_bytes Unlisted bytes = Unlisted
 with_bytes (Counted count) bytes = Counted (count + length bytes)
 with_bytes (Listed before) bytes = Listed (before ++ bytes)
 
@@ -33,7 +33,7 @@ pub record Sight : Type 0 where
 
 -- a sink that isn't read from
 abbrev pub sight_out : Trace → Bool → Sight
-sight_out taken failed = record { given = Untold; ended = false; reads = None; taken = taken; failed = failed }
+sight_out taken failed = record { given = Unlisted; ended = false; reads = None; taken = taken; failed = failed }
 
 -- the history after a write of these bytes
 abbrev pub took : List ℕ → Sight → Sight

@@ -1,7 +1,7 @@
 //! An output stream as a sink.
 ghost use Rattle.std.specs.Prelude.{◌≡◌, ◌<◌, ◌≤◌, true, false, IfOk, OnErr, OnOk, length, take};
 ghost use Rattle.std.specs.Io.KnownBytes.{Appends};
-ghost use Rattle.mc_wire.specs.Sink.{Untold, sight_out};
+ghost use Rattle.mc_wire.specs.Sink.{Unlisted, sight_out};
 
 use mc_wire::{Sink, SinkError};
 use std::io::Write;
@@ -27,7 +27,7 @@ impl<W> Output<W> {
 }
 
 impl<W: Write> Sink for Output<W> {
-    ghost sight = { λ output. sight_out Untold output.failed };
+    ghost sight = { λ output. sight_out Unlisted output.failed };
 
     fn write(&mut self, bytes: &[u8]) -> Result<usize, SinkError>
         ensures within { IfOk result (λ count. count ≤ length bytes.now) }

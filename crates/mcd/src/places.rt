@@ -1,6 +1,6 @@
 //! Listens at the addresses and paths of the command line. See docs/DECISIONS.md, O5.
 use crate::refuse;
-use mc_doors::Listener;
+use mc_net::Listener;
 use mc_options::{listening_address, listening_path};
 use std::alloc::{AllocError, Global};
 use std::io;

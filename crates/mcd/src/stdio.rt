@@ -2,15 +2,15 @@
 ghost use Rattle.std.specs.Prelude.{◌≡◌, IfOk};
 ghost use Rattle.mc_sizes.specs.Sizes.{AreWithin};
 ghost use Rattle.mc_record.specs.Opening.{IsOpening};
-ghost use Rattle.mc_seat.specs.Explains.{IsExplained};
-ghost use Rattle.mc_seat.specs.Place.{unbegun};
+ghost use Rattle.mc_transport.specs.Explains.{IsExplained};
+ghost use Rattle.mc_transport.specs.Place.{unbegun};
 ghost use Rattle.mcd.specs.Served.{MayBe};
 
 use crate::refuse;
 use crate::standard::Standard;
 use mc_history::Evidence;
 use mc_record::Opening;
-use mc_seat::{Clock, Served, Transport};
+use mc_transport::{Clock, Served, Transport};
 use mc_server::{FixedClock, LineError, MachineClock, open_one, serve_one};
 use mc_sizes::Sizes;
 use std::alloc::Global;

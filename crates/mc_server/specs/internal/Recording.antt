@@ -11,11 +11,11 @@ use Rattle.mc_conn.specs.declared.conn.Conn.{Conn}
 use Rattle.mc_conn.specs.Conn.{IsConn}
 use Rattle.mc_conn.specs.Due.{due}
 use Rattle.mc_conn.specs.History.{Taken, carried_out}
-use Rattle.mc_conn.specs.Told.{Told}
+use Rattle.mc_conn.specs.Flow.{Flow}
 use Rattle.mc_model.specs.Grows.{Lengthens}
 use Rattle.mc_model.specs.Log.{Entry, on_shard, replies_in}
 use Rattle.mc_model.specs.Sized.{empty_shard}
-use Rattle.mc_seat.specs.Place.{Place}
+use Rattle.mc_transport.specs.Place.{Place}
 use Rattle.mc_worker.specs.Scribe.{Runs}
 use Rattle.mc_history.specs.declared.knowledge.Role.TheVariants.{Seat as of_seat, Shard as of_shard}
 use Rattle.mc_history.specs.Roles.{seat_of}
@@ -78,10 +78,10 @@ pub record CanNote (clerk : Acting) (recorders : List Acting) (conn : Conn) : Ty
   pub sizes : Sizes
   pub place : Place
   pub begin : Sight
-  pub told : Told
+  pub flow : Flow
   pub log : List Entry
-  pub conn_is : IsConn conn told
-  pub recorded : IsHistoryOf sizes place begin told.taken log clerk recorders
+  pub conn_is : IsConn conn flow
+  pub recorded : IsHistoryOf sizes place begin flow.taken log clerk recorders
 
 -- what is known before a piece that was run is recorded: it was the next that was due on its shard, and the answer is
 -- the protocol's

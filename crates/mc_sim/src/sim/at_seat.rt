@@ -1,7 +1,7 @@
 //! Events of a connection: open, bytes in, commands parsed, replies out, end and failure.
 ghost use Rattle.std.specs.Prelude.{◌≡◌, ◌<◌, ◌≤◌, ◌+◌, ◌↔◌, false, IsTrue, length};
 ghost use Rattle.mc_conn.specs.Conn.{IfConn};
-ghost use Rattle.mc_conn.specs.Told.{IsAllTaken, IsOpen, waiting_text};
+ghost use Rattle.mc_conn.specs.Flow.{IsAllTaken, IsOpen, waiting_text};
 ghost use Rattle.mc_sim.specs.Feeding.{FeedsInto, HandsInto, HandsOnto, MayBegin, MayTake, Refreshed, TakesBytes};
 ghost use Rattle.mc_sim.specs.Stands.{StepsByEvent};
 ghost use Rattle.mc_model.specs.Events.Event.{Open, Feed, Take, Hand, End, Break};
@@ -122,7 +122,7 @@ impl Sim {
 
 /// Whether the slot has had no connection, or its connection may be replaced.
 fn may_begin(place: &Seat) -> bool
-    ensures { IfConn place.now.conn (λ told. IsTrue result ↔ MayBegin told place.now.current) }
+    ensures { IfConn place.now.conn (λ flow. IsTrue result ↔ MayBegin flow place.now.current) }
 {
     place.current.is_none() || (place.conn.is_at_rest() && place.conn.is_over())
 }
@@ -154,8 +154,8 @@ fn feed_into(alloc: Global, conn: &mut Conn, fed: &mut Vec<u8>, bytes: &[u8]) ->
 /// Feeds a connection, and returns the number of bytes that it took.
 fn feed_some(alloc: Global, conn: &mut Conn, bytes: &[u8]) -> usize
     ensures within { result ≤ length bytes.now }
-    ensures taken { IfConn conn.old (λ told. IsOpen told →
-        TakesBytes told bytes.now result conn.new) }
+    ensures taken { IfConn conn.old (λ flow. IsOpen flow →
+        TakesBytes flow bytes.now result conn.new) }
 {
     refresh(alloc, conn);
     conn.feed(bytes)
@@ -164,7 +164,7 @@ fn feed_some(alloc: Global, conn: &mut Conn, bytes: &[u8]) -> usize
 /// Requests the next command of a connection whose commands are all parsed. There is none, so it is
 /// ready for more bytes.
 fn refresh(alloc: Global, conn: &mut Conn)
-    ensures { IfConn conn.old (λ told. Refreshed told conn.new) }
+    ensures { IfConn conn.old (λ flow. Refreshed flow conn.new) }
 {
     if !conn.whole() {
         ask(alloc, conn);
@@ -173,7 +173,7 @@ fn refresh(alloc: Global, conn: &mut Conn)
 
 /// Requests the next command of a connection whose commands are all parsed.
 fn ask(alloc: Global, conn: &mut Conn)
-    ensures { IfConn conn.old (λ told. IsAllTaken told → Refreshed told conn.new) }
+    ensures { IfConn conn.old (λ flow. IsAllTaken flow → Refreshed flow conn.new) }
 {
     let _ = conn.take(alloc, 0, &ServerStats::none());
 }
@@ -195,9 +195,9 @@ fn hand_out(alloc: Global, conn: &mut Conn, handed: &mut Vec<u8>) -> StepReply
 
 /// Writes all replies that are due to a page; its bytes become the connection's output.
 fn hand_onto(conn: &mut Conn, page: Page, handed: &mut Vec<u8>) -> StepReply
-    ensures { IfConn conn.old (λ told. told.broken ≡ false → page.failed ≡ false →
-        length page.bytes.items + length (waiting_text told) < page.limit →
-        HandsOnto told page.bytes.items result conn.new handed.new.items) }
+    ensures { IfConn conn.old (λ flow. flow.broken ≡ false → page.failed ≡ false →
+        length page.bytes.items + length (waiting_text flow) < page.limit →
+        HandsOnto flow page.bytes.items result conn.new handed.new.items) }
 {
     let mut page = page;
     let result = conn.hand(&mut page);

@@ -26,9 +26,9 @@ returns-in_err-repeat-clause-stopped c =
 pub returns-then-branch-clause-settled : goal.returns-then-branch-clause-settled
 returns-then-branch-clause-settled c =
     let quiet : c.in_ok-repeat.field-0 ≡ true = c.if-branch.true in
-    let told = subst (λ b. Repeats c.loop.sim (map event_of c.deref.result.now) b c.repeat.new.sim) quiet
+    let flow = subst (λ b. Repeats c.loop.sim (map event_of c.deref.result.now) b c.repeat.new.sim) quiet
     c.in_ok-repeat.ensures.repeated in
-    let repeats = subst (λ es. Repeats c.loop.sim (map event_of es) true c.repeat.new.sim) c.deref.ensures.value told in
+    let repeats = subst (λ es. Repeats c.loop.sim (map event_of es) true c.repeat.new.sim) c.deref.ensures.value flow in
     quiet_settles c.args.sim.now c.loop.sim c.repeat.new.sim (map event_of c.in-Ok.events.items)
     (c.loop.counter * (2 ^ 128 - 1)) c.seats.result c.shards.result c.args.moment
     c.in-Ok.ensures c.seats.ensures c.shards.ensures c.loop.invariant repeats
@@ -36,9 +36,9 @@ returns-then-branch-clause-settled c =
 pub loop-preserved : goal.loop-preserved
 loop-preserved c =
     let more : c.in_ok-repeat.field-0 ≡ false = c.if-branch.false in
-    let told = subst (λ b. Repeats c.loop.sim (map event_of c.deref.result.now) b c.repeat.new.sim) more
+    let flow = subst (λ b. Repeats c.loop.sim (map event_of c.deref.result.now) b c.repeat.new.sim) more
     c.in_ok-repeat.ensures.repeated in
-    let repeats = subst (λ es. Repeats c.loop.sim (map event_of es) false c.repeat.new.sim) c.deref.ensures.value told
+    let repeats = subst (λ es. Repeats c.loop.sim (map event_of es) false c.repeat.new.sim) c.deref.ensures.value flow
     in
     tried_again c.args.sim.now c.loop.sim c.repeat.new.sim (map event_of c.in-Ok.events.items)
     (c.loop.counter * (2 ^ 128 - 1)) ((c.loop.counter + 1) * (2 ^ 128 - 1)) c.loop.invariant repeats (omega arith)

@@ -23,6 +23,6 @@ pub returns-in-Ok-clause-explained : goal.returns-in-Ok-clause-explained
 returns-in-Ok-clause-explained g c =
     let count : c.len-seats.result ≡ length c.args.sources.items = search rules in
     let P : ℕ → Type 0 = λ n. ServesSources (record c.args.sizes { seats = n }) (g.K.Clock.may_answer c.args.clock)
-    (map (λ source. g.D.ConnectionSource.told source) c.args.sources.items)
-    (map (λ source. g.D.ConnectionSource.told source) c.in-Ok.back.0.items) c.in-Ok.back.1 in
+    (map (λ source. g.D.ConnectionSource.flow source) c.args.sources.items)
+    (map (λ source. g.D.ConnectionSource.flow source) c.in-Ok.back.0.items) c.in-Ok.back.1 in
     subst P count c.in-Ok.ensures.explained

@@ -3,7 +3,7 @@ use Rattle.std.proofs.Common.{◌≡◌, ◌∙◌, ap, refl}
 use Rattle.std.specs.List.{flat_map}
 use Rattle.mc_ring.specs.Route.{Name}
 use Rattle.mc_history.specs.Tokens.{Acting}
-use Rattle.mc_threads.specs.Session.{seat_clerk, seat_ends}
+use Rattle.mc_session.specs.Session.{seat_clerk, seat_ends}
 use Rattle.mc_serve.specs.Seats.{seat_at}
 use Rattle.mc_serve.proofs.Zipped.{zips_follow}
 use Rattle.mc_serve.proofs.AtSources.{all_sources, names_are}
@@ -25,11 +25,11 @@ close-evidence-requires g c =
     let back = c.in_ok-back.ensures in
     let names = names_are sizes name may (flat_map (λ part. part.seats.all.items) thread_group)
     (flat_map (λ part. part.seats.all.items) parts) c.args.sources.items
-    (λ one. seat_at (g.D.ConnectionSource.told one.source) (seat_ends one.session) (seat_clerk one.session))
-    (λ one. one.source) (λ source. g.D.ConnectionSource.told source) c.requires.sizes.lines.shards
+    (λ one. seat_at (g.D.ConnectionSource.flow one.source) (seat_ends one.session) (seat_clerk one.session))
+    (λ one. one.source) (λ source. g.D.ConnectionSource.flow source) c.requires.sizes.lines.shards
     (parts_joined thread_group parts c.args.sources.items (λ part. part.seats.all.items)
-    (λ one. seat_at (g.D.ConnectionSource.told one.source) (seat_ends one.session) (seat_clerk one.session))
-    (λ one. one.source) (λ source. g.D.ConnectionSource.told source) sizes name may (λ seat. refl) begun.sources
+    (λ one. seat_at (g.D.ConnectionSource.flow one.source) (seat_ends one.session) (seat_clerk one.session))
+    (λ one. one.source) (λ source. g.D.ConnectionSource.flow source) sizes name may (λ seat. refl) begun.sources
     (rw begun.clerks c.requires.opening.clerks_are) begun.fit
     (zips_follow thread_group parts (λ part. (part.clock ≡ c.args.clock) × (part.sizes ≡ c.args.sizes)) _ _
     (λ x y same did. rw (← same.0, ← same.1) did) begun.same (rw c.begin.ensures at c.in_ok-parts.ensures))
@@ -50,12 +50,12 @@ returns-clause-explained g c =
     ∙ (ap (λ (a : Acting). a.name.sizes) begun.witness ∙ c.requires.opening.sizes_are) in
     all_sources sizes name may (flat_map (λ part. part.seats.all.items) thread_group)
     (flat_map (λ part. part.seats.all.items) parts) c.args.sources.items
-    (λ one. seat_at (g.D.ConnectionSource.told one.source) (seat_ends one.session) (seat_clerk one.session))
-    (λ one. one.source) (λ source. g.D.ConnectionSource.told source) c.requires.sizes.lines.shards
+    (λ one. seat_at (g.D.ConnectionSource.flow one.source) (seat_ends one.session) (seat_clerk one.session))
+    (λ one. one.source) (λ source. g.D.ConnectionSource.flow source) c.requires.sizes.lines.shards
     c.requires.opening.sizes_are
     (parts_joined thread_group parts c.args.sources.items (λ part. part.seats.all.items)
-    (λ one. seat_at (g.D.ConnectionSource.told one.source) (seat_ends one.session) (seat_clerk one.session))
-    (λ one. one.source) (λ source. g.D.ConnectionSource.told source) sizes name may (λ seat. refl) begun.sources
+    (λ one. seat_at (g.D.ConnectionSource.flow one.source) (seat_ends one.session) (seat_clerk one.session))
+    (λ one. one.source) (λ source. g.D.ConnectionSource.flow source) sizes name may (λ seat. refl) begun.sources
     (rw begun.clerks c.requires.opening.clerks_are) begun.fit
     (zips_follow thread_group parts (λ part. (part.clock ≡ c.args.clock) × (part.sizes ≡ c.args.sizes)) _ _
     (λ x y same did. rw (← same.0, ← same.1) did) begun.same (rw c.begin.ensures at c.in_ok-parts.ensures))

@@ -6,11 +6,11 @@ use Rattle.mc_sizes.specs.declared.sizes.Sizes.{Sizes}
 use Rattle.mc_ring.specs.Channel.{Near}
 use Rattle.mc_ring.specs.Ends.{Ends}
 use Rattle.mc_history.specs.Tokens.{Acting}
-use Rattle.mc_threads.proofs.Orders.{all_first, all_more, all_rest, order_all, order_more, zips_first, zips_rest}
+use Rattle.mc_session.proofs.Orders.{all_first, all_more, all_rest, order_all, order_more, zips_first, zips_rest}
 use Rattle.mc_serve.specs.Recorded.{IsClerkOf}
 use Rattle.mc_serve.specs.Seats.{HasSatDown}
-use Rattle.mc_doors.specs.Told.{IsFree}
-use Rattle.mc_threads.specs.Session.{seat_clerk, seat_ends}
+use Rattle.mc_net.specs.Flow.{IsFree}
+use Rattle.mc_session.specs.Session.{seat_clerk, seat_ends}
 use Rattle.mc_serve.proofs.Zipped.{zips_length}
 use Rattle.mc_serve.proofs.serving.sit_down.Goals as goal
 
@@ -33,7 +33,7 @@ loop-ends-preserved g c =
     let clerk = c.in-Some-next-2.ensures.cases in
     let grown = c.in_ok-push.ensures.items in
     let made = c.in_ok-slot.ensures in
-    let free = all_first (λ source. IsFree (g.D.ConnectionSource.told source)) _ c.in-Some-next.source _ source.0
+    let free = all_first (λ source. IsFree (g.D.ConnectionSource.flow source)) _ c.in-Some-next.source _ source.0
     was.free in
     let fits = zips_first (IsClerkOf c.args.sizes) _ _ _ _ c.in-Some.ends c.in-Some-next-2.clerk step.0 clerk.0
     was.clerks
@@ -47,7 +47,7 @@ loop-ends-preserved g c =
           zips_rest (λ source clerk. g.D.ConnectionSource.history source ≡ clerk.name) _ _ _ _ c.in-Some-next.source
           c.in-Some-next-2.clerk source.0 clerk.0 was.history;
       as_many = one_less _ _ _ _ _ _ source.0 step.0 was.as_many;
-      free = all_rest (λ source. IsFree (g.D.ConnectionSource.told source)) _ c.in-Some-next.source _ source.0 was.free;
+      free = all_rest (λ source. IsFree (g.D.ConnectionSource.flow source)) _ c.in-Some-next.source _ source.0 was.free;
       clerks_are =
           order_more (λ one. seat_clerk one.session) c.loop-ends.seats.items _ c.in_ok-slot.slot c.in-Some-next-2.clerk
           _ _ grown made.clerk (rw clerk.0 at was.clerks_are);
@@ -59,7 +59,7 @@ loop-ends-preserved g c =
           order_more (λ one. one.source) c.loop-ends.seats.items _ c.in_ok-slot.slot c.in-Some-next.source _ _ grown
           made.source (rw source.0 at was.sources);
       begin =
-          all_more (λ one. HasSatDown c.args.sizes.shards (rules_of c.args.sizes) (g.D.ConnectionSource.told one.source)
+          all_more (λ one. HasSatDown c.args.sizes.shards (rules_of c.args.sizes) (g.D.ConnectionSource.flow one.source)
           one.session one.slot_state) c.loop-ends.seats.items _ c.in_ok-slot.slot grown was.begin
           (record {
             none = made.free;

@@ -2,9 +2,9 @@
 use Rattle.std.proofs.Common.{◌≡◌, List, [], ◌∷◌, ◌++◌, ◌∙◌, ap, append_assoc, append-nil, sym}
 use Rattle.std.specs.Vec.Iter.{into_iter_items}
 use Rattle.mc_record.specs.Clerk.{IsSeatActor}
-use Rattle.mc_threads.proofs.Orders.{all_join}
-use Rattle.mc_threads.specs.Routes.{AreOnRoutes}
-use Rattle.mc_threads.specs.Session.{seat_clerk, seat_ends}
+use Rattle.mc_session.proofs.Orders.{all_join}
+use Rattle.mc_session.specs.Routes.{AreOnRoutes}
+use Rattle.mc_session.specs.Session.{seat_clerk, seat_ends}
 use Rattle.mc_serve.specs.Recorded.{route_from}
 use Rattle.mc_serve.proofs.Zipped.{empty_when}
 use Rattle.mc_serve.proofs.settling.finish_all.Goals as goal

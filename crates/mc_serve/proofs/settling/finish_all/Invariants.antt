@@ -3,8 +3,8 @@ use Rattle.std.proofs.Common.{◌≡◌, ◌++◌, map}
 use Rattle.std.specs.List.{AllByRecursion}
 use Rattle.std.specs.Vec.Iter.{into_iter_items}
 use Rattle.mc_record.specs.Clerk.{IsSeatActor}
-use Rattle.mc_threads.specs.Routes.{AreOnRoutes}
-use Rattle.mc_threads.specs.Session.{seat_clerk, seat_ends}
+use Rattle.mc_session.specs.Routes.{AreOnRoutes}
+use Rattle.mc_session.specs.Session.{seat_clerk, seat_ends}
 use Rattle.mc_serve.specs.Recorded.{route_from}
 use Rattle.mc_serve.proofs.settling.finish_all.Given as goal
 

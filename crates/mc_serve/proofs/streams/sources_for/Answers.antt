@@ -4,7 +4,7 @@ use Rattle.std.specs.List.{AllByRecursion}
 use Rattle.std.specs.Vec.Iter.{into_iter_items}
 use Rattle.mc_command.specs.Rules.{is_drop_in}
 use Rattle.mc_sizes.specs.Sizes.{rules_of}
-use Rattle.mc_doors.specs.Tcp.{new_source, told_source}
+use Rattle.mc_net.specs.Tcp.{new_source, flow_source}
 use Rattle.mc_serve.proofs.Connections.{note_more}
 use Rattle.mc_serve.proofs.Zipped.{empty_when}
 use Rattle.mc_serve.proofs.streams.sources_for.Goals as goal
@@ -22,12 +22,12 @@ pub loop-one-preserved : goal.loop-one-preserved
 loop-one-preserved g c =
     let was = c.loop-one.invariant in
     record {
-      told =
-          note_more (λ source. told_source (g.A.Arrivals.coming source.arrivals) source.out source.gone.items
+      flow =
+          note_more (λ source. flow_source (g.A.Arrivals.coming source.arrivals) source.out source.gone.items
           source.is_over) (λ one. new_source g.A.Stream.Stream.remaining g.A.Stream.Stream.contents
           (g.A.Arrivals.coming one))
           c.loop-one.sources.items c.push.new.self.items c.new.result c.in-Some.one _ _ _ c.in_ok-push.ensures.items
-          c.new.ensures.told c.in-Some.ensures.steps.0 was.told;
+          c.new.ensures.flow c.in-Some.ensures.steps.0 was.flow;
       opening = c.show-history.ensures.same ∙ was.opening;
       history =
           one_more (λ source. source.history.name ≡ c.args.opening.now.witness.name) c.loop-one.sources.items
@@ -41,12 +41,12 @@ loop-one-preserved g c =
           (c.new.ensures.sniff_protocol ∙ was.sniffs_protocol);
     }
 
-pub returns-clause-told : goal.returns-clause-told
-returns-clause-told g c =
+pub returns-clause-flow : goal.returns-clause-flow
+returns-clause-flow g c =
     let was = c.loop-one.invariant in
     let none : into_iter_items c.loop-one.one-iterator ≡ [] =
     empty_when _ (sym c.loop-one.one-iterator.rest.ok.0 ∙ c.in-None.ensures.steps.0) in
-    sym (append-nil _) ∙ (ap (λ arrivals. map (λ source. told_source (g.A.Arrivals.coming source.arrivals) source.out
+    sym (append-nil _) ∙ (ap (λ arrivals. map (λ source. flow_source (g.A.Arrivals.coming source.arrivals) source.out
     source.gone.items source.is_over) c.loop-one.sources.items
     ++ map (λ one. new_source g.A.Stream.Stream.remaining g.A.Stream.Stream.contents (g.A.Arrivals.coming one))
-    arrivals) (sym none) ∙ was.told)
+    arrivals) (sym none) ∙ was.flow)

@@ -2,7 +2,7 @@
 use Rattle.std.proofs.Common.{sym, ap, subst}
 use Rattle.mc_wire.specs.Sink.{Sight}
 use Rattle.mc_sizes.specs.declared.sizes.Sizes.{Sizes}
-use Rattle.mc_seat.specs.declared.buffered_conn.LineStep.TheVariants.{Did, Waits, Ended}
+use Rattle.mc_transport.specs.declared.buffered_conn.LineStep.TheVariants.{Did, Waits, Ended}
 use Rattle.mc_record.specs.Opening.{IsOpening}
 use Rattle.mc_server.specs.internal.Recording.{IsFresh}
 use Rattle.mc_server.specs.internal.Turns.{Turns}
@@ -48,7 +48,7 @@ note_taken-requires g c =
       sizes = record c.args.sizes { seats = 1 };
       place = g.L.Transport.place c.loop.line;
       begin = g.L.Transport.sight c.args.line.now;
-      told = turns.told;
+      flow = turns.flow;
       log = turns.log;
       conn_is = turns.stopped.serves.conn_is;
       recorded = turns.recorded;
@@ -61,29 +61,29 @@ answer-requires g c =
       sizes = record c.args.sizes { seats = 1 };
       place = g.L.Transport.place c.loop.line;
       begin = g.L.Transport.sight c.args.line.now;
-      told = turns.told;
+      flow = turns.flow;
       log = turns.log;
       conn_is = turns.stopped.serves.conn_is;
       answers = turns.answers;
       recorded =
           c.note_taken.ensures (record c.args.sizes { seats = 1 }) (g.L.Transport.place c.loop.line)
-          (g.L.Transport.sight c.args.line.now) turns.told turns.log turns.stopped.serves.conn_is turns.recorded;
+          (g.L.Transport.sight c.args.line.now) turns.flow turns.log turns.stopped.serves.conn_is turns.recorded;
     }
 
 pub go_on-requires : goal.go_on-requires
 go_on-requires g c =
     let turns = c.loop.invariant.2 in
-    let noted = c.note_taken.ensures _ _ _ turns.told turns.log turns.stopped.serves.conn_is turns.recorded in
+    let noted = c.note_taken.ensures _ _ _ turns.flow turns.log turns.stopped.serves.conn_is turns.recorded in
     let answered = answers_stop _ _ _ _ _ _ c.answer.new.conn _ _ c.note_taken.new.self c.answer.new.history _ _
     c.answer.ensures turns noted in
     record {
       may = record {
-        told = answered.told;
+        flow = answered.flow;
         conn_is = answered.stopped.serves.conn_is;
         unbroken = answered.stopped.serves.unbroken;
         may =
             c.evidence-seen.ensures.may _ (g.L.Transport.sight c.args.line.now) _ _
-            (λ keeps. owes_all _ _ _ _ _ answered.told _ _ answered.log _ _ answered.ran.answers answered.recorded
+            (λ keeps. owes_all _ _ _ _ _ answered.flow _ _ answered.log _ _ answered.ran.answers answered.recorded
             answered.stopped);
       };
     }
@@ -91,7 +91,7 @@ go_on-requires g c =
 pub loop-preserved : goal.loop-preserved
 loop-preserved g c =
     let turns = c.loop.invariant.2 in
-    let noted = c.note_taken.ensures _ _ _ turns.told turns.log turns.stopped.serves.conn_is turns.recorded in
+    let noted = c.note_taken.ensures _ _ _ turns.flow turns.log turns.stopped.serves.conn_is turns.recorded in
     let answered = answers_stop _ _ _ _ _ _ c.answer.new.conn _ _ c.note_taken.new.self c.answer.new.history _ _
     c.answer.ensures turns noted in (
       tt,
@@ -111,7 +111,7 @@ loop-preserved g c =
 pub returns-in-Ended : goal.returns-in-Ended
 returns-in-Ended g c =
     let turns = c.loop.invariant.2 in
-    let noted = c.note_taken.ensures _ _ _ turns.told turns.log turns.stopped.serves.conn_is turns.recorded in
+    let noted = c.note_taken.ensures _ _ _ turns.flow turns.log turns.stopped.serves.conn_is turns.recorded in
     let answered = answers_stop _ _ _ _ _ _ c.answer.new.conn _ _ c.note_taken.new.self c.answer.new.history _ _
     c.answer.ensures turns noted in
     let served = c.in-Ended.served in

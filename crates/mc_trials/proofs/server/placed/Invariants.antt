@@ -2,7 +2,7 @@
 use Rattle.std.proofs.Common.{◌≡◌, ◌+◌, length}
 use Rattle.std.specs.List.{AllByRecursion}
 use Rattle.std.specs.Vec.Iter.{into_iter_items}
-use Rattle.mc_seat.specs.Place.{bytes_seen, place_by, unbegun}
+use Rattle.mc_transport.specs.Place.{bytes_seen, place_by, unbegun}
 use Rattle.mc_history.specs.Places.{place_in}
 use Rattle.mc_trials.proofs.server.placed.Given as goal
 

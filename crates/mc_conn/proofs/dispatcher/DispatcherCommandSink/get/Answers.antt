@@ -1,6 +1,6 @@
 use Rattle.std.proofs.Common.{◌∷◌}
 use Rattle.mc_wire.specs.Words.{words_of}
-use Rattle.mc_plain.specs.FastCommand.{get_of}
+use Rattle.mc_fast.specs.FastCommand.{get_of}
 use Rattle.mc_conn.specs.internal.Dispatcher.{split_or_refused}
 use Rattle.mc_conn.proofs.Dispatching.{plans_split}
 use Rattle.mc_conn.proofs.dispatcher.DispatcherCommandSink.get.Goals as goal

@@ -1,6 +1,6 @@
 use Rattle.std.proofs.Common.{◌∷◌}
 use Rattle.mc_wire.specs.Words.{words_of}
-use Rattle.mc_plain.specs.FastCommand.{get_of}
+use Rattle.mc_fast.specs.FastCommand.{get_of}
 use Rattle.mc_conn.proofs.dispatcher.DispatcherCommandSink.get.Given as goal
 
 abbrev pub ghost-open_split : goal.ghost-open_split

@@ -1,5 +1,5 @@
 use Rattle.std.proofs.Common.{[], ◌∷◌, refl, ap, ◌∙◌}
-use Rattle.mc_plain.specs.FastCommand.{get_of}
+use Rattle.mc_fast.specs.FastCommand.{get_of}
 use Rattle.mc_split.specs.Plan.{pending_reply_of}
 use Rattle.mc_command.specs.declared.command.Command.TheVariants.{Refused}
 use Rattle.mc_command.specs.declared.error.CommandError.TheVariants.{Memory}

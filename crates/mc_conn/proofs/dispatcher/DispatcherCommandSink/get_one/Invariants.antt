@@ -1,5 +1,5 @@
 use Rattle.std.proofs.Common.{[], ◌∷◌}
-use Rattle.mc_plain.specs.FastCommand.{get_of}
+use Rattle.mc_fast.specs.FastCommand.{get_of}
 use Rattle.mc_reply.specs.Server.{no_server}
 use Rattle.mc_conn.specs.History.{carrying_out}
 use Rattle.mc_conn.proofs.dispatcher.DispatcherCommandSink.get_one.Given as goal

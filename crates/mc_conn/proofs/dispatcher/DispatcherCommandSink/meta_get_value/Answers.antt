@@ -1,6 +1,6 @@
 use Rattle.std.proofs.Common.{ap, refl, ◌∙◌}
 use Rattle.mc_reply.specs.declared.pending_reply.PendingReply.{PendingReply}
-use Rattle.mc_plain.specs.FastCommand.{meta_get_of}
+use Rattle.mc_fast.specs.FastCommand.{meta_get_of}
 use Rattle.mc_command.specs.declared.command.Command.TheVariants.{Refused}
 use Rattle.mc_command.specs.declared.error.CommandError.TheVariants.{Memory}
 use Rattle.mc_conn.specs.internal.Dispatcher.{refusal_of}

@@ -1,4 +1,4 @@
-use Rattle.mc_plain.specs.FastCommand.{meta_get_of}
+use Rattle.mc_fast.specs.FastCommand.{meta_get_of}
 use Rattle.mc_reply.specs.Server.{no_server}
 use Rattle.mc_conn.specs.History.{carrying_out}
 use Rattle.mc_conn.proofs.dispatcher.DispatcherCommandSink.meta_get_value.Given as goal

@@ -2,7 +2,7 @@ use Rattle.std.proofs.Common.{refl, rules, ap, ◌∙◌}
 use Rattle.std.proofs.lemmas.Int.{to_z-of_z}
 use mir.Val.{SFits}
 use mir.Syntax.{w64}
-use Rattle.mc_plain.specs.FastCommand.{set_of}
+use Rattle.mc_fast.specs.FastCommand.{set_of}
 use Rattle.mc_reply.specs.declared.pending_reply.PendingReply.{PendingReply}
 use Rattle.mc_command.specs.declared.command.Command.TheVariants.{Refused}
 use Rattle.mc_command.specs.declared.error.CommandError.TheVariants.{Memory}

@@ -1,4 +1,4 @@
-use Rattle.mc_plain.specs.FastCommand.{set_of}
+use Rattle.mc_fast.specs.FastCommand.{set_of}
 use Rattle.mc_reply.specs.Server.{no_server}
 use Rattle.mc_conn.specs.History.{carrying_out}
 use Rattle.mc_conn.proofs.dispatcher.DispatcherCommandSink.set.Given as goal

@@ -1,6 +1,6 @@
 -- The shards are those whose totals were taken one after another.
 use Rattle.std.proofs.Common.{string_bytes, subst, sym}
-use Rattle.mc_watch.specs.Counts.{EachIsShown, shards_of}
+use Rattle.mc_telemetry.specs.Counts.{EachIsShown, shards_of}
 use Rattle.mc_metrics.proofs.pages.Pages.all_metrics.Goals as goal
 
 pub returns : goal.returns

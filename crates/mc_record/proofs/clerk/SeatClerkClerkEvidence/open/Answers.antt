@@ -1,6 +1,6 @@
 -- A connection was opened, and the actor has shown it.
 use Rattle.std.proofs.Common.{ℕ, true, sym, ap, ◌∙◌}
-use Rattle.mc_seat.specs.Place.{Place, bytes_seen}
+use Rattle.mc_transport.specs.Place.{Place, bytes_seen}
 use Rattle.mc_history.specs.Tokens.{Acting}
 use Rattle.mc_record.specs.Clerk.{place_of}
 use Rattle.mc_record.proofs.Clerking.{opens, opens_shown}

@@ -10,7 +10,7 @@ returns-then-begun g c shards rules sat stands =
     c.args.self.now.slot_state c.in-Out.line c.in-Out.begun c.in-Out.is c.requires in
     let out = stands_out shards rules may_answer (λ line. g.D.Transport.Transport.place line)
     (λ line. g.D.Transport.Transport.sight line)
-    sat (g.D.ConnectionSource.told c.args.self.now.source) c.args.self.now.session c.args.self.now.slot_state
+    sat (g.D.ConnectionSource.flow c.args.self.now.source) c.args.self.now.session c.args.self.now.slot_state
     c.in-Out.line c.in-Out.line c.in-Out.begun c.in-Out.is refl refl stands in
     rw c.is_ok.ensures.value
     (begins_where shards rules may_answer (λ line. g.D.Transport.Transport.place line)

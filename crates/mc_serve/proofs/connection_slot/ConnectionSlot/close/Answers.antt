@@ -1,7 +1,7 @@
 -- One channel more, or none, or all were closed.
 use Rattle.std.proofs.Common.{◌≤◌, length, arith}
-use Rattle.mc_threads.proofs.Ending.{ends_all, ends_next, ends_still}
-use Rattle.mc_threads.specs.Session.{seat_ends}
+use Rattle.mc_session.proofs.Ending.{ends_all, ends_next, ends_still}
+use Rattle.mc_session.specs.Session.{seat_ends}
 use Rattle.mc_serve.proofs.connection_slot.ConnectionSlot.close.Goals as goal
 
 pub returns-then-count-shards-clause-closes : goal.returns-then-count-shards-clause-closes

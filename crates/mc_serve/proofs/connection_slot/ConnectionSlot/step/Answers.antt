@@ -8,8 +8,8 @@ pub returns-in-Free : goal.returns-in-Free
 returns-in-Free g c shards rules sat stands =
     rw c.accept.ensures.session
     (accepted shards rules (g.K.Clock.may_answer c.args.clock.now) (λ line. g.D.Transport.Transport.place line)
-    (λ line. g.D.Transport.Transport.sight line) sat (g.D.ConnectionSource.told c.args.self.now.source)
-    (g.D.ConnectionSource.told c.accept.new.self.source) c.args.self.now.session c.accept.new.self.slot_state
+    (λ line. g.D.Transport.Transport.sight line) sat (g.D.ConnectionSource.flow c.args.self.now.source)
+    (g.D.ConnectionSource.flow c.accept.new.self.source) c.args.self.now.session c.accept.new.self.slot_state
     (λ past. past tt) c.accept.ensures.accepts (rw c.in-Free.is at stands))
 
 pub returns-in-Closing : goal.returns-in-Closing
@@ -17,7 +17,7 @@ returns-in-Closing g c shards rules sat stands =
     rw c.close.ensures.source
     (closes_on shards rules (g.K.Clock.may_answer c.args.clock.now) (λ line. g.D.Transport.Transport.place line)
     (λ line. g.D.Transport.Transport.sight line) sat c.in-Closing.count
-    (g.D.ConnectionSource.told c.args.self.now.source) c.args.self.now.session c.close.new.self.session
+    (g.D.ConnectionSource.flow c.args.self.now.source) c.args.self.now.session c.close.new.self.session
     c.close.new.self.slot_state c.close.ensures.closes c.close.ensures.recorded (rw c.in-Closing.is at stands))
 
 pub returns-then-not-begun : goal.returns-then-not-begun
@@ -35,7 +35,7 @@ returns-then-not-begun g c shards rules sat stands =
     ] in
     let out = stands_out shards rules may_answer (λ line. g.D.Transport.Transport.place line)
     (λ line. g.D.Transport.Transport.sight line)
-    sat (g.D.ConnectionSource.told c.args.self.now.source) c.args.self.now.session c.args.self.now.slot_state
+    sat (g.D.ConnectionSource.flow c.args.self.now.source) c.args.self.now.session c.args.self.now.slot_state
     c.in-Out.line c.match-ready.line c.in-Out.begun c.in-Out.is place line stands in
     c.begin.ensures shards rules sat out
 
@@ -54,12 +54,12 @@ returns-in-Ended g c shards rules sat stands =
     ] in
     let out = stands_out shards rules may_answer (λ line. g.D.Transport.Transport.place line)
     (λ line. g.D.Transport.Transport.sight line)
-    sat (g.D.ConnectionSource.told c.args.self.now.source) c.args.self.now.session c.args.self.now.slot_state
+    sat (g.D.ConnectionSource.flow c.args.self.now.source) c.args.self.now.session c.args.self.now.slot_state
     c.in-Out.line c.match-ready.line c.in-Out.begun c.in-Out.is place line stands in
     rw c.end.ensures.free
     (serves_another shards rules may_answer sat _ _ _ _ _ _ _ _ c.end.ensures.renewed.0 c.args.self.now.session
     c.step.new.self c.end.new.self.session tt (λ begin before. c.in-Ended.ensures.says shards rules begin before)
-    c.end.ensures.told c.end.ensures.renewed.1 c.step.ensures.line c.end.ensures.renewed.1.history
+    c.end.ensures.flow c.end.ensures.renewed.1 c.step.ensures.line c.end.ensures.renewed.1.history
     (rw c.if-not-begun.false at out))
 
 pub returns-in-Did : goal.returns-in-Did
@@ -77,7 +77,7 @@ returns-in-Did g c shards rules sat stands =
     ] in
     let out = stands_out shards rules may_answer (λ line. g.D.Transport.Transport.place line)
     (λ line. g.D.Transport.Transport.sight line)
-    sat (g.D.ConnectionSource.told c.args.self.now.source) c.args.self.now.session c.args.self.now.slot_state
+    sat (g.D.ConnectionSource.flow c.args.self.now.source) c.args.self.now.session c.args.self.now.slot_state
     c.in-Out.line c.match-ready.line c.in-Out.begun c.in-Out.is place line stands in
     rw c.if-not-begun.false
     (serves_on shards rules may_answer sat _ _ _ _ _ c.args.self.now.session c.step.new.self
@@ -99,7 +99,7 @@ returns-in-Waits g c shards rules sat stands =
     ] in
     let out = stands_out shards rules may_answer (λ line. g.D.Transport.Transport.place line)
     (λ line. g.D.Transport.Transport.sight line)
-    sat (g.D.ConnectionSource.told c.args.self.now.source) c.args.self.now.session c.args.self.now.slot_state
+    sat (g.D.ConnectionSource.flow c.args.self.now.source) c.args.self.now.session c.args.self.now.slot_state
     c.in-Out.line c.match-ready.line c.in-Out.begun c.in-Out.is place line stands in
     rw c.if-not-begun.false
     (serves_on shards rules may_answer sat _ _ _ _ _ c.args.self.now.session c.step.new.self

@@ -8,5 +8,5 @@ use Rattle.mc_serve.proofs.reactor.Reactor.new.Goals as goal
 pub returns-clause-ready : goal.returns-clause-ready
 returns-clause-ready g c =
     all_renamed c.args.seats.items c.new.result.all.items c.args.sizes c.args.sizes
-    (λ sizes one. HasSatDown sizes.shards (rules_of sizes) (g.D.ConnectionSource.told one.source) one.session
+    (λ sizes one. HasSatDown sizes.shards (rules_of sizes) (g.D.ConnectionSource.flow one.source) one.session
     one.slot_state) refl (ap (λ all. all.items) c.new.ensures) c.requires

@@ -1,7 +1,7 @@
 -- Each turn steps the slots, before the workers and after them.
 use Rattle.std.proofs.Common.{map, refl}
 use Rattle.mc_sizes.specs.Sizes.{rules_of}
-use Rattle.mc_threads.specs.Session.{seat_clerk, seat_ends}
+use Rattle.mc_session.specs.Session.{seat_clerk, seat_ends}
 use Rattle.mc_serve.specs.Seats.{seat_at}
 use Rattle.mc_serve.proofs.Parts.{seats_begin, seats_over}
 use Rattle.mc_serve.proofs.reactor.Reactor.run.Goals as goal
@@ -15,7 +15,7 @@ loop-init g c =
       seats =
           seats_begin c.args.self.now.seats.all.items (λ line. g.D.Transport.Transport.place line)
           (λ line. g.D.Transport.Transport.sight line)
-          (λ one. g.D.ConnectionSource.told one.source) (λ one. one.session) (λ one. one.slot_state) sizes.shards
+          (λ one. g.D.ConnectionSource.flow one.source) (λ one. one.session) (λ one. one.slot_state) sizes.shards
           (rules_of sizes) (g.K.Clock.may_answer c.args.self.now.clock) c.requires;
     }
 
@@ -24,7 +24,7 @@ step-stepped-requires g c =
     let sizes = c.args.self.now.sizes in (
       sizes.shards,
       rules_of sizes,
-      map (λ one. seat_at (g.D.ConnectionSource.told one.source) (seat_ends one.session) (seat_clerk one.session))
+      map (λ one. seat_at (g.D.ConnectionSource.flow one.source) (seat_ends one.session) (seat_clerk one.session))
           c.args.self.now.seats.all.items,
       c.loop.invariant.seats,
     )
@@ -32,7 +32,7 @@ step-stepped-requires g c =
 pub step-answered-requires : goal.step-answered-requires
 step-answered-requires g c =
     let sizes = c.args.self.now.sizes in
-    let sats = map (λ one. seat_at (g.D.ConnectionSource.told one.source) (seat_ends one.session)
+    let sats = map (λ one. seat_at (g.D.ConnectionSource.flow one.source) (seat_ends one.session)
     (seat_clerk one.session))
     c.args.self.now.seats.all.items in (
       sizes.shards,
@@ -44,7 +44,7 @@ step-answered-requires g c =
 pub loop-preserved-then-answered : goal.loop-preserved-then-answered
 loop-preserved-then-answered g c =
     let sizes = c.args.self.now.sizes in
-    let sats = map (λ one. seat_at (g.D.ConnectionSource.told one.source) (seat_ends one.session)
+    let sats = map (λ one. seat_at (g.D.ConnectionSource.flow one.source) (seat_ends one.session)
     (seat_clerk one.session))
     c.args.self.now.seats.all.items in
     record {
@@ -58,7 +58,7 @@ loop-preserved-then-answered g c =
 pub loop-preserved : goal.loop-preserved
 loop-preserved g c =
     let sizes = c.args.self.now.sizes in
-    let sats = map (λ one. seat_at (g.D.ConnectionSource.told one.source) (seat_ends one.session)
+    let sats = map (λ one. seat_at (g.D.ConnectionSource.flow one.source) (seat_ends one.session)
     (seat_clerk one.session))
     c.args.self.now.seats.all.items in
     record {
@@ -72,13 +72,13 @@ loop-preserved g c =
 pub returns-then-is_done : goal.returns-then-is_done
 returns-then-is_done g c =
     let sizes = c.args.self.now.sizes in
-    let sats = map (λ one. seat_at (g.D.ConnectionSource.told one.source) (seat_ends one.session)
+    let sats = map (λ one. seat_at (g.D.ConnectionSource.flow one.source) (seat_ends one.session)
     (seat_clerk one.session))
     c.args.self.now.seats.all.items in
     rw (← c.loop.invariant.clock)
     (seats_over c.step-answered.new.self.all.items sats (λ line. g.D.Transport.Transport.place line)
     (λ line. g.D.Transport.Transport.sight line)
-    (λ one. g.D.ConnectionSource.told one.source) (λ one. one.session) (λ one. one.slot_state) sizes.shards
+    (λ one. g.D.ConnectionSource.flow one.source) (λ one. one.session) (λ one. one.slot_state) sizes.shards
     (rules_of sizes) (g.K.Clock.may_answer c.loop.self.clock)
     (c.if-is_done.ensures refl)
     (c.step-answered.ensures sizes.shards (rules_of sizes) sats

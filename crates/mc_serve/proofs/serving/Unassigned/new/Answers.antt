@@ -1,7 +1,7 @@
 -- The slots and the workers are over new channels.
 use Rattle.std.proofs.Common.{◌≡◌, ◌∙◌, ap, length}
 use Rattle.mc_model.proofs.Lists.{all_from}
-use Rattle.mc_threads.proofs.Fresh.{all_fresh}
+use Rattle.mc_session.proofs.Fresh.{all_fresh}
 use Rattle.mc_serve.specs.Recorded.{IsRecorderOf}
 use Rattle.mc_serve.proofs.Recording.{histories_fit}
 use Rattle.mc_serve.proofs.Zipped.{zips_each}

@@ -16,7 +16,7 @@ step-requires g c =
     let here = slice_get_read items (length items) c.args.place old refl below c.index_mut-slot.ensures.value in
     seat_steps items c.requires.2 c.args.place old old (λ line. g.D.Transport.Transport.place line)
     (λ line. g.D.Transport.Transport.sight line)
-    (λ one. g.D.ConnectionSource.told one.source) (λ one. one.session) (λ one. one.slot_state) c.requires.0 c.requires.1
+    (λ one. g.D.ConnectionSource.flow one.source) (λ one. one.session) (λ one. one.slot_state) c.requires.0 c.requires.1
     (g.K.Clock.may_answer c.args.clock.now) here (λ sat stands. stands) c.requires.3
 
 pub step-requires-in-Did : goal.step-requires-in-Did
@@ -27,7 +27,7 @@ step-requires-in-Did g c =
     let here = slice_get_read items (length items) c.args.place old refl below c.index_mut-slot.ensures.value in
     seat_steps items c.requires.2 c.args.place old c.step.new.self (λ line. g.D.Transport.Transport.place line)
     (λ line. g.D.Transport.Transport.sight line)
-    (λ one. g.D.ConnectionSource.told one.source) (λ one. one.session) (λ one. one.slot_state) c.requires.0 c.requires.1
+    (λ one. g.D.ConnectionSource.flow one.source) (λ one. one.session) (λ one. one.slot_state) c.requires.0 c.requires.1
     (g.K.Clock.may_answer c.args.clock.now) here (c.step.ensures c.requires.0 c.requires.1) c.requires.3
 
 pub returns-in-Did : goal.returns-in-Did

@@ -1,6 +1,6 @@
 use Rattle.std.proofs.Common.{◌≡◌, ◌<◌, ◌++◌, ◌∷◌, [], length, rules, arith, refl, sym, ap, subst, true, false, Some}
 use Rattle.mc_conn.specs.Conn.{IsConn}
-use Rattle.mc_conn.specs.Told.{Told}
+use Rattle.mc_conn.specs.Flow.{Flow}
 use Rattle.mc_sim.specs.declared.sim.Seat.{Seat}
 use Rattle.mc_sim.specs.Feeding.{MayBegin}
 use Rattle.mc_sim.proofs.AtSeat.{get_index, same_index}
@@ -18,7 +18,7 @@ returns-then-not-may_begin c =
     let count : c.len.result ≡ length c.args.self.now.seats.items = search rules in
     let below : c.args.seat < length c.args.self.now.seats.items = omega (arith, count, c.if-len-seat.false) in
     opens_not _ _ c.args.seat c.index.result.now (get_index _ _ _ below c.index.ensures)
-    (λ told is may. absurd (let e : true ≡ false = sym ((c.if-not-may_begin.ensures told is).1 may) in cc))
+    (λ flow is may. absurd (let e : true ≡ false = sym ((c.if-not-may_begin.ensures flow is).1 may) in cc))
     (record { seats = refl; connections = refl; log = refl; rings = refl })
 
 pub returns-then-is_err : goal.returns-then-is_err
@@ -27,7 +27,7 @@ returns-then-is_err c =
     let below : c.args.seat < length c.args.self.now.seats.items = omega (arith, count, c.if-len-seat.false) in
     let same : c.push.new.self.items ≡ c.args.self.now.connections.items = search rules in
     opens_unkept _ _ c.args.seat c.index.result.now (get_index _ _ _ below c.index.ensures)
-    (λ told is. (c.may_begin.ensures told is).0 c.if-not-may_begin.false)
+    (λ flow is. (c.may_begin.ensures flow is).0 c.if-not-may_begin.false)
     (record { seats = refl; connections = same; log = refl; rings = refl })
 
 pub returns : goal.returns
@@ -40,10 +40,10 @@ returns c =
     search rules in
     let same : c.index.result.now ≡ c.index_mut-place.result.now =
     same_index _ _ _ _ below c.index.ensures c.index_mut-place.ensures.value in
-    let may : (told : Told) → IsConn c.index_mut-place.result.now.conn told
-    → MayBegin told c.index_mut-place.result.now.current = λ told is.
-    subst (λ (x : Seat). MayBegin told x.current) same
-    ((c.may_begin.ensures told (subst (λ (x : Seat). IsConn x.conn told) (sym same) is)).0 c.if-not-may_begin.false) in
+    let may : (flow : Flow) → IsConn c.index_mut-place.result.now.conn flow
+    → MayBegin flow c.index_mut-place.result.now.current = λ flow is.
+    subst (λ (x : Seat). MayBegin flow x.current) same
+    ((c.may_begin.ensures flow (subst (λ (x : Seat). IsConn x.conn flow) (sym same) is)).0 c.if-not-may_begin.false) in
     let here = get_index _ _ _ below c.index_mut-place.ensures.value in
     opens _ _ c.args.seat c.index_mut-place.result.now
     (record { conn = c.renew.new.self; current = Some c.len-number.result })

@@ -31,6 +31,6 @@ returns c =
     (finds_at c.args.self.now c.args.seat c.in-Some.number _ c.in-Some.ensures.seat c.index_mut-place.ensures.value
     c.in-Some.ensures.current)
     (get_index _ _ _ c.in-Some.ensures.kept c.index_mut-kept.ensures.value) some
-    (λ told is. c.passes.ensures.whole told (subst (λ (x : Seat). IsConn x.conn told) same is))
-    (λ told is. c.passes.ensures.broken told (subst (λ (x : Seat). IsConn x.conn told) same is))
+    (λ flow is. c.passes.ensures.whole flow (subst (λ (x : Seat). IsConn x.conn flow) same is))
+    (λ flow is. c.passes.ensures.broken flow (subst (λ (x : Seat). IsConn x.conn flow) same is))
     c.hand_out.ensures refl (record { seats = refl; log = refl; rings = refl }) refl refl refl refl refl

@@ -1,5 +1,5 @@
 use Rattle.std.proofs.Common.{deque_len, sym, ◌∙◌, arith}
-use Rattle.mc_plain.proofs.Lines.{is_zero}
+use Rattle.mc_fast.proofs.Lines.{is_zero}
 use Rattle.mc_split.proofs.Entries.{some_is}
 use Rattle.mc_split.proofs.Parts.{fetches_none, fetches_some}
 use Rattle.mc_split.proofs.run.Fetches.is_over.Goals as goal

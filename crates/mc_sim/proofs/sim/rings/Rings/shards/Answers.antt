@@ -11,6 +11,6 @@ returns c =
       places = c.self.inside.places;
     } in
     let long : vec_len c.self.inside.workers ≡ length c.self.inside.workers.items = search rules in
-    let told = c.len.ensures in
+    let flow = c.len.ensures in
     rw (← c.self.view_is) (λ sizes wires was. let counted = shards_counted sizes mid wires was in
-    omega (arith, long, told, counted))
+    omega (arith, long, flow, counted))

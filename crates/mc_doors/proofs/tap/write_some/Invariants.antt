@@ -1,8 +1,0 @@
--- A write that was interrupted gave nothing to the stream.
-use Rattle.std.specs.Io.KnownBytes.{Keeps}
-use Rattle.mc_doors.proofs.tap.write_some.Given as goal
-
-abbrev pub invariant-loop : goal.invariant-loop
-invariant-loop g l =
-    Keeps (g.S.Stream.contents l.initial.stream) (g.S.Stream.contents l.stream)
-    × Keeps (g.S.Stream.remaining l.initial.stream) (g.S.Stream.remaining l.stream)

@@ -1,7 +1,0 @@
-pub mod Told
-pub mod One
-pub mod Foreign
-pub mod Beginning
-pub mod Tcp
-pub mod Arrivals
-pub mod Known
