@@ -13,14 +13,14 @@ ghost use Rattle.mc_serve.specs.Recorded.{IsClerkOf, route_from};
 ghost use Rattle.mc_serve.specs.Seats.{Accepts, CanBegin, CanStep, ClosesOn, HasRecorded, IsOut, IsReturned, Renews, SeatAt, SeatStands};
 ghost use Rattle.mc_serve.specs.declared.connection_slot.SlotState.TheVariants as slot_state;
 
-use mc_net::{Accept, ConnectionSource};
 use mc_history::Evidence;
+use mc_net::{Accept, ConnectionSource};
+use mc_poll::Wakers;
 use mc_record::SeatClerk;
 use mc_ring::SeatEnds;
-use mc_transport::{BufferPool, Clock, LineStep, Ready, Served, Transport};
-use mc_sizes::Sizes;
 use mc_session::Session;
-use mc_poll::Wakers;
+use mc_sizes::Sizes;
+use mc_transport::{BufferPool, Clock, LineStep, Ready, Served, Transport};
 use std::alloc::{AllocError, Global};
 use std::mem;
 

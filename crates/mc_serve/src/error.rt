@@ -1,6 +1,6 @@
 //! The errors of a server.
-use mc_ring::RingError;
 use mc_poll::ThreadGroupError;
+use mc_ring::RingError;
 use std::alloc::AllocError;
 use thiserror::Error;
 

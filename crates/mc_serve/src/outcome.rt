@@ -1,7 +1,7 @@
 //! The report on all connections.
 use http_server::Log;
-use mc_net::{ClosedConnection, Stream};
 use mc_history::Evidence;
+use mc_net::{ClosedConnection, Stream};
 
 /// The connections that were served and have ended, by slot.
 #[derive(Drop)]

@@ -11,12 +11,12 @@ ghost use Rattle.mc_net.specs.One.{IsBack, flow_of, waits};
 
 use crate::error::ServeError;
 use crate::serving::serve;
-use mc_net::{ServedLine, SingleSource};
 use mc_history::Evidence;
-use mc_record::Opening;
-use mc_transport::{Clock, Transport};
-use mc_sizes::Sizes;
+use mc_net::{ServedLine, SingleSource};
 use mc_poll::{Poller, SpinPolicy};
+use mc_record::Opening;
+use mc_sizes::Sizes;
+use mc_transport::{Clock, Transport};
 use mc_worker::Gate;
 use std::alloc::{AllocError, Global};
 use std::random::RandomSource;

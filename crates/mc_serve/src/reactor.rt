@@ -9,13 +9,13 @@ ghost use Rattle.mc_serve.specs.declared.connection_slot.SlotState.TheVariants a
 
 use crate::connection_slot::ConnectionSlot;
 use crate::slot_table::SlotTable;
-use mc_net::ConnectionSource;
 use mc_history::Evidence;
-use mc_record::Recorder;
-use mc_transport::{BufferPool, Clock, Transport};
-use mc_sizes::Sizes;
-use mc_session::Working;
+use mc_net::ConnectionSource;
 use mc_poll::{Poller, Task};
+use mc_record::Recorder;
+use mc_session::Working;
+use mc_sizes::Sizes;
+use mc_transport::{BufferPool, Clock, Transport};
 use mc_worker::Gate;
 use std::alloc::{AllocError, Global};
 use std::sync::Wait;

@@ -8,11 +8,11 @@ ghost use Rattle.mc_serve.specs.Recorded.{route_from};
 
 use crate::connection_slot::ConnectionSlot;
 use crate::reactor::Reactor;
-use mc_net::ConnectionSource;
 use mc_history::Evidence;
+use mc_net::ConnectionSource;
+use mc_poll::ThreadGroupError;
 use mc_record::SeatClerk;
 use mc_transport::{Clock, Transport};
-use mc_poll::ThreadGroupError;
 use mc_worker::Gate;
 use std::alloc::{AllocError, Global};
 

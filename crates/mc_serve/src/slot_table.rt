@@ -7,10 +7,10 @@ ghost use Rattle.mc_serve.specs.Seats.{SeatAt, SeatStands};
 ghost use Rattle.mc_serve.specs.declared.connection_slot.SlotState.TheVariants as slot_state;
 
 use crate::connection_slot::{ConnectionSlot, Stepped};
-use mc_net::ConnectionSource;
 use mc_history::Evidence;
-use mc_transport::{BufferPool, Clock, Ready, Transport};
+use mc_net::ConnectionSource;
 use mc_poll::{Poller, Readiness, SetBits};
+use mc_transport::{BufferPool, Clock, Ready, Transport};
 
 /// Number of slots of a word, each with a bit.
 const WORD: usize = 64;

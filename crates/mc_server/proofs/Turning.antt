@@ -14,7 +14,8 @@ use Rattle.mc_model.specs.Log.{Entry}
 use Rattle.mc_transport.specs.declared.buffered_conn.BufferedConn.{BufferedConn}
 use Rattle.mc_transport.specs.declared.buffered_conn.LineStep.{LineStep}
 use Rattle.mc_transport.specs.Explains.{IsExplained}
-use Rattle.mc_transport.specs.BufferedConn.{GoOnSays, HasStopped, IsNew, ServesOn, ServiceSays, TakesFor, WasServed, flow_on}
+use Rattle.mc_transport.specs.BufferedConn.{GoOnSays, HasStopped, IsNew, ServesOn, ServiceSays, TakesFor, WasServed}
+use Rattle.mc_transport.specs.BufferedConn.{flow_on}
 use Rattle.mc_transport.proofs.More.{out_more, with_more}
 use Rattle.mc_transport.proofs.Serving.{serving_first, stops_carried}
 use Rattle.mc_transport.specs.Place.{Place}

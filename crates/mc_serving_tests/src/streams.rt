@@ -2,10 +2,10 @@
 use crate::asserting::{equal, holds};
 use crate::sizes::SMALL;
 use mc_net::{Stream, TcpConnection};
-use mc_transport::{Ready, Transport, WriteBuffer};
 use mc_server::{FixedClock, open_one, serve_one};
 use mc_sizes::Sizes;
 use mc_telemetry::Meter;
+use mc_transport::{Ready, Transport, WriteBuffer};
 use mc_wire::{Sink, write_all};
 use std::alloc::Global;
 use std::io;

@@ -12,10 +12,10 @@ use mc_item::{Answer, Expiry, Item, Kind, Op, PackedExpiry, Value, expiry};
 use mc_reader::{Next, Reader};
 use mc_reply::{ServerStats, Ticket};
 use mc_ring::{Reply, Request, SeatEnds, ShardEnds, channels};
-use mc_transport::Transport;
 use mc_sizes::Sizes;
 use mc_split::Piece;
 use mc_store::Shard;
+use mc_transport::Transport;
 use mc_wire::{
     DEFAULT_LINE_LIMIT, DEFAULT_VALUE_LIMIT, Key, WireError, key_fault, number_i64, number_u64,
     words,

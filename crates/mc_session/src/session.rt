@@ -7,10 +7,10 @@ ghost use Rattle.mc_transport.specs.Place.{unbegun};
 ghost use Rattle.mc_session.specs.Routes.{AreOnRoutes, IsUpToDate};
 
 use crate::shard_link::ShardLink;
-use mc_ring::SeatEnds;
-use mc_transport::{BufferPool, BufferedConn, Clerk, Clock, LineStep, Transport, Warrant};
-use mc_sizes::Sizes;
 use mc_poll::Wakers;
+use mc_ring::SeatEnds;
+use mc_sizes::Sizes;
+use mc_transport::{BufferPool, BufferedConn, Clerk, Clock, LineStep, Transport, Warrant};
 use std::alloc::{AllocError, Global};
 
 /// A seat that serves lines one after another. Until the first line comes it has only its ends of

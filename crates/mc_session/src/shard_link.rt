@@ -9,9 +9,9 @@ ghost use Rattle.mc_session.specs.Routes.{AreOnRoutes};
 ghost use Rattle.mc_session.specs.Serving.{AreCalled};
 
 use mc_conn::Conn;
+use mc_poll::{Doorbell, Wakers};
 use mc_ring::{Request, SeatEnds};
 use mc_transport::{BufferPool, BufferedConn, Clerk, Clock, LineStep, Transport, Warrant};
-use mc_poll::{Doorbell, Wakers};
 use std::alloc::{AllocError, Global};
 
 /// A seat's ends of its channels, and how many pieces are under way on each. A clerk records what the

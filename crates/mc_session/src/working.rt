@@ -7,8 +7,8 @@ ghost use Rattle.mc_worker.specs.WorkerState.{Goes, HasEnded};
 ghost use Rattle.mc_worker.specs.Serves.{LeavesNothing, ServesSeat};
 ghost use Rattle.mc_worker.specs.Turns.{FindsNothing};
 
-use mc_ring::Token;
 use mc_poll::{SetBits, Wakers};
+use mc_ring::Token;
 use mc_worker::{Gate, Scribe, Served, Worker};
 use std::alloc::{AllocError, Global};
 use std::sync::Arc;

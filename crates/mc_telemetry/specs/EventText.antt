@@ -2,7 +2,8 @@
 use Rattle.std.specs.Prelude.{ℕ, List, ◌++◌, Option, Some, None, codes, decimal, nat_eq, if◌then◌else◌}
 use Rattle.std.specs.Net.Text.{socket_text}
 use Rattle.mc_telemetry.specs.declared.event.ConnectionEvent.{ConnectionEvent}
-use Rattle.mc_telemetry.specs.declared.event.ConnectionEvent.TheVariants.{Opened, Closed, NotAccepted, SeatsTaken, SeatFree}
+use Rattle.mc_telemetry.specs.declared.event.ConnectionEvent.TheVariants.{Opened, Closed, NotAccepted, SeatsTaken}
+use Rattle.mc_telemetry.specs.declared.event.ConnectionEvent.TheVariants.{SeatFree}
 use Rattle.mc_telemetry.specs.declared.event.Peer.{Peer}
 use Rattle.mc_telemetry.specs.declared.event.Peer.TheVariants.{At, Unix}
 use Rattle.mc_telemetry.specs.declared.event.Manner.{Manner}

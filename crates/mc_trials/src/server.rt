@@ -5,13 +5,13 @@ ghost use Rattle.mc_transport.specs.Place.{unbegun};
 ghost use Rattle.mc_record.specs.Opening.{IsOpening};
 
 use crate::line::MemoryLine;
-use mc_net::ServedLine;
 use mc_history::Evidence;
+use mc_net::ServedLine;
 use mc_record::Opening;
-use mc_transport::{Clock, Transport};
 use mc_serve::{PlacedLine, serve_over};
 use mc_server::{FixedClock, open_one, serve_one};
 use mc_sizes::Sizes;
+use mc_transport::{Clock, Transport};
 use mc_worker::{Gate, OpenGate};
 use std::alloc::{AllocError, Global};
 use std::random::RandomSource;

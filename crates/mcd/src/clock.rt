@@ -2,10 +2,10 @@
 use mc_conn::StatsSource;
 use mc_metrics::ProcessTimes;
 use mc_reply::ServerStats;
-use mc_transport::Clock;
 use mc_server::MachineClock;
 use mc_sizes::Sizes;
 use mc_telemetry::{Counts, Telemetry, Totals};
+use mc_transport::Clock;
 use std::alloc::{AllocError, Global};
 use std::boxed::Box;
 use std::fs::File;
