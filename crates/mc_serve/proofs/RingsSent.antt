@@ -36,8 +36,8 @@ use Rattle.mc_transport.specs.declared.warrant.Warrant.{Ghosts as WarrantGhosts}
 use Rattle.mc_transport.specs.contracts.buffered_conn.BufferedConn as buffered_conn
 use Rattle.mc_transport.proofs.buffered_conn.BufferedConn.TheSendSync as buffered_conn_sent
 use Rattle.mc_worker.specs.declared.scribe.Scribe.{Ghosts as ScribeGhosts}
-use Rattle.mc_worker.specs.contracts.worker.Hand as held
-use Rattle.mc_worker.proofs.worker.Hand.TheSendSync as hand
+use Rattle.mc_worker.specs.contracts.worker.Pending as pending
+use Rattle.mc_worker.proofs.worker.Pending.TheSendSync as pending_sent
 use Rattle.mc_worker.specs.contracts.worker.Worker as worker
 use Rattle.mc_worker.specs.contracts.worker.Worker.TheInside as in_worker
 use Rattle.mc_history.specs.contracts.evidence.Evidence as evidence
@@ -153,7 +153,7 @@ module _ (T S : RattleType) (tokens : TokenGhosts T.Denot) (scribe : ScribeGhost
         (
           shard_ends_send T tokens token,
           (
-            option.the_send held.the_row hand.the_send,
+            option.the_send pending.the_row pending_sent.the_send,
             (search (sendable, crosses) depth 20, (as_row_send (row_field S) own, tt)),
           ),
         ),
