@@ -122,6 +122,7 @@ impl<G: Gate + Drop, T: Token + Drop, S: Scribe<T> + Drop> Working<G, T, S> {
     pub fn ended(&self) -> bool
         ensures ended { IsTrue result ↔ HasEnded self.now.worker }
         ensures given { OnTrue result (self.now.worker.hand ≡ None) }
+        ensures marked { length self.now.worker.live ≡ length self.now.worker.ends.channels }
     {
         self.worker.ended()
     }

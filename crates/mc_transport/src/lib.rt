@@ -1,4 +1,5 @@
-//! A seat serves one line: it reads its commands, has them answered, and writes the replies.
+//! Lines and how one is served: the trait `Transport`, the bytes read and not taken yet, and the
+//! replies not written yet. Each write requires a warrant.
 #![tactic(auto)]
 
 mod buffer_pool;
