@@ -1,0 +1,5 @@
+pub mod Chains
+pub mod Added
+pub mod Taken
+pub mod Held
+pub mod Pieces

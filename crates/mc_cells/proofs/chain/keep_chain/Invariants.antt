@@ -1,0 +1,15 @@
+-- The pieces from the full one that is next on are kept, and there is room for the full ones before.
+use Rattle.std.proofs.Common.{◌≡◌, ◌+◌, ◌-◌, ◌*◌, ◌≤◌, List, ◌∷◌, length, drop, is_some, count_by}
+use Rattle.mc_cells.specs.Kept.{CellsHold, KeptValue, place_at}
+use Rattle.mc_cells.proofs.chain.keep_chain.Given as goal
+
+abbrev pub invariant-loop-full : goal.invariant-loop-full
+invariant-loop-full l =
+    (l.full * 59 ≤ length l.bytes) ×
+    (count_by is_some l.cells.slots + l.full ≤ l.cells.capacity) ×
+    (l.cells.capacity ≡ l.fn.cells.capacity) ×
+    ((kept : List KeptValue) → CellsHold l.fn.cells.slots kept → CellsHold l.cells.slots
+    ((place_at l.first (length (drop (l.full * 59) l.bytes)), drop (l.full * 59) l.bytes) ∷ kept))
+
+abbrev pub decreases-loop-full : goal.decreases-loop-full
+decreases-loop-full l = l.full

@@ -1,0 +1,5 @@
+-- The definitions that the contracts of this crate cite.
+pub mod Chain
+pub mod Kept
+pub mod Contents
+pub mod Laws

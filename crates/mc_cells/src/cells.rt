@@ -1,0 +1,186 @@
+//! The values of a shard.
+ghost use Rattle.std.specs.Prelude.{◌≡◌, ◌+◌, ◌<◌, ◌≤◌, ◌^◌, List, [], ◌∷◌, ◌++◌, ℕ, length, IsOk, IfOk, OnOk, OnErr};
+ghost use Rattle.std.specs.List.{sum_by};
+ghost use Rattle.mc_cells.specs.Kept.{KeptValue, cells_of, slots_of};
+ghost use Rattle.mc_cells.specs.Contents.{AreKept, HasRoom, HasValue, value_at, with_room};
+
+use crate::LONG_VALUE;
+use crate::cell::Cell;
+use crate::chain::{keep_chain, piece_count, remove_chain};
+use crate::page::read_short;
+use crate::place::Place;
+use bytes::{Bytes, BytesMut};
+use slab::Slab;
+use std::alloc::{AllocError, Global};
+use std::marker::Model;
+
+/// More cells than this have no numbers of 32 bits.
+const MAX_CELLS: usize = 4_294_967_296;
+
+/// Values, each at a place of its own.
+///
+/// A short value is kept in a chain of cells of one size, a long one by itself. A place that is
+/// given back is used again, whatever its value's length was.
+pub struct Cells {
+    alloc: Global,
+    /// Pieces of short values.
+    cells: Slab<Cell>,
+    /// Long values.
+    long: Slab<Bytes>,
+    /// The bytes of short values that are read are cut off it. It has room for values to come.
+    page: BytesMut,
+}
+
+impl Drop for Cells {
+    /// Written by hand, so that its owners drop it by a single call (docs/DECISIONS.md, F20).
+    fn drop(self) {
+        let Cells {
+            alloc: _,
+            cells: _cells,
+            long: _long,
+            page: _page,
+        } = self;
+    }
+}
+
+impl Model for Cells {
+    ghost use Rattle.mc_cells.specs.Contents.{Contents};
+
+    ghost Value = { Contents };
+
+    ghost view = { λ cells.
+        record {
+          slots = cells.cells.slots;
+          cell_room = cells.cells.capacity;
+          long = cells.long.slots;
+          long_room = cells.long.capacity;
+        } };
+}
+
+impl Cells {
+    /// No values. Memory is allocated when values come.
+    pub fn new(alloc: Global) -> Cells
+        ensures { AreKept result [] }
+    {
+        Cells {
+            alloc,
+            cells: Slab::new(alloc),
+            long: Slab::new(alloc),
+            page: BytesMut::new(alloc),
+        }
+    }
+
+    /// Allocates memory for so many more cells and long values. With that room `keep` succeeds.
+    /// Fails if memory is refused, or if there would be more than 2^32 cells or long values.
+    pub fn reserve(&mut self, cells: usize, long: usize) -> Result<(), AllocError>
+        ensures room { OnOk result (HasRoom self.new cells long) }
+        ensures succeeds { HasRoom self.old cells long → IsOk result }
+        ensures had_room { HasRoom self.old cells long → self.new ≡ self.old }
+        ensures kept { self.new ≡ with_room self.old self.new }
+        ensures cells { self.old.cell_room ≤ self.new.cell_room }
+        ensures long { self.old.long_room ≤ self.new.long_room }
+    {
+        self.cells.reserve(cells)?;
+        self.long.reserve(long)?;
+        if self.cells.capacity() > MAX_CELLS || self.long.capacity() > MAX_CELLS {
+            return Err(AllocError);
+        }
+        Ok(())
+    }
+
+    /// Keeps a value at a place that was free. Fails if memory is refused, and then the values are
+    /// as before; with room for it it never fails.
+    #[inline(always)]
+    pub fn keep(&mut self, value: Bytes) -> Result<Place, AllocError>
+        requires fits { length value < 2 ^ 32 }
+        ensures kept { IfOk result (λ place. (kept : List KeptValue) → AreKept self.old kept →
+            AreKept self.new ((place, value) ∷ kept)) }
+        ensures len { IfOk result (λ place. place.len ≡ length value) }
+        ensures succeeds { HasRoom self.old (cells_of (length value)) (slots_of (length value)) →
+            IsOk result }
+        ensures had_room { HasRoom self.old (cells_of (length value)) (slots_of (length value)) →
+            self.new ≡ with_room self.new self.old }
+        ensures err { OnErr result (self.new ≡ with_room self.old self.new) }
+    {
+        let len = value.len();
+        if len >= LONG_VALUE {
+            return self.keep_long(value);
+        }
+        self.reserve(piece_count(len), 0)?;
+        let first = keep_chain(&mut self.cells, value.as_slice());
+        Ok(Place {
+            first,
+            len: len as u32,
+        })
+    }
+
+    /// Keeps a long value.
+    #[inline(never)]
+    fn keep_long(&mut self, value: Bytes) -> Result<Place, AllocError>
+        requires fits { length value < 2 ^ 32 }
+        requires long { LONG_VALUE ≤ length value }
+        ensures kept { IfOk result (λ place. (kept : List KeptValue) → AreKept self.old kept →
+            AreKept self.new ((place, value) ∷ kept)) }
+        ensures len { IfOk result (λ place. place.len ≡ length value) }
+        ensures succeeds { HasRoom self.old 0 1 → IsOk result }
+        ensures had_room { HasRoom self.old 0 1 → self.new ≡ with_room self.new self.old }
+        ensures err { OnErr result (self.new ≡ with_room self.old self.new) }
+    {
+        let len = value.len() as u32;
+        self.reserve(0, 1)?;
+        Ok(Place {
+            first: self.long.insert_reserved(value) as u32,
+            len,
+        })
+    }
+
+    /// The value at a place. A short one is cut off a page that many values share, a long one is
+    /// shared. Fails if memory is refused; the values stay as they are.
+    #[inline(always)]
+    pub fn read(&mut self, place: Place) -> Result<Bytes, AllocError>
+        requires { HasValue self.old place }
+        ensures value { IfOk result (λ value. value ≡ value_at self.old place) }
+        ensures unchanged { self.new ≡ self.old }
+    {
+        let len = place.len();
+        if len >= LONG_VALUE {
+            return self.long[place.first as usize].clone();
+        }
+        read_short(&self.cells, place.first, len, &mut self.page, self.alloc)
+    }
+
+    /// Frees a place for other values.
+    #[inline(always)]
+    pub fn remove(&mut self, place: Place)
+        requires { HasValue self.old place }
+        ensures removed { (before after : List KeptValue) (value : List ℕ) →
+            AreKept self.old (before ++ (place, value) ∷ after) →
+            AreKept self.new (before ++ after) }
+        ensures room { self.new ≡ with_room self.new self.old }
+    {
+        let len = place.len();
+        if len >= LONG_VALUE {
+            let _long = self.long.remove(place.first as usize);
+            return;
+        }
+        remove_chain(&mut self.cells, place.first, piece_count(len));
+    }
+
+    /// Frees all places.
+    pub fn clear(&mut self)
+        ensures none { AreKept self.new [] }
+        ensures room { self.new ≡ with_room self.new self.old }
+    {
+        self.cells.clear();
+        self.long.clear();
+    }
+
+    /// How many cells are in use: each short value takes one for every 59 bytes of it, and one for
+    /// the rest.
+    pub fn cells_used(&self) -> usize
+        ensures used { (kept : List KeptValue) → AreKept self.now kept →
+            result ≡ sum_by (λ (value : KeptValue). cells_of value.0.len) kept }
+    {
+        self.cells.len()
+    }
+}

@@ -1,0 +1,122 @@
+//! Chains of cells.
+ghost use Rattle.std.specs.Prelude.{◌≡◌, ◌+◌, ◌-◌, ◌*◌, ◌<◌, ◌≤◌, ◌^◌, ℕ, List, ◌∷◌, ◌++◌, length, take, drop, is_some, IsSome, count_by};
+ghost use Rattle.slab.specs.Slab.{HasRoomFor};
+ghost use Rattle.mc_cells.specs.Chain.{cell_at, pieces, IsChain};
+ghost use Rattle.mc_cells.specs.Kept.{CellsHold, IsBeside, KeptValue, place_at};
+
+use crate::cell::Cell;
+use crate::{CELL_BYTES, LONG_VALUE};
+use slab::Slab;
+
+/// How many cells a short value of this many bytes takes.
+pub(crate) fn piece_count(len: usize) -> usize
+    requires { len < LONG_VALUE }
+    ensures { result ≡ pieces len }
+{
+    (len + CELL_BYTES - 1) / CELL_BYTES
+}
+
+/// Puts a piece before the chain that begins at `next`, and returns its cell's number.
+fn add_cell(cells: &mut Slab<Cell>, next: u32, bytes: [u8; CELL_BYTES]) -> u32
+    requires room { HasRoomFor cells.old 1 }
+    requires few { cells.old.capacity ≤ 2 ^ 32 }
+    ensures before { (text : List ℕ) (kept : List KeptValue) →
+        length text + CELL_BYTES < LONG_VALUE →
+        CellsHold cells.old.slots ((place_at next (length text), text) ∷ kept) →
+        CellsHold cells.new.slots
+        ((place_at result (length text + CELL_BYTES), bytes ++ text) ∷ kept) }
+    ensures last { (len : ℕ) (kept : List KeptValue) → 0 < len → len ≤ CELL_BYTES →
+        CellsHold cells.old.slots kept →
+        CellsHold cells.new.slots ((place_at result len, take len bytes) ∷ kept) }
+    ensures len { count_by is_some cells.new.slots ≡ count_by is_some cells.old.slots + 1 }
+    ensures capacity { cells.new.capacity ≡ cells.old.capacity }
+{
+    cells.insert_reserved(Cell::new(next, bytes)) as u32
+}
+
+/// Removes the first cell of a chain, and returns the number of the next.
+fn take_cell(cells: &mut Slab<Cell>, first: u32) -> u32
+    requires { IsSome (cell_at cells.old.slots first) }
+    ensures chain { (count : ℕ) → 0 < count → IsChain cells.old.slots count first →
+        IsChain cells.new.slots (count - 1) result }
+    ensures beside { (count : ℕ) (kept : List KeptValue) → 0 < count →
+        IsBeside cells.old.slots count first kept →
+        IsBeside cells.new.slots (count - 1) result kept }
+    ensures capacity { cells.new.capacity ≡ cells.old.capacity }
+{
+    cells.remove(first as usize).next()
+}
+
+/// The piece that begins at `start`.
+fn piece_at(bytes: &[u8], start: usize) -> [u8; CELL_BYTES]
+    requires { start + CELL_BYTES ≤ length bytes.now }
+    ensures { result ≡ take CELL_BYTES (drop start bytes.now) }
+{
+    let mut piece = [0; CELL_BYTES];
+    piece.copy_from_slice(&bytes[start..start + CELL_BYTES]);
+    piece
+}
+
+/// The last piece of a value, filled up with zeros.
+fn last_piece(bytes: &[u8]) -> [u8; CELL_BYTES]
+    requires { length bytes.now ≤ CELL_BYTES }
+    ensures { take (length bytes.now) result ≡ bytes.now }
+{
+    let mut piece = [0; CELL_BYTES];
+    piece[..bytes.len()].copy_from_slice(bytes);
+    piece
+}
+
+/// Keeps the last piece of a value, if it isn't whole. Returns its cell's number.
+fn keep_last(cells: &mut Slab<Cell>, bytes: &[u8]) -> u32
+    requires short { length bytes.now ≤ CELL_BYTES }
+    requires room { HasRoomFor cells.old (pieces (length bytes.now)) }
+    requires few { cells.old.capacity ≤ 2 ^ 32 }
+    ensures kept { (kept : List KeptValue) → CellsHold cells.old.slots kept →
+        CellsHold cells.new.slots
+        ((place_at result (length bytes.now), bytes.now) ∷ kept) }
+    ensures len { count_by is_some cells.new.slots ≡
+        count_by is_some cells.old.slots + pieces (length bytes.now) }
+    ensures capacity { cells.new.capacity ≡ cells.old.capacity }
+{
+    if bytes.is_empty() {
+        return 0;
+    }
+    add_cell(cells, 0, last_piece(bytes))
+}
+
+/// Keeps a value in a chain of cells, and returns the number of the first. The chain is made from
+/// its last cell to its first, so that each is written once.
+pub(crate) fn keep_chain(cells: &mut Slab<Cell>, bytes: &[u8]) -> u32
+    requires short { length bytes.now < LONG_VALUE }
+    requires room { HasRoomFor cells.old (pieces (length bytes.now)) }
+    requires few { cells.old.capacity ≤ 2 ^ 32 }
+    ensures kept { (kept : List KeptValue) → CellsHold cells.old.slots kept →
+        CellsHold cells.new.slots
+        ((place_at result (length bytes.now), bytes.now) ∷ kept) }
+    ensures capacity { cells.new.capacity ≡ cells.old.capacity }
+{
+    let mut full = bytes.len() / CELL_BYTES;
+    let (_, last) = bytes.split_at(full * CELL_BYTES);
+    let mut first = keep_last(cells, last);
+    while full > 0 {
+        full -= 1;
+        first = add_cell(cells, first, piece_at(bytes, full * CELL_BYTES));
+    }
+    first
+}
+
+/// Removes the cells of a chain.
+pub(crate) fn remove_chain(cells: &mut Slab<Cell>, first: u32, count: usize)
+    requires { IsChain cells.old.slots count first }
+    ensures removed { (kept : List KeptValue) → IsBeside cells.old.slots count first kept →
+        CellsHold cells.new.slots kept }
+    ensures capacity { cells.new.capacity ≡ cells.old.capacity }
+{
+    let mut at = first;
+    let mut left = count;
+    while left > 0 {
+        at = take_cell(cells, at);
+        left -= 1;
+    }
+}

@@ -1,0 +1,20 @@
+//! The values of a shard, in cells of one size, so that memory is used again whatever the sizes of
+//! the values are.
+#![tactic(auto)]
+
+mod cell;
+mod cells;
+mod chain;
+mod laws;
+mod page;
+mod place;
+
+pub use cells::Cells;
+pub use laws::every_kept;
+pub use place::Place;
+
+/// Number of bytes of a value in one cell.
+pub const CELL_BYTES: usize = 59;
+
+/// A value of so many bytes or more is kept by itself and shared.
+pub const LONG_VALUE: usize = 4_096;

@@ -1,0 +1,66 @@
+//! Reads of short values. Their bytes are cut off a page that many of them share.
+ghost use Rattle.std.specs.Prelude.{◌≡◌, ◌+◌, ◌*◌, ◌<◌, ◌≤◌, [], ◌++◌, length, take, IfOk, OnOk};
+ghost use Rattle.mc_cells.specs.Chain.{pieces, IsChain, chain_bytes};
+
+use crate::cell::Cell;
+use crate::chain::piece_count;
+use crate::{CELL_BYTES, LONG_VALUE};
+use bytes::{Bytes, BytesMut};
+use slab::Slab;
+use std::alloc::{AllocError, Global};
+
+/// Size of a page in bytes.
+const PAGE_BYTES: usize = 32_768;
+
+/// Appends the bytes of a chain's cells to a page. Each copy is of one size that is known ahead.
+fn read_chain(cells: &Slab<Cell>, first: u32, count: usize, page: &mut BytesMut)
+    requires chain { IsChain cells.now.slots count first }
+    requires room { count * CELL_BYTES ≤ page.old.spare }
+    ensures bytes { page.new.items ≡
+        page.old.items ++ chain_bytes cells.now.slots count first }
+    ensures len { length page.new.items ≡ length page.old.items + count * CELL_BYTES }
+{
+    let mut at = first;
+    let mut left = count;
+    while left > 0 {
+        let cell = &cells[at as usize];
+        page.extend_reserved(cell.bytes());
+        at = cell.next();
+        left -= 1;
+    }
+}
+
+/// Makes a page empty, with room for `len` bytes: it is used again if no value shares it any more,
+/// else another is allocated.
+fn make_room(page: &mut BytesMut, len: usize, alloc: Global) -> Result<(), AllocError>
+    requires { len ≤ PAGE_BYTES }
+    ensures empty { OnOk result (page.new.items ≡ []) }
+    ensures room { OnOk result (len ≤ page.new.spare) }
+{
+    page.clear();
+    if page.capacity() < len && !page.try_reclaim(len) {
+        *page = BytesMut::with_capacity(alloc, PAGE_BYTES)?;
+    }
+    Ok(())
+}
+
+/// The value of a chain of cells, cut off the page. Whole cells are copied, and then what the last
+/// has behind the value is cut off.
+pub(crate) fn read_short(
+    cells: &Slab<Cell>,
+    first: u32,
+    len: usize,
+    page: &mut BytesMut,
+    alloc: Global,
+) -> Result<Bytes, AllocError>
+    requires short { len < LONG_VALUE }
+    requires chain { IsChain cells.now.slots (pieces len) first }
+    ensures { IfOk result (λ value.
+        value ≡ take len (chain_bytes cells.now.slots (pieces len) first)) }
+{
+    let count = piece_count(len);
+    make_room(page, count * CELL_BYTES, alloc)?;
+    read_chain(cells, first, count, page);
+    page.truncate(len);
+    page.freeze_to(len)
+}
