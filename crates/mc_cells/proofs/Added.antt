@@ -1,5 +1,5 @@
 -- A cell more before a chain.
-use Rattle.std.proofs.Common.{◌≡◌, ◌≢◌, ℕ, suc, ◌+◌, ◌-◌, ◌<◌, ◌≤◌, cond, eqb, inl, inr, List, ◌∷◌, length}
+use Rattle.std.proofs.Common.{◌≡◌, ◌≢◌, ℕ, suc, ◌+◌, ◌<◌, ◌≤◌, cond, eqb, inl, inr, List, ◌∷◌, length}
 use Rattle.std.proofs.Common.{◌++◌, take, Option, Some, None, refl, sym, ap, ◌∙◌, arith}
 use Rattle.std.proofs.Common.{eq-eqb, ne_eqb, rules, length-append, length-take-le}
 use lib.Seq.{take-append-add}

@@ -1,5 +1,5 @@
 -- Values more and less, short ones and long ones.
-use Rattle.std.proofs.Common.{◌≡◌, ℕ, ◌+◌, ◌-◌, ◌<◌, ◌≤◌, cond, eqb, List, [], ◌∷◌, length}
+use Rattle.std.proofs.Common.{◌≡◌, ℕ, ◌+◌, ◌<◌, ◌≤◌, cond, eqb, List, [], ◌∷◌, length}
 use Rattle.std.proofs.Common.{◌++◌, inl, inr, Some, None, refl, sym, ◌∙◌, arith, eq-eqb}
 use Rattle.std.specs.Prelude.{slice_index_or}
 use Rattle.std.specs.List.{sum_by, AllByRecursion}

@@ -3,3 +3,4 @@ pub mod Added
 pub mod Taken
 pub mod Held
 pub mod Pieces
+pub mod Places

@@ -1,5 +1,5 @@
 -- The pieces of a value.
-use Rattle.std.proofs.Common.{◌≡◌, ℕ, ◌+◌, ◌-◌, ◌≤◌, List, length, ◌++◌, take, drop, sym}
+use Rattle.std.proofs.Common.{◌≡◌, ℕ, ◌+◌, ◌≤◌, List, length, ◌++◌, take, drop, sym}
 use Rattle.std.proofs.Common.{ap, ◌∙◌, arith, length-drop, take-append-drop, drop-drop}
 
 -- a piece and what is behind it

@@ -7,7 +7,7 @@ ghost use Rattle.mc_cells.specs.Contents.{AreKept, HasRoom, HasValue, value_at, 
 use crate::LONG_VALUE;
 use crate::cell::Cell;
 use crate::chain::{keep_chain, piece_count, remove_chain};
-use crate::page::read_short;
+use crate::page::{append_short, read_short};
 use crate::place::Place;
 use bytes::{Bytes, BytesMut};
 use slab::Slab;
@@ -147,6 +147,19 @@ impl Cells {
             return self.long[place.first as usize].clone();
         }
         read_short(&self.cells, place.first, len, &mut self.page, self.alloc)
+    }
+
+    /// Appends the value at a place. If memory is refused, nothing is appended.
+    pub fn append_to(&self, place: Place, out: &mut Vec<u8>) -> Result<(), AllocError>
+        requires { HasValue self.now place }
+        ensures ok { OnOk result (out.new.items ≡ out.old.items ++ value_at self.now place) }
+        ensures err { OnErr result (out.new.items ≡ out.old.items) }
+    {
+        let len = place.len();
+        if len >= LONG_VALUE {
+            return out.extend_from_slice(self.long[place.first as usize].as_slice());
+        }
+        append_short(&self.cells, place.first, len, out)
     }
 
     /// Frees a place for other values.

@@ -1,5 +1,5 @@
 //! Reads of short values. Their bytes are cut off a page that many of them share.
-ghost use Rattle.std.specs.Prelude.{◌≡◌, ◌+◌, ◌*◌, ◌<◌, ◌≤◌, [], ◌++◌, length, take, IfOk, OnOk};
+ghost use Rattle.std.specs.Prelude.{◌≡◌, ◌+◌, ◌*◌, ◌<◌, ◌≤◌, [], ◌++◌, length, take, vec_len, vec_capacity, IfOk, OnOk, OnErr};
 ghost use Rattle.mc_cells.specs.Chain.{pieces, IsChain, chain_bytes};
 
 use crate::cell::Cell;
@@ -63,4 +63,42 @@ pub(crate) fn read_short(
     read_chain(cells, first, count, page);
     page.truncate(len);
     page.freeze_to(len)
+}
+
+/// Appends the bytes of a chain's cells. There is room for them.
+fn append_cells(cells: &Slab<Cell>, first: u32, count: usize, out: &mut Vec<u8>)
+    requires chain { IsChain cells.now.slots count first }
+    requires room { vec_len out.old + count * CELL_BYTES ≤ vec_capacity out.old }
+    ensures { out.new.items ≡ out.old.items ++ chain_bytes cells.now.slots count first }
+{
+    let mut at = first;
+    let mut left = count;
+    while left > 0 {
+        let cell = &cells[at as usize];
+        // It never fails, since there is room.
+        let _ = out.extend_from_slice(cell.bytes());
+        at = cell.next();
+        left -= 1;
+    }
+}
+
+/// Appends the value of a chain of cells. If memory is refused, nothing is appended.
+pub(crate) fn append_short(
+    cells: &Slab<Cell>,
+    first: u32,
+    len: usize,
+    out: &mut Vec<u8>,
+) -> Result<(), AllocError>
+    requires short { len < LONG_VALUE }
+    requires chain { IsChain cells.now.slots (pieces len) first }
+    ensures ok { OnOk result (out.new.items ≡
+        out.old.items ++ take len (chain_bytes cells.now.slots (pieces len) first)) }
+    ensures err { OnErr result (out.new.items ≡ out.old.items) }
+{
+    let before = out.len();
+    let count = piece_count(len);
+    out.reserve(count * CELL_BYTES)?;
+    append_cells(cells, first, count, out);
+    out.truncate(before + len);
+    Ok(())
 }

@@ -1,5 +1,5 @@
 -- The pieces from the full one that is next on are kept, and there is room for the full ones before.
-use Rattle.std.proofs.Common.{◌≡◌, ◌+◌, ◌-◌, ◌*◌, ◌≤◌, List, ◌∷◌, length, drop, is_some, count_by}
+use Rattle.std.proofs.Common.{◌≡◌, ◌+◌, ◌*◌, ◌≤◌, List, ◌∷◌, length, drop, is_some, count_by}
 use Rattle.mc_cells.specs.Kept.{CellsHold, KeptValue, place_at}
 use Rattle.mc_cells.proofs.chain.keep_chain.Given as goal
 

@@ -1,5 +1,5 @@
 -- A chain of as many cells as are left is beside the other values.
-use Rattle.std.proofs.Common.{◌≡◌, ◌-◌, List}
+use Rattle.std.proofs.Common.{◌≡◌, List}
 use Rattle.mc_cells.specs.Chain.{IsChain}
 use Rattle.mc_cells.specs.Kept.{IsBeside, KeptValue}
 use Rattle.mc_cells.proofs.chain.remove_chain.Given as goal

@@ -1,4 +1,4 @@
-use Rattle.std.proofs.Common.{◌≡◌, ◌-◌, ◌++◌, ◌+◌, Some, ◌∙◌, ap, sym}
+use Rattle.std.proofs.Common.{◌≡◌, ◌-◌, ◌++◌, Some, ◌∙◌, ap, sym}
 use Rattle.std.proofs.Common.{arith, rules, append_assoc, length, length-append}
 use Rattle.mc_cells.specs.Chain.{cell_at, next_of, chain_bytes}
 use Rattle.mc_cells.proofs.Taken.{bytes_behind, rest_is_chain}
