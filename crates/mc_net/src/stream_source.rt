@@ -10,7 +10,7 @@ use crate::connection_source::{Accept, ConnectionSource};
 use crate::lingering::{Lingering, Lingers};
 use crate::stream::Stream;
 use crate::tcp_connection::TcpConnection;
-use http_server::Log;
+use mc_poll::GhostLog;
 use mc_transport::Warrant;
 use std::snapshot::Snapshot;
 use std::time;
@@ -42,7 +42,7 @@ pub struct StreamSource<R, A: Arrivals, T = ()> {
     /// Whether its output was ended, since memory to serve it was refused.
     gave_up: bool,
     /// The closed connections.
-    pub gone: Log<ClosedConnection<A::Stream, T>, ()>,
+    pub gone: GhostLog<ClosedConnection<A::Stream, T>, ()>,
     /// `accept` has returned `Over`.
     is_over: bool,
     /// Number of ended connections; it saturates.
@@ -89,7 +89,7 @@ impl<R: time::Clock, A: Arrivals, T: Warrant + Drop> StreamSource<R, A, T> {
             lingering: None,
             out: None,
             gave_up: false,
-            gone: Log::new(),
+            gone: GhostLog::new(),
             is_over: false,
             ended: 0,
             failed: false,

@@ -13,7 +13,7 @@ use crate::beginning::Beginning;
 use crate::stream::Stream;
 use crate::tap::Tap;
 use crate::trail::Trail;
-use http_server::Log;
+use mc_poll::GhostLog;
 use mc_telemetry::{Manner, Meter};
 use mc_transport::{Ready, Taking, Transport, TransportError, Warrant};
 use mc_wire::SinkError;
@@ -43,7 +43,7 @@ pub struct TcpConnection<S: Stream, T = ()> {
     /// The last read returned the end of input.
     ended: bool,
     /// The bytes read and written before each read.
-    reads: Log<Trail, Trail>,
+    reads: GhostLog<Trail, Trail>,
     /// The connection's meter.
     meter: Meter,
     /// Which connection it is.
@@ -89,7 +89,7 @@ impl<S: Stream, T: Warrant + Drop> TcpConnection<S, T> {
             is_over: false,
             failed: false,
             ended: false,
-            reads: Log::new(),
+            reads: GhostLog::new(),
             meter: Meter::unwatched(),
             begun: Beginning::none(history),
         }

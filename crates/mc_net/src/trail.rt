@@ -2,7 +2,7 @@
 ghost use Rattle.std.specs.Prelude.{◌≡◌, ◌++◌, [], take};
 ghost use Rattle.std.specs.Io.Slices.{io_slices_bytes};
 
-use http_server::Log;
+use mc_poll::GhostLog;
 use std::io::IoSlice;
 use std::marker::Model;
 
@@ -10,7 +10,7 @@ use std::marker::Model;
 /// no memory.
 #[derive(Drop)]
 pub struct Trail {
-    log: Log<u8, ()>,
+    log: GhostLog<u8, ()>,
 }
 
 impl Model for Trail {
@@ -26,7 +26,9 @@ impl Trail {
     pub fn new() -> Trail
         ensures { result ≡ [] }
     {
-        Trail { log: Log::new() }
+        Trail {
+            log: GhostLog::new(),
+        }
     }
 
     /// Appends these bytes.

@@ -1,8 +1,8 @@
 //! A slot's doorbell: it notifies the shards to which the slot has sent something.
 ghost use Rattle.std.specs.Prelude.{◌≡◌, ◌∷◌, ◌++◌, []};
 
+use crate::ghost_log::GhostLog;
 use crate::wakers::Wakers;
-use http_server::Log;
 use std::marker::Model;
 
 /// Notifies shards on behalf of one slot. Contracts see the shards notified since the slot last
@@ -11,7 +11,7 @@ use std::marker::Model;
 pub struct Doorbell {
     wakers: Wakers,
     seat: usize,
-    called: Log<usize, ()>,
+    called: GhostLog<usize, ()>,
 }
 
 impl Model for Doorbell {
@@ -31,7 +31,7 @@ impl Doorbell {
         Doorbell {
             wakers,
             seat,
-            called: Log::new(),
+            called: GhostLog::new(),
         }
     }
 
@@ -39,7 +39,7 @@ impl Doorbell {
     pub fn note_sent(&mut self)
         ensures { self.new ≡ [] }
     {
-        self.called = Log::new();
+        self.called = GhostLog::new();
     }
 
     /// Notifies the shard's thread that the slot sends nothing more to it, and wakes that thread if

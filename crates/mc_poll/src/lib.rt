@@ -10,6 +10,7 @@
 
 mod bit_set;
 mod doorbell;
+mod ghost_log;
 mod poller;
 mod set_bits;
 mod sockets;
@@ -20,6 +21,7 @@ mod waker;
 mod wakers;
 
 pub use doorbell::Doorbell;
+pub use ghost_log::GhostLog;
 pub use poller::Poller;
 pub use set_bits::SetBits;
 pub use sockets::Readiness;

@@ -3,7 +3,7 @@ use denote.RattleType.{RattleType}
 use denote.Param.Send.{IsSend, IsSync, sendable}
 use denote.Param.SendFields.{declared_send, declared_sync}
 use Rattle.std.proofs.Crossing.{crosses}
-use Rattle.http_server.specs.contracts.log.Log as Log
+use Rattle.mc_poll.specs.contracts.ghost_log.GhostLog as GhostLog
 use Rattle.mc_telemetry.specs.contracts.counter.Counter as counter
 use Rattle.mc_telemetry.specs.contracts.counts.EndCounts as ends
 use Rattle.mc_telemetry.specs.contracts.counts.SeatCounts as counts
@@ -52,10 +52,10 @@ meter_send =
 trail_send : IsSend trail.the_row
 trail_send = search (sendable, crosses) depth 20
 
-log_send : (A B : RattleType) → IsSend A → IsSend B → IsSend (Log.the_row A B)
+log_send : (A B : RattleType) → IsSend A → IsSend B → IsSend (GhostLog.the_row A B)
 log_send A B a b = search (sendable, crosses) depth 20
 
-reads_send : IsSend (Log.the_row trail.the_row trail.the_row)
+reads_send : IsSend (GhostLog.the_row trail.the_row trail.the_row)
 reads_send = log_send trail.the_row trail.the_row trail_send trail_send
 
 tap_send : (S : RattleType) (stream : StreamGhosts S.Denot) → IsSend S → IsSend (tap.the_row S stream)

@@ -10,10 +10,9 @@ ghost use Rattle.mc_serve.specs.Connections.{AreServed, ServesConnections, seats
 use crate::error::ServeError;
 use crate::outcome::Outcome;
 use crate::serving::serve;
-use http_server::Log;
 use mc_history::Evidence;
 use mc_net::{Arrivals, StreamSource};
-use mc_poll::Poller;
+use mc_poll::{GhostLog, Poller};
 use mc_record::Opening;
 use mc_sizes::Sizes;
 use mc_transport::Clock;
@@ -110,7 +109,7 @@ fn gather<R: time::Clock + Drop, A: Arrivals + Drop>(
         (seats_of served ≡ map (λ source. source.gone.items) sources.items)) }
 {
     let mut ended = 0u64;
-    let mut seats = Log::new();
+    let mut seats = GhostLog::new();
     for source in sources {
         if source.failed {
             return Err(ServeError::Bind);
