@@ -9,17 +9,11 @@ use Rattle.std.proofs.lemmas.List.Sums.{sum_by-cons}
 use Rattle.slab.specs.Slab.{Slab, get, slab_len, Updates}
 use Rattle.mc_cells.specs.declared.TheConstants.{LONG_VALUE}
 use Rattle.mc_cells.specs.declared.cell.Cell.{Cell}
-use Rattle.mc_cells.specs.Chain.{Slots, next_of, passes, chain_bytes}
+use Rattle.mc_cells.specs.Pool.{IsAdded}
+use Rattle.mc_cells.specs.Chain.{Slots, passes, chain_bytes}
 use Rattle.mc_cells.specs.Kept.{KeptValue, place_at, used, cells_of, all_passes, CellsHold, IsBeside}
 use Rattle.mc_cells.proofs.Chains.{kept_unchanged, chain_unchanged, all_passes-cons, short_cells}
 use Rattle.mc_cells.proofs.Chains.{piece_more, piece_alone}
-
--- a slot that was vacant is in use
-pub record IsAdded {T : Type 0} (old new : List (Option T)) (number : ℕ) (value : T) : Type 0 where
-  pub vacant : slice_index_or old number None ≡ None
-  pub here : slice_index_or new number None ≡ Some value
-  pub others : (other : ℕ) → other ≢ number → slice_index_or new other None ≡ slice_index_or old other None
-  pub counted : count_by is_some new ≡ count_by is_some old + 1
 
 -- an insert adds a value
 pub inserted : {T : Type 0} (old new : Slab T) (number : ℕ) (value : T) → get old number ≡ None
@@ -55,10 +49,10 @@ used_added old new number value added other =
 
 -- the added cell before a chain
 pub cell_before : (old new : Slots) (number : ℕ) (cell : Cell) (count : ℕ) (kept : List KeptValue)
-    → IsAdded old new number cell → IsBeside old count (next_of cell) kept
-    → IsBefore old new number count (next_of cell) cell.bytes kept
+    → IsAdded old new number cell → IsBeside old count cell.next kept
+    → IsBefore old new number count cell.next cell.bytes kept
 cell_before old new number cell count kept added beside =
-    let next = next_of cell in
+    let next = cell.next in
     let free : passes old number count next + all_passes old number kept ≡ 0
     = beside.once number ∙ ap used added.vacant in
     let chain = chain_unchanged old new number count next added.others (omega (arith, free)) in
@@ -128,29 +122,29 @@ take_both xs ys n m sum = rw sum (take-append-add xs ys n)
 
 -- A whole piece is put before a value.
 pub piece_before : (old new : Slots) (number : ℕ) (cell : Cell) (text : List ℕ) (kept : List KeptValue)
-    → IsAdded old new number cell → length cell.bytes ≡ 59 → length text + 59 < LONG_VALUE
-    → CellsHold old ((place_at (next_of cell) (length text), text) ∷ kept)
-    → CellsHold new ((place_at number (length text + 59), cell.bytes ++ text) ∷ kept)
+    → IsAdded old new number cell → length cell.bytes ≡ 60 → length text + 60 < LONG_VALUE
+    → CellsHold old ((place_at cell.next (length text), text) ∷ kept)
+    → CellsHold new ((place_at number (length text + 60), cell.bytes ++ text) ∷ kept)
 piece_before old new number cell text kept added whole short hold =
     let n = length text in
-    let more : cells_of (n + 59) ≡ suc (cells_of n)
-    = short_cells (n + 59) short ∙ piece_more n ∙ ap suc (sym (short_cells n (omega (arith, short)))) in
-    let beside = beside_from_kept old (next_of cell) n text kept hold in
+    let more : cells_of (n + 60) ≡ suc (cells_of n)
+    = short_cells (n + 60) short ∙ piece_more n ∙ ap suc (sym (short_cells n (omega (arith, short)))) in
+    let beside = beside_from_kept old cell.next n text kept hold in
     let before = cell_before old new number cell (cells_of n) kept added beside in
-    let behind = chain_bytes old (cells_of n) (next_of cell) in
+    let behind = chain_bytes old (cells_of n) cell.next in
     let bytes = hold.spelled.0.bytes (omega (arith, short)) in
-    let front = take_both cell.bytes behind n (n + 59) (omega (arith, whole)) in
-    kept_from_beside new number (n + 59) (cell.bytes ++ text) kept (rw more before.beside)
+    let front = take_both cell.bytes behind n (n + 60) (omega (arith, whole)) in
+    kept_from_beside new number (n + 60) (cell.bytes ++ text) kept (rw more before.beside)
     (omega (arith, length-append cell.bytes text, whole))
     (λ _. rw (more, before.bytes_are) (front ∙ ap (λ xs. cell.bytes ++ xs) bytes))
 
 -- The last piece of a value is kept.
 pub last_piece : (old new : Slots) (number : ℕ) (cell : Cell) (len : ℕ) (kept : List KeptValue)
-    → IsAdded old new number cell → length cell.bytes ≡ 59 → 0 < len → len ≤ 59 → CellsHold old kept
+    → IsAdded old new number cell → length cell.bytes ≡ 60 → 0 < len → len ≤ 60 → CellsHold old kept
     → CellsHold new ((place_at number len, take len cell.bytes) ∷ kept)
 last_piece old new number cell len kept added whole some one hold =
     let count : cells_of len ≡ 1 = short_cells len (omega (arith, one)) ∙ piece_alone len some one in
-    let before = cell_before old new number cell 0 kept added (beside_none old (next_of cell) kept hold) in
+    let before = cell_before old new number cell 0 kept added (beside_none old cell.next kept hold) in
     kept_from_beside new number len (take len cell.bytes) kept (rw count before.beside)
     (length-take-le len cell.bytes (omega (arith, one, whole)))
     (λ _. rw (count, before.bytes_are) (ap (λ xs. take len xs) (search rules)))

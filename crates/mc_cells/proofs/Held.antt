@@ -6,11 +6,12 @@ use Rattle.std.specs.List.{sum_by, AllByRecursion}
 use Rattle.std.proofs.lemmas.Bool.{lt-ltb, le-ltb, cases_lt}
 use Rattle.std.proofs.lemmas.List.Sums.{sum_by-cons, sum_by-append}
 use Rattle.mc_cells.specs.declared.TheConstants.{LONG_VALUE}
+use Rattle.mc_cells.specs.Pool.{IsAdded}
 use Rattle.mc_cells.specs.Chain.{Slots}
 use Rattle.mc_cells.specs.Kept.{KeptValue, LongSlots, place_at, used, cells_of, slots_of}
 use Rattle.mc_cells.specs.Kept.{takes, IsSpelled, CellsHold, SlotsHold}
 use Rattle.mc_cells.specs.Laws.{KeptIsThere, OrderIsFree}
-use Rattle.mc_cells.proofs.Added.{IsAdded, used_added, beside_from_kept, kept_from_beside, beside_none, kept_alone}
+use Rattle.mc_cells.proofs.Added.{used_added, beside_from_kept, kept_from_beside, beside_none, kept_alone}
 
 -- a long value takes no cells
 pub long_cells : (len : ℕ) → LONG_VALUE ≤ len → cells_of len ≡ 0

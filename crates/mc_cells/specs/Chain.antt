@@ -1,10 +1,9 @@
 -- Chains of cells: each cell has a piece of a value, and the number of the next cell.
 use Rattle.std.specs.Prelude.{ℕ, zero, suc, ◌≡◌, ◌+◌, ◌/◌, List, [], ◌++◌, Option, Some, None, IsSome, slice_index_or}
 use Rattle.std.specs.Prelude.{if◌then◌else◌, ◌==◌}
-use Rattle.std.specs.Int.{w32, from_le_bytes, to_le_bytes}
 use Rattle.mc_cells.specs.declared.cell.Cell.{Cell}
 
--- the cells of a slab, by their numbers
+-- the cells in use, by their numbers
 abbrev pub Slots : Type 0
 Slots = List (Option Cell)
 
@@ -14,15 +13,12 @@ cell_at slots number = slice_index_or slots number None
 
 -- the cell of a piece, before the cell with the number next
 abbrev pub cell_of : ℕ → List ℕ → Cell
-cell_of next bytes = record { next = to_le_bytes w32 next; bytes = bytes }
+cell_of next bytes = record { next = next; bytes = bytes }
 
 -- the number of the next cell
-abbrev pub next_of : Cell → ℕ
-next_of cell = from_le_bytes w32 cell.next
-
 abbrev pub next_in : Option Cell → ℕ
 next_in None = 0
-next_in (Some cell) = next_of cell
+next_in (Some cell) = cell.next
 
 abbrev pub bytes_in : Option Cell → List ℕ
 bytes_in None = []
@@ -30,7 +26,7 @@ bytes_in (Some cell) = cell.bytes
 
 -- how many cells a short value of this many bytes takes
 abbrev pub pieces : ℕ → ℕ
-pieces len = (len + 58) / 59
+pieces len = (len + 59) / 60
 
 -- how often a chain of so many cells passes the cell with a number
 abbrev pub passes : Slots → ℕ → ℕ → ℕ → ℕ

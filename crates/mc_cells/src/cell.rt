@@ -1,37 +1,26 @@
 //! Cells.
 ghost use Rattle.std.specs.Prelude.{◌≡◌, length};
-ghost use Rattle.mc_cells.specs.Chain.{cell_of, next_of};
+ghost use Rattle.mc_cells.specs.Chain.{cell_of};
 
 use crate::CELL_BYTES;
 
-/// A piece of a value, and the number of the cell with the next piece. It is an array of bytes, so
-/// that a cell takes 64 bytes in its slab, with the slab's mark.
+/// A piece of a value, and the number of the cell with the next piece. A vacant cell has the
+/// number of the next vacant one.
 #[derive(Clone, Copy)]
 pub(crate) struct Cell {
-    next: [u8; 4],
+    pub(crate) next: u32,
     pub(crate) bytes: [u8; CELL_BYTES],
 }
 
-const _: () = prove!(size_of::<Cell>() == 63);
+const _: () = prove!(size_of::<Cell>() == 64);
 
 impl Cell {
     /// A cell before the one with the number `next`.
     pub(crate) fn new(next: u32, bytes: [u8; CELL_BYTES]) -> Cell
         ensures cell { result ≡ cell_of next bytes }
-        ensures next { next_of result ≡ next }
         ensures whole { length result.bytes ≡ CELL_BYTES }
     {
-        Cell {
-            next: next.to_le_bytes(),
-            bytes,
-        }
-    }
-
-    /// The number of the next cell.
-    pub(crate) fn next(&self) -> u32
-        ensures { result ≡ next_of self.now }
-    {
-        u32::from_le_bytes(self.next)
+        Cell { next, bytes }
     }
 
     /// The bytes of the piece.

@@ -5,10 +5,10 @@ ghost use Rattle.mc_cells.specs.Kept.{KeptValue, cells_of, slots_of};
 ghost use Rattle.mc_cells.specs.Contents.{AreKept, HasRoom, HasValue, value_at, with_room};
 
 use crate::LONG_VALUE;
-use crate::cell::Cell;
 use crate::chain::{keep_chain, piece_count, remove_chain};
 use crate::page::{append_short, read_short};
 use crate::place::Place;
+use crate::pool::CellPool;
 use bytes::{Bytes, BytesMut};
 use slab::Slab;
 use std::alloc::{AllocError, Global};
@@ -24,7 +24,7 @@ const MAX_CELLS: usize = 4_294_967_296;
 pub struct Cells {
     alloc: Global,
     /// Pieces of short values.
-    cells: Slab<Cell>,
+    cells: CellPool,
     /// Long values.
     long: Slab<Bytes>,
     /// The bytes of short values that are read are cut off it. It has room for values to come.
@@ -64,7 +64,7 @@ impl Cells {
     {
         Cells {
             alloc,
-            cells: Slab::new(alloc),
+            cells: CellPool::new(alloc),
             long: Slab::new(alloc),
             page: BytesMut::new(alloc),
         }
@@ -188,7 +188,7 @@ impl Cells {
         self.long.clear();
     }
 
-    /// How many cells are in use: each short value takes one for every 59 bytes of it, and one for
+    /// How many cells are in use: each short value takes one for every 60 bytes of it, and one for
     /// the rest.
     pub fn cells_used(&self) -> usize
         ensures used { (kept : List KeptValue) → AreKept self.now kept →

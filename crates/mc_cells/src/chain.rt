@@ -1,12 +1,12 @@
 //! Chains of cells.
 ghost use Rattle.std.specs.Prelude.{◌≡◌, ◌+◌, ◌-◌, ◌*◌, ◌<◌, ◌≤◌, ◌^◌, ℕ, List, ◌∷◌, ◌++◌, length, take, drop, is_some, IsSome, count_by};
-ghost use Rattle.slab.specs.Slab.{HasRoomFor};
 ghost use Rattle.mc_cells.specs.Chain.{cell_at, pieces, IsChain};
+ghost use Rattle.mc_cells.specs.Pool.{HasRoomFor};
 ghost use Rattle.mc_cells.specs.Kept.{CellsHold, IsBeside, KeptValue, place_at};
 
 use crate::cell::Cell;
+use crate::pool::CellPool;
 use crate::{CELL_BYTES, LONG_VALUE};
-use slab::Slab;
 
 /// How many cells a short value of this many bytes takes.
 pub(crate) fn piece_count(len: usize) -> usize
@@ -17,7 +17,7 @@ pub(crate) fn piece_count(len: usize) -> usize
 }
 
 /// Puts a piece before the chain that begins at `next`, and returns its cell's number.
-fn add_cell(cells: &mut Slab<Cell>, next: u32, bytes: [u8; CELL_BYTES]) -> u32
+fn add_cell(cells: &mut CellPool, next: u32, bytes: [u8; CELL_BYTES]) -> u32
     requires room { HasRoomFor cells.old 1 }
     requires few { cells.old.capacity ≤ 2 ^ 32 }
     ensures before { (text : List ℕ) (kept : List KeptValue) →
@@ -31,11 +31,11 @@ fn add_cell(cells: &mut Slab<Cell>, next: u32, bytes: [u8; CELL_BYTES]) -> u32
     ensures len { count_by is_some cells.new.slots ≡ count_by is_some cells.old.slots + 1 }
     ensures capacity { cells.new.capacity ≡ cells.old.capacity }
 {
-    cells.insert_reserved(Cell::new(next, bytes)) as u32
+    cells.insert_reserved(Cell::new(next, bytes))
 }
 
 /// Removes the first cell of a chain, and returns the number of the next.
-fn take_cell(cells: &mut Slab<Cell>, first: u32) -> u32
+fn take_cell(cells: &mut CellPool, first: u32) -> u32
     requires { IsSome (cell_at cells.old.slots first) }
     ensures chain { (count : ℕ) → 0 < count → IsChain cells.old.slots count first →
         IsChain cells.new.slots (count - 1) result }
@@ -44,7 +44,7 @@ fn take_cell(cells: &mut Slab<Cell>, first: u32) -> u32
         IsBeside cells.new.slots (count - 1) result kept }
     ensures capacity { cells.new.capacity ≡ cells.old.capacity }
 {
-    cells.remove(first as usize).next()
+    cells.remove(first)
 }
 
 /// The piece that begins at `start`.
@@ -68,7 +68,7 @@ fn last_piece(bytes: &[u8]) -> [u8; CELL_BYTES]
 }
 
 /// Keeps the last piece of a value, if it isn't whole. Returns its cell's number.
-fn keep_last(cells: &mut Slab<Cell>, bytes: &[u8]) -> u32
+fn keep_last(cells: &mut CellPool, bytes: &[u8]) -> u32
     requires short { length bytes.now ≤ CELL_BYTES }
     requires room { HasRoomFor cells.old (pieces (length bytes.now)) }
     requires few { cells.old.capacity ≤ 2 ^ 32 }
@@ -87,7 +87,7 @@ fn keep_last(cells: &mut Slab<Cell>, bytes: &[u8]) -> u32
 
 /// Keeps a value in a chain of cells, and returns the number of the first. The chain is made from
 /// its last cell to its first, so that each is written once.
-pub(crate) fn keep_chain(cells: &mut Slab<Cell>, bytes: &[u8]) -> u32
+pub(crate) fn keep_chain(cells: &mut CellPool, bytes: &[u8]) -> u32
     requires short { length bytes.now < LONG_VALUE }
     requires room { HasRoomFor cells.old (pieces (length bytes.now)) }
     requires few { cells.old.capacity ≤ 2 ^ 32 }
@@ -107,7 +107,7 @@ pub(crate) fn keep_chain(cells: &mut Slab<Cell>, bytes: &[u8]) -> u32
 }
 
 /// Removes the cells of a chain.
-pub(crate) fn remove_chain(cells: &mut Slab<Cell>, first: u32, count: usize)
+pub(crate) fn remove_chain(cells: &mut CellPool, first: u32, count: usize)
     requires { IsChain cells.old.slots count first }
     ensures removed { (kept : List KeptValue) → IsBeside cells.old.slots count first kept →
         CellsHold cells.new.slots kept }

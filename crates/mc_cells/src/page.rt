@@ -2,18 +2,17 @@
 ghost use Rattle.std.specs.Prelude.{◌≡◌, ◌+◌, ◌*◌, ◌<◌, ◌≤◌, [], ◌++◌, length, take, vec_len, vec_capacity, IfOk, OnOk, OnErr};
 ghost use Rattle.mc_cells.specs.Chain.{pieces, IsChain, chain_bytes};
 
-use crate::cell::Cell;
 use crate::chain::piece_count;
+use crate::pool::CellPool;
 use crate::{CELL_BYTES, LONG_VALUE};
 use bytes::{Bytes, BytesMut};
-use slab::Slab;
 use std::alloc::{AllocError, Global};
 
 /// Size of a page in bytes.
 const PAGE_BYTES: usize = 32_768;
 
 /// Appends the bytes of a chain's cells to a page. Each copy is of one size that is known ahead.
-fn read_chain(cells: &Slab<Cell>, first: u32, count: usize, page: &mut BytesMut)
+fn read_chain(cells: &CellPool, first: u32, count: usize, page: &mut BytesMut)
     requires chain { IsChain cells.now.slots count first }
     requires room { count * CELL_BYTES ≤ page.old.spare }
     ensures bytes { page.new.items ≡
@@ -23,9 +22,9 @@ fn read_chain(cells: &Slab<Cell>, first: u32, count: usize, page: &mut BytesMut)
     let mut at = first;
     let mut left = count;
     while left > 0 {
-        let cell = &cells[at as usize];
+        let cell = cells.get(at);
         page.extend_reserved(cell.bytes());
-        at = cell.next();
+        at = cell.next;
         left -= 1;
     }
 }
@@ -47,7 +46,7 @@ fn make_room(page: &mut BytesMut, len: usize, alloc: Global) -> Result<(), Alloc
 /// The value of a chain of cells, cut off the page. Whole cells are copied, and then what the last
 /// has behind the value is cut off.
 pub(crate) fn read_short(
-    cells: &Slab<Cell>,
+    cells: &CellPool,
     first: u32,
     len: usize,
     page: &mut BytesMut,
@@ -66,7 +65,7 @@ pub(crate) fn read_short(
 }
 
 /// Appends the bytes of a chain's cells. There is room for them.
-fn append_cells(cells: &Slab<Cell>, first: u32, count: usize, out: &mut Vec<u8>)
+fn append_cells(cells: &CellPool, first: u32, count: usize, out: &mut Vec<u8>)
     requires chain { IsChain cells.now.slots count first }
     requires room { vec_len out.old + count * CELL_BYTES ≤ vec_capacity out.old }
     ensures { out.new.items ≡ out.old.items ++ chain_bytes cells.now.slots count first }
@@ -74,17 +73,17 @@ fn append_cells(cells: &Slab<Cell>, first: u32, count: usize, out: &mut Vec<u8>)
     let mut at = first;
     let mut left = count;
     while left > 0 {
-        let cell = &cells[at as usize];
+        let cell = cells.get(at);
         // It never fails, since there is room.
         let _ = out.extend_from_slice(cell.bytes());
-        at = cell.next();
+        at = cell.next;
         left -= 1;
     }
 }
 
 /// Appends the value of a chain of cells. If memory is refused, nothing is appended.
 pub(crate) fn append_short(
-    cells: &Slab<Cell>,
+    cells: &CellPool,
     first: u32,
     len: usize,
     out: &mut Vec<u8>,

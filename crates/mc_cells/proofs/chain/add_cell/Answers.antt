@@ -1,7 +1,6 @@
 use Rattle.std.proofs.Common.{◌≡◌, ap}
-use Rattle.mc_cells.specs.Chain.{next_of}
 use Rattle.mc_cells.specs.declared.cell.Cell.{Cell}
-use Rattle.mc_cells.proofs.Added.{inserted, piece_before, last_piece}
+use Rattle.mc_cells.proofs.Added.{piece_before, last_piece}
 use Rattle.mc_cells.proofs.chain.add_cell.Goals as goal
 
 pub returns-clause-before : goal.returns-clause-before
@@ -11,10 +10,9 @@ returns-clause-before c =
     let new = c.insert_reserved.new.self in
     let number = c.insert_reserved.result in
     let cell = c.new.result in
-    let by = c.insert_reserved.ensures in
-    let added = inserted old new number cell by.was_vacant by.updates by.len in
+    let added = c.insert_reserved.ensures.added in
     let bytes : cell.bytes ≡ c.args.bytes = ap (λ (cell : Cell). cell.bytes) c.new.ensures.cell in
-    let next : next_of cell ≡ c.args.next = c.new.ensures.next in
+    let next : cell.next ≡ c.args.next = ap (λ (cell : Cell). cell.next) c.new.ensures.cell in
     let whole = c.new.ensures.whole in
     rw (← bytes) (piece_before old.slots new.slots number cell text kept added whole short (rw next hold))
 
@@ -25,7 +23,6 @@ returns-clause-last c =
     let new = c.insert_reserved.new.self in
     let number = c.insert_reserved.result in
     let cell = c.new.result in
-    let by = c.insert_reserved.ensures in
-    let added = inserted old new number cell by.was_vacant by.updates by.len in
+    let added = c.insert_reserved.ensures.added in
     let bytes : cell.bytes ≡ c.args.bytes = ap (λ (cell : Cell). cell.bytes) c.new.ensures.cell in
     rw (← bytes) (last_piece old.slots new.slots number cell len kept added c.new.ensures.whole some one hold)

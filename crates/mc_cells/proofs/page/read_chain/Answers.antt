@@ -1,6 +1,6 @@
 use Rattle.std.proofs.Common.{◌≡◌, ◌-◌, ◌++◌, Some, ◌∙◌, ap, sym}
 use Rattle.std.proofs.Common.{arith, rules, append_assoc, length, length-append}
-use Rattle.mc_cells.specs.Chain.{cell_at, next_of, chain_bytes}
+use Rattle.mc_cells.specs.Chain.{cell_at, chain_bytes}
 use Rattle.mc_cells.proofs.Taken.{bytes_behind, rest_is_chain}
 use Rattle.mc_cells.proofs.page.read_chain.Goals as goal
 
@@ -9,15 +9,13 @@ loop-left-preserved c =
     let before = c.loop-left.invariant in
     let some = c.loop-left-test.true in
     let slots = c.args.cells.now.slots in
-    let cell = c.index-cell.result.now in
-    let here : cell_at slots c.loop-left.at ≡ Some cell = search rules in
-    let next = c.next-at.ensures in
+    let cell = c.get-cell.result.now in
+    let here : cell_at slots c.loop-left.at ≡ Some cell = c.get-cell.ensures in
     let src = c.bytes.result.now in
-    let whole : length src ≡ 59 = c.bytes.ensures.whole in
+    let whole : length src ≡ 60 = c.bytes.ensures.whole in
     let same : src ≡ cell.bytes = c.bytes.ensures.bytes in
     let written = c.extend_reserved.ensures in
-    let behind = bytes_behind slots c.loop-left.at c.loop-left.left cell some here in
-    rw next (
+    let behind = bytes_behind slots c.loop-left.at c.loop-left.left cell some here in (
       rest_is_chain slots c.loop-left.at c.loop-left.left cell some here before.0,
       omega (arith, written.spare, before.1, some, whole),
       omega (
@@ -29,6 +27,6 @@ loop-left-preserved c =
         whole,
       ),
       rw (written.items, same)
-          (append_assoc c.loop-left.page.items cell.bytes (chain_bytes slots (c.loop-left.left - 1) (next_of cell))
+          (append_assoc c.loop-left.page.items cell.bytes (chain_bytes slots (c.loop-left.left - 1) cell.next)
           ∙ ap (λ xs. c.loop-left.page.items ++ xs) (sym behind) ∙ before.3),
     )

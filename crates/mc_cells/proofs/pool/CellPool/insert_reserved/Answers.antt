@@ -1,0 +1,42 @@
+use Rattle.std.proofs.Common.{◌≡◌, ◌<◌, Some, map, arith, length, sym}
+use Rattle.std.proofs.lemmas.List.{map-set}
+use Rattle.mc_cells.specs.declared.cell.Cell.{Cell}
+use Rattle.mc_cells.proofs.Vacant.{pool_count, reused, read_is, first_in_vector}
+use Rattle.mc_cells.proofs.pool.CellPool.insert_reserved.Goals as goal
+
+pub overflow_cast-number : goal.overflow_cast-number
+overflow_cast-number c =
+    let fields = c.self.inside in
+    let room = rw (← c.self.view_is) at c.requires.room in
+    let few = rw (← c.self.view_is) at c.requires.few in
+    let count = pool_count fields.cells.items fields.vacant fields.free c.self.invariant in
+    omega (arith, room, few, count, c.if-self-eq0.true, c.len-number.ensures)
+
+pub push_reserved-requires : goal.push_reserved-requires
+push_reserved-requires c =
+    let fields = c.self.inside in
+    let room = rw (← c.self.view_is) at c.requires.room in
+    let count = pool_count fields.cells.items fields.vacant fields.free c.self.invariant in
+    omega (arith, room, count, c.if-self-eq0.true, fields.cells.ok)
+
+pub invariant_of-self-2 : goal.invariant_of-self-2
+invariant_of-self-2 c =
+    let fields = c.self.inside in
+    let cells = fields.cells.items in
+    let was = c.index.result.now in
+    let some : 0 < fields.vacant = omega (arith, c.if-self-eq0.false) in
+    let inside = first_in_vector cells fields.vacant fields.free some c.self.invariant in
+    let here = read_is cells fields.free was inside c.index.ensures in
+    rw (map-set (λ (cell : Cell). Some cell) cells fields.free c.args.cell)
+    ((reused (map Some cells) fields.vacant fields.free c.args.cell was some c.self.invariant here).chain)
+
+pub returns-clause-added : goal.returns-clause-added
+returns-clause-added c =
+    let fields = c.self.inside in
+    let cells = fields.cells.items in
+    let was = c.index.result.now in
+    let some : 0 < fields.vacant = omega (arith, c.if-self-eq0.false) in
+    let inside = first_in_vector cells fields.vacant fields.free some c.self.invariant in
+    let here = read_is cells fields.free was inside c.index.ensures in
+    rw (← c.self.view_is, map-set (λ (cell : Cell). Some cell) cells fields.free c.args.cell)
+    ((reused (map Some cells) fields.vacant fields.free c.args.cell was some c.self.invariant here).added)
