@@ -5,3 +5,4 @@ pub mod Held
 pub mod Pieces
 pub mod Places
 pub mod Vacant
+pub mod Rows

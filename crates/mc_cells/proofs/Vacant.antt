@@ -1,13 +1,13 @@
 -- The cells in use are those that the chain of the vacant ones does not pass.
-use Rattle.std.proofs.Common.{◌≡◌, ◌≢◌, ℕ, zero, suc, ◌+◌, ◌-◌, ◌<◌, ◌≤◌, cond, eqb, inl, inr, List, [], ◌∷◌, ◌++◌, length, map, set}
+use Rattle.std.proofs.Common.{◌≡◌, ℕ, zero, suc, ◌+◌, ◌-◌, ◌<◌, cond, eqb, inl, inr, List, [], ◌∷◌, length, map, set}
 use Rattle.std.proofs.Common.{Option, Some, None, is_some, IsSome, count_by, get_or, refl, sym, ap, ◌∙◌, arith, ne_eqb, length-set, true≢false}
 use Rattle.std.proofs.lemmas.Bool.{cases_eq}
-use Rattle.std.proofs.lemmas.List.{get_or-set_same, get_or-set_other, get_or_past, get_or-map, get_or_push, set_comm, set-set}
-use Rattle.std.proofs.lemmas.List.{map-set, map_push, length-map}
-use Rattle.std.proofs.lemmas.List.Sums.{sum_by-cons, sum_by-set, sum_by_push}
+use Rattle.std.proofs.lemmas.List.{get_or-set_same, get_or-set_other, get_or_past, get_or-map, set_comm, set-set}
+use Rattle.std.proofs.lemmas.List.{map-set, length-map}
+use Rattle.std.proofs.lemmas.List.Sums.{sum_by-cons, sum_by-set}
 use Rattle.mc_cells.specs.declared.cell.Cell.{Cell}
 use Rattle.mc_cells.specs.Chain.{Slots, cell_at, next_in, passes, IsChain}
-use Rattle.mc_cells.specs.Pool.{IsAdded, IsRemoved, vacate}
+use Rattle.mc_cells.specs.Pool.{IsAdded, vacate}
 use Rattle.mc_cells.proofs.Chains.{first_apart, chain_unchanged}
 
 -- a slot that is emptied has nothing
@@ -17,7 +17,7 @@ emptied (slot ∷ slots) zero = refl
 emptied (slot ∷ slots) (suc at) = emptied slots at
 
 -- the chain does not pass a cell in use
-pub in_use_apart : (all : Slots) (number count at : ℕ) → IsSome (cell_at (vacate all count at) number)
+in_use_apart : (all : Slots) (number count at : ℕ) → IsSome (cell_at (vacate all count at) number)
     → passes all number count at ≡ 0
 in_use_apart all number zero at some = refl
 in_use_apart all number (suc count) at some =
@@ -32,7 +32,7 @@ in_use_apart all number (suc count) at some =
     ]
 
 -- a cell that the chain does not pass is in use, if it is any
-pub apart_in_use : (all : Slots) (number count at : ℕ) → passes all number count at ≡ 0
+apart_in_use : (all : Slots) (number count at : ℕ) → passes all number count at ≡ 0
     → cell_at (vacate all count at) number ≡ cell_at all number
 apart_in_use all number zero at none = refl
 apart_in_use all number (suc count) at none =
@@ -42,14 +42,14 @@ apart_in_use all number (suc count) at none =
     ∙ apart_in_use all number count next (omega (arith, none))
 
 -- the vector's length
-pub vacate_length : (all : Slots) (count at : ℕ) → length (vacate all count at) ≡ length all
+vacate_length : (all : Slots) (count at : ℕ) → length (vacate all count at) ≡ length all
 vacate_length all zero at = refl
 vacate_length all (suc count) at =
     let next = next_in (cell_at all at) in
     length-set (vacate all count next) at None ∙ vacate_length all count next
 
 -- a change of a cell that the chain does not pass
-pub vacate_set : (all : Slots) (number count at : ℕ) (slot : Option Cell) → passes all number count at ≡ 0
+vacate_set : (all : Slots) (number count at : ℕ) (slot : Option Cell) → passes all number count at ≡ 0
     → vacate (set all number slot) count at ≡ set (vacate all count at) number slot
 vacate_set all number zero at slot none = refl
 vacate_set all number (suc count) at slot none =
@@ -60,7 +60,7 @@ vacate_set all number (suc count) at slot none =
     (set_comm (vacate all count next) number at slot None (λ same. apart (sym same)))
 
 -- a cell is in use or vacant
-pub vacate_count : (all : Slots) (count at : ℕ) → IsChain all count at
+vacate_count : (all : Slots) (count at : ℕ) → IsChain all count at
     → count_by is_some (vacate all count at) + count ≡ count_by is_some all
 vacate_count all zero at chain = omega arith
 vacate_count all (suc count) at chain =
@@ -78,7 +78,7 @@ vacate_count all (suc count) at chain =
     )
 
 -- all cells of a vector
-pub all_count : (cells : List Cell) → count_by is_some (map Some cells) ≡ length cells
+all_count : (cells : List Cell) → count_by is_some (map Some cells) ≡ length cells
 all_count [] = refl
 all_count (cell ∷ cells) =
     omega (arith, sum_by-cons (λ (slot : Option Cell). cond (is_some slot) 1 0) (Some cell) (map Some cells), all_count cells)
@@ -89,7 +89,7 @@ pub pool_count : (cells : List Cell) (vacant free : ℕ) → IsChain (map Some c
 pool_count cells vacant free chain = vacate_count (map Some cells) vacant free chain ∙ all_count cells
 
 -- a cell that there is has a number within the vector
-pub within : (slots : Slots) (number : ℕ) (cell : Cell) → cell_at slots number ≡ Some cell → number < length slots
+within : (slots : Slots) (number : ℕ) (cell : Cell) → cell_at slots number ≡ Some cell → number < length slots
 within slots number cell here = grind (arith, get_or_past, here)
 
 -- the vacant cells but the first, and what is in use then
@@ -130,7 +130,7 @@ pub record IsVacated (all new : Slots) (vacant free number : ℕ) (cell : Cell) 
   pub removed : IsAdded (vacate new (vacant + 1) number) (vacate all vacant free) number cell
 
 -- A cell in use is put before the vacant ones.
-pub vacated : (all : Slots) (vacant free number : ℕ) (cell changed : Cell) → IsChain all vacant free
+vacated : (all : Slots) (vacant free number : ℕ) (cell changed : Cell) → IsChain all vacant free
     → cell_at (vacate all vacant free) number ≡ Some cell → changed.next ≡ free
     → IsVacated all (set all number (Some changed)) vacant free number cell
 vacated all vacant free number cell changed chain here links =
@@ -156,7 +156,7 @@ vacated all vacant free number cell changed chain here links =
       });
     }
 
--- The same, of a vector.
+-- A cell of a vector that is in use is put before the vacant ones.
 pub vacated_in : (cells : List Cell) (vacant free number : ℕ) (cell changed : Cell)
     → IsChain (map Some cells) vacant free → cell_at (vacate (map Some cells) vacant free) number ≡ Some cell
     → changed.next ≡ free
@@ -164,27 +164,6 @@ pub vacated_in : (cells : List Cell) (vacant free number : ℕ) (cell changed : 
 vacated_in cells vacant free number cell changed chain here links =
     rw (map-set (λ (cell : Cell). Some cell) cells number changed)
     (vacated (map Some cells) vacant free number cell changed chain here links)
-
--- a slot behind the others changes none of them
-behind_others : (slots : Slots) (slot : Option Cell) (other : ℕ) → other ≢ length slots
-    → cell_at (slots ++ slot ∷ []) other ≡ cell_at slots other
-behind_others [] slot zero apart = absurd (apart refl)
-behind_others [] slot (suc other) apart = refl
-behind_others (first ∷ slots) slot zero apart = refl
-behind_others (first ∷ slots) slot (suc other) apart = behind_others slots slot other (λ same. apart (ap suc same))
-
--- A cell is put behind the others, none of which is vacant.
-pub pushed : (cells : List Cell) (cell : Cell)
-    → IsAdded (map Some cells) (map Some (cells ++ cell ∷ [])) (length cells) cell
-pushed cells cell =
-    let all = map Some cells in
-    let long = length-map cells (λ (cell : Cell). Some cell) in
-    rw (map_push (λ (cell : Cell). Some cell) cells cell) (record {
-      vacant = get_or_past all (length cells) None (omega (arith, long));
-      here = get_or_push all (Some cell) None (length cells) long;
-      others = λ other apart. behind_others all (Some cell) other (λ same. apart (same ∙ long));
-      counted = sum_by_push (λ (slot : Option Cell). cond (is_some slot) 1 0) all (Some cell);
-    })
 
 -- what a read of the vector gives
 pub read_is : (cells : List Cell) (number : ℕ) (cell : Cell) → number < length cells → cell ≡ get_or cells number cell

@@ -7,7 +7,8 @@ use crate::cell::Cell;
 use std::alloc::{AllocError, Global};
 use std::marker::Model;
 
-/// Memory grows by so many cells at least, 1 MiB. Doubling would take twice what is needed.
+/// Memory grows by so many cells at least, 1 MiB. A large block is grown in place or its pages are
+/// moved, so that nothing is copied, and doubling would reserve up to twice what is needed.
 const GROWTH: usize = 16_384;
 
 /// Cells, by their numbers.

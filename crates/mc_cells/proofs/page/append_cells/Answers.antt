@@ -1,4 +1,4 @@
-use Rattle.std.proofs.Common.{◌≡◌, ◌+◌, ◌-◌, ◌++◌, Some, ◌∙◌, ap, sym, arith, rules, append_assoc, length}
+use Rattle.std.proofs.Common.{◌≡◌, ◌+◌, ◌-◌, ◌++◌, Some, ◌∙◌, ap, sym, arith, append_assoc, length}
 use Rattle.std.specs.Prelude.{vec_len, IsOk}
 use Rattle.mc_cells.specs.Chain.{cell_at, chain_bytes}
 use Rattle.mc_cells.proofs.Taken.{bytes_behind, rest_is_chain}

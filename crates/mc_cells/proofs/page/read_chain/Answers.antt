@@ -1,5 +1,5 @@
 use Rattle.std.proofs.Common.{◌≡◌, ◌-◌, ◌++◌, Some, ◌∙◌, ap, sym}
-use Rattle.std.proofs.Common.{arith, rules, append_assoc, length, length-append}
+use Rattle.std.proofs.Common.{arith, append_assoc, length, length-append}
 use Rattle.mc_cells.specs.Chain.{cell_at, chain_bytes}
 use Rattle.mc_cells.proofs.Taken.{bytes_behind, rest_is_chain}
 use Rattle.mc_cells.proofs.page.read_chain.Goals as goal

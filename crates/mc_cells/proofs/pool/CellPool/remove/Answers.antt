@@ -1,5 +1,4 @@
-use Rattle.std.proofs.Common.{◌≡◌, ◌+◌, suc, Some, IsSome, map, arith, length, refl}
-use Rattle.mc_cells.specs.declared.cell.Cell.{Cell}
+use Rattle.std.proofs.Common.{arith, refl}
 use Rattle.mc_cells.specs.Chain.{cell_of}
 use Rattle.mc_cells.proofs.Vacant.{pool_count, in_vector, read_in_use, vacated_in}
 use Rattle.mc_cells.proofs.pool.CellPool.remove.Goals as goal

@@ -1,5 +1,4 @@
-use Rattle.std.proofs.Common.{◌≡◌, ◌+◌, ◌≤◌, ap, arith, is_some, count_by, length}
-use Rattle.std.specs.Prelude.{vec_capacity}
+use Rattle.std.proofs.Common.{ap, arith}
 use Rattle.mc_cells.specs.Pool.{Pool}
 use Rattle.mc_cells.proofs.Vacant.{pool_count}
 use Rattle.mc_cells.proofs.pool.CellPool.reserve.Goals as goal
