@@ -1,5 +1,5 @@
 //! The cells of a shard, whether in use or vacant.
-ghost use Rattle.std.specs.Prelude.{◌≡◌, ◌+◌, ◌≤◌, ◌^◌, ℕ, [], Some, IsSome, IsOk, OnOk, is_some, count_by};
+ghost use Rattle.std.specs.Prelude.{◌≡◌, ◌+◌, ◌≤◌, ◌^◌, [], Some, IsSome, IsOk, OnOk, is_some, count_by};
 ghost use Rattle.mc_cells.specs.Chain.{cell_at};
 ghost use Rattle.mc_cells.specs.Pool.{HasRoomFor, IsAdded, IsRemoved};
 
