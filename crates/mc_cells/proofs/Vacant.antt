@@ -1,6 +1,7 @@
 -- The cells in use are those that the chain of the vacant ones does not pass.
 use Rattle.std.proofs.Common.{◌≡◌, ℕ, zero, suc, ◌+◌, ◌-◌, ◌<◌, cond, eqb, inl, inr, List, [], ◌∷◌, length, map, set}
-use Rattle.std.proofs.Common.{Option, Some, None, is_some, IsSome, count_by, get_or, refl, sym, ap, ◌∙◌, arith, ne_eqb, length-set, true≢false}
+use Rattle.std.proofs.Common.{Option, Some, None, is_some, IsSome, count_by, get_or, refl, sym, ap, ◌∙◌, arith}
+use Rattle.std.proofs.Common.{ne_eqb, length-set, true≢false}
 use Rattle.std.proofs.lemmas.Bool.{cases_eq}
 use Rattle.std.proofs.lemmas.List.{get_or-set_same, get_or-set_other, get_or_past, get_or-map, set_comm, set-set}
 use Rattle.std.proofs.lemmas.List.{map-set, length-map}
@@ -81,7 +82,11 @@ vacate_count all (suc count) at chain =
 all_count : (cells : List Cell) → count_by is_some (map Some cells) ≡ length cells
 all_count [] = refl
 all_count (cell ∷ cells) =
-    omega (arith, sum_by-cons (λ (slot : Option Cell). cond (is_some slot) 1 0) (Some cell) (map Some cells), all_count cells)
+    omega (
+      arith,
+      sum_by-cons (λ (slot : Option Cell). cond (is_some slot) 1 0) (Some cell) (map Some cells),
+      all_count cells,
+    )
 
 -- how many cells of a vector are in use
 pub pool_count : (cells : List Cell) (vacant free : ℕ) → IsChain (map Some cells) vacant free

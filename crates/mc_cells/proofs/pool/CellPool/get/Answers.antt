@@ -5,7 +5,8 @@ use Rattle.mc_cells.proofs.pool.CellPool.get.Goals as goal
 pub index-requires : goal.index-requires
 index-requires c =
     let fields = c.self.inside in
-    let inside = in_vector fields.cells.items fields.vacant fields.free c.args.number (rw (← c.self.view_is) at c.requires) in
+    let inside = in_vector fields.cells.items fields.vacant fields.free c.args.number (rw (← c.self.view_is) at
+    c.requires) in
     omega (arith, inside, fields.cells.ok)
 
 pub returns : goal.returns
