@@ -33,8 +33,7 @@ use Rattle.mc_ring.proofs.request.Request.TheSendSync as request_sent
 use Rattle.mc_ring.proofs.reply.Reply.TheSendSync as reply_sent
 use Rattle.mc_transport.specs.declared.clerk.Clerk.{Ghosts as ClerkGhosts}
 use Rattle.mc_transport.specs.declared.warrant.Warrant.{Ghosts as WarrantGhosts}
-use Rattle.mc_transport.specs.contracts.buffered_conn.BufferedConn as buffered_conn
-use Rattle.mc_transport.proofs.buffered_conn.BufferedConn.TheSendSync as buffered_conn_sent
+use Rattle.mc_transport.proofs.line_buffers.LineBuffers.TheSendSync as line_buffers_sent
 use Rattle.mc_worker.specs.declared.scribe.Scribe.{Ghosts as ScribeGhosts}
 use Rattle.mc_worker.specs.contracts.worker.Pending as pending
 use Rattle.mc_worker.proofs.worker.Pending.TheSendSync as pending_sent
@@ -139,7 +138,7 @@ module _ (T C : RattleType) (tokens : TokenGhosts T.Denot) (warrants : WarrantGh
   session_send =
       declared_send (session.the_type T C warrants clerk tokens) (
         search (sendable, crosses) depth 20,
-        (shard_link_send, (sizes_send, (option.the_send buffered_conn.the_row buffered_conn_sent.the_send, tt))),
+        (shard_link_send, (sizes_send, (line_buffers_sent.the_send, tt))),
       )
 
 -- A worker can be sent to another thread if its tokens and its scribe can.

@@ -10,19 +10,22 @@ use crate::shard_link::ShardLink;
 use mc_poll::Wakers;
 use mc_ring::SeatEnds;
 use mc_sizes::Sizes;
-use mc_transport::{BufferPool, BufferedConn, Clerk, Clock, LineStep, Transport, Warrant};
+use mc_transport::{
+    BufferPool, BufferedConn, Clerk, Clock, LineBuffers, LineStep, Transport, Warrant, new_buffers,
+};
 use std::alloc::{AllocError, Global};
 
 /// A seat that serves lines one after another. Until the first line comes it has only its ends of
-/// the channels; the buffers of a line are allocated then, and reused for the lines that follow. A
-/// clerk records what the lines' connections take.
+/// the channels. The buffers of a line are the thread's while the line is at rest. A clerk
+/// records what the lines' connections take.
 pub struct Session<T: Warrant = (), C: Clerk<T> = ()> {
     alloc: Global,
     pub(crate) shard_link: ShardLink<T, C>,
     /// By which its buffers are allocated.
     sizes: Sizes,
-    /// The connection and the buffers of the line, once the first has come.
-    buffered_conn: Option<BufferedConn>,
+    /// The connection of the line, once the first has come. It has buffers while something is under
+    /// way.
+    buffered_conn: LineBuffers,
     ghost suited: { SuitLines sizes },
     ghost ring: { shard_link.places ≡ sizes.ring },
 }
@@ -81,7 +84,7 @@ impl<T: Warrant + Drop, C: Clerk<T> + Drop> Session<T, C> {
             alloc,
             shard_link,
             sizes,
-            buffered_conn: None,
+            buffered_conn: LineBuffers::new(),
         })
     }
 
@@ -92,6 +95,7 @@ impl<T: Warrant + Drop, C: Clerk<T> + Drop> Session<T, C> {
         &mut self,
         line: &mut L,
         clock: &K,
+        pool: &mut BufferPool,
     ) -> Result<(), AllocError>
         requires new { L.place line.old ≡ unbegun (session_history self.old) }
         ensures serving { OnOk result
@@ -108,32 +112,34 @@ impl<T: Warrant + Drop, C: Clerk<T> + Drop> Session<T, C> {
         ensures ends { seat_ends self.new ≡ seat_ends self.old }
         ensures ring { seat_ring self.new ≡ seat_ring self.old }
     {
-        let mut buffered_conn = self.take_buffered_conn()?;
+        let mut buffered_conn = self.take_buffered_conn(pool)?;
         self.shard_link.begin_line(line);
         buffered_conn.take_all(clock);
-        self.buffered_conn = Some(buffered_conn);
+        self.buffered_conn.hold(buffered_conn);
         Ok(())
     }
 
-    /// Takes out the connection and the buffers of the line, which are allocated for the first line.
-    fn take_buffered_conn(&mut self) -> Result<BufferedConn, AllocError>
+    /// Takes out the connection with its buffers, which are allocated for the first line.
+    fn take_buffered_conn(&mut self, pool: &mut BufferPool) -> Result<Box<BufferedConn>, AllocError>
         ensures new { IfOk result (λ buffered_conn.
             (rules : Rules) (window : ℕ) → IsVacant rules window self.old →
-            IsNew (length (seat_ends self.old).channels) rules window buffered_conn) }
+            IsNew (length (seat_ends self.old).channels) rules window buffered_conn.value) }
         ensures refused { OnErr result (self.new ≡ self.old) }
         ensures shard_link { self.new.shard_link ≡ self.old.shard_link }
     {
-        let Some(_) = &self.buffered_conn else {
-            return BufferedConn::new(self.alloc, self.sizes);
-        };
-        let Some(buffered_conn) = self.buffered_conn.take() else {
-            unreachable!()
-        };
-        Ok(buffered_conn)
+        if self.buffered_conn.is_unused() {
+            return new_buffers(self.alloc, self.sizes);
+        }
+        match self.buffered_conn.take(self.alloc, self.sizes, pool) {
+            Some(buffered_conn) => Ok(buffered_conn),
+            None => Err(AllocError),
+        }
     }
 
     /// Serves the line a step further, as [`ShardLink::step`] does. At each moment at most
-    /// `sizes.ring` of its pieces are under way to each shard.
+    /// `sizes.ring` of its pieces are under way to each shard. A line at rest takes buffers from the
+    /// pool, and one that comes to rest returns them. If memory for them is refused, the line is as
+    /// before, and the next step tries again.
     pub fn step<L: Transport<Warrant = T>, K: Clock>(
         &mut self,
         line: &mut L,
@@ -160,15 +166,21 @@ impl<T: Warrant + Drop, C: Clerk<T> + Drop> Session<T, C> {
             IsLineAt rules (L.place line.new) begin self.new }
         ensures history { session_history self.new ≡ session_history self.old }
     {
-        let Some(buffered_conn) = &mut self.buffered_conn else {
-            unreachable!()
+        let taken = self.buffered_conn.take(self.alloc, self.sizes, pool);
+        let Some(mut buffered_conn) = taken else {
+            return LineStep::Did;
         };
-        self.shard_link.step(buffered_conn, line, clock, pool)
+        let step = self.shard_link.step(&mut *buffered_conn, line, clock, pool);
+        match step {
+            LineStep::Waits => self.buffered_conn.put(buffered_conn, pool),
+            LineStep::Did | LineStep::Ended(_) => self.buffered_conn.hold(buffered_conn),
+        }
+        step
     }
 
     /// Resets it for the next line if the last one has ended and nothing is under way, and returns
-    /// whether it did. The memory is kept.
-    pub fn renew(&mut self) -> bool
+    /// whether it did. Its buffers are given to the pool then.
+    pub fn renew(&mut self, pool: &mut BufferPool) -> bool
         ensures when { (buffered_conn : BufferedConn) (flow : Flow) → self.old.buffered_conn ≡
             Some buffered_conn →
             IsConn buffered_conn.conn flow → IsTrue result ↔ (IsAtRest flow × IsOver flow) }
@@ -182,10 +194,7 @@ impl<T: Warrant + Drop, C: Clerk<T> + Drop> Session<T, C> {
         ensures ring { seat_ring self.new ≡ seat_ring self.old }
         ensures history { session_history self.new ≡ session_history self.old }
     {
-        let Some(buffered_conn) = &mut self.buffered_conn else {
-            return true;
-        };
-        buffered_conn.renew()
+        self.buffered_conn.renew(pool)
     }
 
     /// How many shards there are.

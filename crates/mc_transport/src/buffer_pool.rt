@@ -1,11 +1,15 @@
 //! The buffers that the lines of one thread share: one to read into, and one for replies.
 ghost use Rattle.std.specs.Prelude.{◌≡◌, ◌<◌, [], OnOk, length};
 
+use crate::buffered_conn::BufferedConn;
 use std::alloc::{AllocError, Global};
 use std::mem;
 
 /// At most this many bytes are read at once.
 const ROOM: usize = 65_536;
+
+/// The most buffers of lines at rest that are kept for other lines; more are freed.
+const KEPT_CONNS: usize = 128;
 
 /// A buffer to read into and one for replies. A line takes the first to read, and returns it once
 /// the bytes are fed. It takes the second for its replies, and returns it once they are written. So
@@ -16,6 +20,8 @@ pub struct BufferPool {
     /// Empty while a line has it.
     pub(crate) input: Vec<u8>,
     replies: Vec<u8>,
+    /// Buffers of lines that came to rest.
+    conns: Vec<Box<BufferedConn>>,
     ghost empty: { replies.items ≡ [] },
 }
 
@@ -26,6 +32,7 @@ impl BufferPool {
             alloc,
             input: vec![in alloc; 0; ROOM]?,
             replies: Vec::new(alloc),
+            conns: Vec::new(alloc),
         })
     }
 
@@ -50,6 +57,19 @@ impl BufferPool {
     pub(crate) fn keep_input(&mut self, room: Vec<u8>) {
         if self.input.is_empty() {
             self.input = room;
+        }
+    }
+
+    /// Takes the buffers of some line that came to rest, if there are any.
+    pub(crate) fn take_conn(&mut self) -> Option<Box<BufferedConn>> {
+        self.conns.pop()
+    }
+
+    /// Keeps the buffers of a line that came to rest for another line. Drops them where enough are
+    /// kept, or memory is refused.
+    pub(crate) fn keep_conn(&mut self, conn: Box<BufferedConn>) {
+        if self.conns.len() < KEPT_CONNS {
+            let _ = self.conns.push(conn);
         }
     }
 

@@ -138,6 +138,13 @@ impl WriteBuffer {
         self.rest().is_empty()
     }
 
+    /// Whether no reply waits, and none was refused memory.
+    pub(crate) fn is_blank(&self) -> bool
+        ensures { IsTrue result → text_in self.now ≡ [] }
+    {
+        self.at_tail() && self.tail.is_empty() && !self.refused
+    }
+
     /// Whether the line has to take some of them at once.
     pub(crate) fn waits(&self) -> bool
         ensures { IsTrue result → 0 < length (text_in self.now) }

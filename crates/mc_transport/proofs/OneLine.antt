@@ -1,0 +1,79 @@
+-- A line that rested is the same one for all that contracts say.
+use Rattle.std.proofs.Common.{◌≡◌, ℕ, Bool, true, false, Option, Some, None, List, refl, sym, subst, ◌∙◌}
+use Rattle.std.proofs.lemmas.Bool.{false≢true}
+use Rattle.std.specs.Prelude.{IsSomeAnd, IsTrue, is_some, not}
+use Rattle.std.specs.declared.alloc.Global.{Global}
+use Rattle.std.specs.declared.boxed.Box.{Box}
+use Rattle.mc_wire.specs.Sink.{Sight}
+use Rattle.mc_ring.specs.Reply.{Shown}
+use Rattle.mc_command.specs.declared.rules.Rules.{Rules}
+use Rattle.mc_conn.specs.Flow.{Flow, new_flow}
+use Rattle.mc_conn.proofs.AtRest.{same_flow}
+use Rattle.mc_transport.specs.declared.buffered_conn.BufferedConn.{BufferedConn}
+use Rattle.mc_transport.specs.declared.buffered_conn.RestingLine.{RestingLine}
+use Rattle.mc_transport.specs.declared.line_buffers.Rest.{Rest}
+use Rattle.mc_transport.specs.internal.Resting.{line_in}
+use Rattle.mc_transport.specs.BufferedConn.{AreOneLine, HasStopped, IsNew, RestsAs}
+
+-- Lines that rest with the same numbers are one line,
+pub one_line : (resting : RestingLine) (was now : BufferedConn) → RestsAs resting was → RestsAs resting now
+    → AreOneLine was now
+one_line resting was now a b = record {
+  conn_is = same_flow resting.conn was.conn now.conn a.conn_rests b.conn_rests;
+  unread = b.none_unread ∙ sym a.none_unread;
+  unwritten = b.none_waits ∙ sym a.none_waits;
+  counted = b.counted ∙ sym a.counted;
+  stopped = b.stopped ∙ sym a.stopped;
+}
+
+-- and each line is one with itself.
+pub itself : (line : BufferedConn) → AreOneLine line line
+itself line = record { conn_is = λ flow is. is; unread = refl; unwritten = refl; counted = refl; stopped = refl }
+
+-- What is served stays served,
+pub stopped_same : (received : ℕ → List Shown) (may_answer : ℕ → Type 0) (begin now : Sight) (flow : Flow)
+    (was line : BufferedConn) → AreOneLine was line → HasStopped received may_answer begin now flow was
+    → HasStopped received may_answer begin now flow line
+stopped_same received may_answer begin now flow was line one stopped =
+    let serves = stopped.serves in
+    record {
+      serves = record {
+        conn_is = one.conn_is flow serves.conn_is;
+        serving = rw (one.unwritten, one.unread) serves.serving;
+        grown = serves.grown;
+        moments = serves.moments;
+        unbroken = serves.unbroken;
+        counted = one.counted ∙ serves.counted;
+        written = serves.written;
+        written_is = serves.written_is;
+        in_order = rw one.unwritten serves.in_order;
+      };
+      stops = rw one.stopped stopped.stops;
+    }
+
+-- and what is new stays new.
+pub new_same : (shards : ℕ) (rules : Rules) (window : ℕ) (was line : BufferedConn) → AreOneLine was line
+    → IsNew shards rules window was → IsNew shards rules window line
+new_same shards rules window was line one new = record {
+  conn_is = one.conn_is (new_flow shards rules window) new.conn_is;
+  none_read = one.unread ∙ new.none_read;
+  none_waits = one.unwritten ∙ new.none_waits;
+  none_taken = one.counted ∙ new.none_taken;
+}
+
+-- What was said of a success is so.
+succeeds : {P : Type 0} (done : Bool) → not done ≡ false → (IsTrue done → P) → P
+succeeds true is so = so refl
+succeeds false is so = absurd (false≢true (sym is))
+
+-- Buffers that have become the line at rest are of the line that is seen.
+pub resumed : (active : Option (Box BufferedConn Global)) (at_rest : Option Rest) (one : Rest)
+    (seen : Option BufferedConn) (line : BufferedConn) (found done : Bool) → found ≡ is_some active → found ≡ false
+    → at_rest ≡ Some one → line_in active at_rest ≡ seen → not done ≡ false → (IsTrue done → RestsAs one.line line)
+    → IsSomeAnd seen (λ was. AreOneLine was line)
+resumed None at_rest one seen line found done is none here view done_is rests =
+    let S : Option BufferedConn → Type 0 = λ it. IsSomeAnd it (λ was. AreOneLine was line) in
+    let H : Option Rest → Type 0 = λ it. S (line_in None it) in
+    subst S view (subst H (sym here) (one_line one.line one.seen.value line one.rests (succeeds done done_is rests)))
+resumed (Some _) at_rest one seen line found done is none here view done_is rests =
+    absurd (false≢true (sym none ∙ is))
