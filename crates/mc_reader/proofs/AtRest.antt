@@ -11,9 +11,12 @@ pub same_given : (resting : RestingReader) (was now : Reader) → RestsAs restin
     → (rules : Rules) (fed : List ℕ) (ended : Bool) (given : List Given) → IsReader was rules fed ended given
     → IsReader now rules fed ended given
 unfolding IsReader
-same_given resting was now a b rules fed ended given is = record is {
+same_given resting was now a b rules fed ended given is = record {
+  unread = is.unread;
   rules_are = b.rules_are ∙ sym a.rules_are ∙ is.rules_are;
   ended_is = b.goes_on ∙ sym a.goes_on ∙ is.ended_is;
   left = rw (b.left ∙ sym a.left) is.left;
+  may = is.may;
+  front = is.front;
   now = rw (b.left ∙ sym a.left, b.in_line ∙ sym a.in_line, b.empty ∙ sym a.empty) is.now;
 }

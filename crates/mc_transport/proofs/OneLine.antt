@@ -1,7 +1,7 @@
 -- A line that rested is the same one for all that contracts say.
 use Rattle.std.proofs.Common.{◌≡◌, ℕ, Bool, true, false, Option, Some, None, List, refl, sym, subst, ◌∙◌}
 use Rattle.std.proofs.lemmas.Bool.{false≢true}
-use Rattle.std.specs.Prelude.{IsSomeAnd, IsTrue, is_some, not}
+use Rattle.std.specs.Prelude.{IsSomeAnd, is_some}
 use Rattle.std.specs.declared.alloc.Global.{Global}
 use Rattle.std.specs.declared.boxed.Box.{Box}
 use Rattle.mc_wire.specs.Sink.{Sight}
@@ -61,19 +61,13 @@ new_same shards rules window was line one new = record {
   none_taken = one.counted ∙ new.none_taken;
 }
 
--- What was said of a success is so.
-succeeds : {P : Type 0} (done : Bool) → not done ≡ false → (IsTrue done → P) → P
-succeeds true is so = so refl
-succeeds false is so = absurd (false≢true (sym is))
-
 -- Buffers that have become the line at rest are of the line that is seen.
 pub resumed : (active : Option (Box BufferedConn Global)) (at_rest : Option Rest) (one : Rest)
-    (seen : Option BufferedConn) (line : BufferedConn) (found done : Bool) → found ≡ is_some active → found ≡ false
-    → at_rest ≡ Some one → line_in active at_rest ≡ seen → not done ≡ false → (IsTrue done → RestsAs one.line line)
-    → IsSomeAnd seen (λ was. AreOneLine was line)
-resumed None at_rest one seen line found done is none here view done_is rests =
+    (seen : Option BufferedConn) (line : BufferedConn) (found : Bool) → found ≡ is_some active → found ≡ false
+    → at_rest ≡ Some one → line_in active at_rest ≡ seen → RestsAs one.line line → IsSomeAnd seen (λ was. AreOneLine was line)
+resumed None at_rest one seen line found is none here view rests =
     let S : Option BufferedConn → Type 0 = λ it. IsSomeAnd it (λ was. AreOneLine was line) in
     let H : Option Rest → Type 0 = λ it. S (line_in None it) in
-    subst S view (subst H (sym here) (one_line one.line one.seen.value line one.rests (succeeds done done_is rests)))
-resumed (Some _) at_rest one seen line found done is none here view done_is rests =
+    subst S view (subst H (sym here) (one_line one.line one.seen.value line one.rests rests))
+resumed (Some _) at_rest one seen line found is none here view rests =
     absurd (false≢true (sym none ∙ is))
