@@ -389,11 +389,12 @@ impl Conn {
         if self.put_back.is_some() || !self.dispatcher.unsent.is_empty() {
             return None;
         }
+        let reader = self.reader.at_rest()?;
         if self.broken || self.is_over() {
             return None;
         }
         Some(RestingConn {
-            reader: self.reader.at_rest()?,
+            reader,
             replies,
             planner: self.dispatcher.planner,
             log: self.dispatcher.log.same(),

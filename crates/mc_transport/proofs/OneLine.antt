@@ -1,7 +1,7 @@
 -- A line that rested is the same one for all that contracts say.
-use Rattle.std.proofs.Common.{◌≡◌, ℕ, Bool, true, false, Option, Some, None, List, refl, sym, subst, ◌∙◌}
+use Rattle.std.proofs.Common.{◌≡◌, ℕ, inr, Bool, true, false, Option, Some, None, List, refl, sym, subst, ◌∙◌}
 use Rattle.std.proofs.lemmas.Bool.{false≢true}
-use Rattle.std.specs.Prelude.{IsSomeAnd, is_some}
+use Rattle.std.specs.Prelude.{IfNone, IfSome, IsSomeAnd, is_some}
 use Rattle.std.specs.declared.alloc.Global.{Global}
 use Rattle.std.specs.declared.boxed.Box.{Box}
 use Rattle.mc_wire.specs.Sink.{Sight}
@@ -13,7 +13,7 @@ use Rattle.mc_transport.specs.declared.buffered_conn.BufferedConn.{BufferedConn}
 use Rattle.mc_transport.specs.declared.buffered_conn.RestingLine.{RestingLine}
 use Rattle.mc_transport.specs.declared.line_buffers.Rest.{Rest}
 use Rattle.mc_transport.specs.internal.Resting.{line_in}
-use Rattle.mc_transport.specs.BufferedConn.{AreOneLine, HasStopped, IsNew, RestsAs}
+use Rattle.mc_transport.specs.BufferedConn.{AreOneLine, HasStopped, IsNew, RestsAs, WaitsForLine}
 
 -- Lines that rest with the same numbers are one line,
 pub one_line : (resting : RestingLine) (was now : BufferedConn) → RestsAs resting was → RestsAs resting now
@@ -63,11 +63,38 @@ new_same shards rules window was line one new = record {
 
 -- Buffers that have become the line at rest are of the line that is seen.
 pub resumed : (active : Option (Box BufferedConn Global)) (at_rest : Option Rest) (one : Rest)
-    (seen : Option BufferedConn) (line : BufferedConn) (found : Bool) → found ≡ is_some active → found ≡ false
-    → at_rest ≡ Some one → line_in active at_rest ≡ seen → RestsAs one.line line → IsSomeAnd seen (λ was. AreOneLine was line)
-resumed None at_rest one seen line found is none here view rests =
-    let S : Option BufferedConn → Type 0 = λ it. IsSomeAnd it (λ was. AreOneLine was line) in
+    (seen : Option BufferedConn) (line : Option (Box BufferedConn Global)) (found : Bool) → found ≡ is_some active
+    → found ≡ false → at_rest ≡ Some one → line_in active at_rest ≡ seen
+    → IfSome line (λ it. RestsAs one.line it.value)
+    → IfSome line (λ it. IsSomeAnd seen (λ was. AreOneLine was it.value))
+resumed None at_rest one seen (Some line) found is none here view rests =
+    let S : Option BufferedConn → Type 0 = λ it. IsSomeAnd it (λ was. AreOneLine was line.value) in
     let H : Option Rest → Type 0 = λ it. S (line_in None it) in
-    subst S view (subst H (sym here) (one_line one.line one.seen.value line one.rests rests))
-resumed (Some _) at_rest one seen line found is none here view rests =
-    absurd (false≢true (sym none ∙ is))
+    subst S view (subst H (sym here) (one_line one.line one.seen.value line.value one.rests rests))
+resumed None at_rest one seen None found is none here view rests = tt
+resumed (Some _) at_rest one seen line found is none here view rests = absurd (false≢true (sym none ∙ is))
+
+-- What holds anyway holds where there is no result.
+pub if_none : {A : Type 0} (o : Option A) (P : Type 0) → P → IfNone o P
+if_none (Some it) P holds = tt
+if_none None P holds = holds
+
+-- A line at rest needs more bytes,
+pub rest_waits : (active : Option (Box BufferedConn Global)) (at_rest : Option Rest) (one : Rest)
+    (seen : Option BufferedConn) (found : Bool) → found ≡ is_some active → found ≡ false → at_rest ≡ Some one
+    → line_in active at_rest ≡ seen → (line : BufferedConn) → seen ≡ Some line → WaitsForLine line
+rest_waits None at_rest one seen found is none here view line are =
+    let W : Option BufferedConn → Type 0 = λ it. IfSome it WaitsForLine in
+    let H : Option Rest → Type 0 = λ it. W (line_in None it) in
+    subst W are (subst W view (subst H (sym here) (inr one.rests.stopped)))
+rest_waits (Some _) at_rest one seen found is none here view line are = absurd (false≢true (sym none ∙ is))
+
+-- and where none is there, none is seen.
+pub none_seen : (active : Option (Box BufferedConn Global)) (at_rest : Option Rest) (seen : Option BufferedConn)
+    (found : Bool) → found ≡ is_some active → found ≡ false → at_rest ≡ None → line_in active at_rest ≡ seen
+    → (line : BufferedConn) → seen ≡ Some line → WaitsForLine line
+none_seen None at_rest seen found is none here view line are =
+    let W : Option BufferedConn → Type 0 = λ it. IfSome it WaitsForLine in
+    let H : Option Rest → Type 0 = λ it. W (line_in None it) in
+    subst W are (subst W view (subst H (sym here) tt))
+none_seen (Some _) at_rest seen found is none here view line are = absurd (false≢true (sym none ∙ is))

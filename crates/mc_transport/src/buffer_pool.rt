@@ -9,7 +9,11 @@ use std::mem;
 const ROOM: usize = 65_536;
 
 /// The most buffers of lines at rest that are kept for other lines; more are freed.
-const KEPT_CONNS: usize = 128;
+const KEPT_CONNS: usize = 256;
+
+/// While no more lines of the thread than this have buffers, a line at rest keeps its own, which
+/// saves the exchange at each request.
+const HELD_CONNS: usize = 128;
 
 /// A buffer to read into and one for replies. A line takes the first to read, and returns it once
 /// the bytes are fed. It takes the second for its replies, and returns it once they are written. So
@@ -22,6 +26,8 @@ pub struct BufferPool {
     replies: Vec<u8>,
     /// Buffers of lines that came to rest.
     conns: Vec<Box<BufferedConn>>,
+    /// Number of lines that have buffers.
+    held: usize,
     ghost empty: { replies.items ≡ [] },
 }
 
@@ -33,6 +39,7 @@ impl BufferPool {
             input: vec![in alloc; 0; ROOM]?,
             replies: Vec::new(alloc),
             conns: Vec::new(alloc),
+            held: 0,
         })
     }
 
@@ -60,6 +67,17 @@ impl BufferPool {
         }
     }
 
+    /// Whether so many lines have buffers that a line at rest gives its own to the pool.
+    #[inline(always)]
+    pub(crate) fn is_short(&self) -> bool {
+        self.held > HELD_CONNS
+    }
+
+    /// Notes that one more line has buffers.
+    pub(crate) fn note_held(&mut self) {
+        self.held = self.held.saturating_add(1);
+    }
+
     /// Takes the buffers of some line that came to rest, if there are any.
     pub(crate) fn take_conn(&mut self) -> Option<Box<BufferedConn>> {
         self.conns.pop()
@@ -68,6 +86,7 @@ impl BufferPool {
     /// Keeps the buffers of a line that came to rest for another line. Drops them where enough are
     /// kept, or memory is refused.
     pub(crate) fn keep_conn(&mut self, conn: Box<BufferedConn>) {
+        self.held = self.held.saturating_sub(1);
         if self.conns.len() < KEPT_CONNS {
             let _ = self.conns.push(conn);
         }

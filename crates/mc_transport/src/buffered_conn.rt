@@ -216,6 +216,7 @@ impl BufferedConn {
         self.stop = Taken::NeedMore;
         self.conn.renew()
     }
+
     /// The numbers of the line, if nothing else is to be kept, and it waits for bytes.
     #[inline(always)]
     pub(crate) fn at_rest(&self) -> Option<RestingLine>

@@ -4,7 +4,7 @@ ghost use Rattle.mc_sizes.specs.Sizes.{SuitLines, rules_of};
 ghost use Rattle.mc_conn.specs.Conn.{IfConn, IsConn};
 ghost use Rattle.mc_conn.specs.Flow.{Flow, IsAtRest, IsOver};
 ghost use Rattle.mc_transport.specs.declared.buffered_conn.BufferedConn.{BufferedConn};
-ghost use Rattle.mc_transport.specs.BufferedConn.{AreOneLine, IsNew, RestsAs};
+ghost use Rattle.mc_transport.specs.BufferedConn.{AreOneLine, IsNew, RestsAs, WaitsForLine};
 
 use crate::buffer_pool::BufferPool;
 use crate::buffered_conn::{BufferedConn, RestingLine};
@@ -22,8 +22,8 @@ pub(crate) struct Rest {
     ghost goes_on: { IfConn seen.value.conn (λ flow. ¬ IsOver flow) },
 }
 
-/// The line of a seat. While it is at rest its buffers are in the thread's pool, and only its
-/// numbers are here. Contracts see the line in both cases, and none before the first.
+/// The line of a seat. Where many lines of the thread have buffers, those of a line at rest are in
+/// the thread's pool, and only its numbers are here. Contracts see the line in both cases, and none before the first.
 pub struct LineBuffers {
     /// The line with its buffers.
     active: Option<Box<BufferedConn>>,
@@ -71,6 +71,7 @@ impl LineBuffers {
 
     /// Takes out the line with its buffers, to put it back with `hold` or `put`. Those of a line at
     /// rest come from the pool, or are allocated. `None`: memory was refused, or there is no line.
+    #[inline(always)]
     pub fn take(
         &mut self,
         alloc: Global,
@@ -81,6 +82,9 @@ impl LineBuffers {
         ensures some { IfSome result
             (λ line. IsSomeAnd self.old (λ was. AreOneLine was line.value)) }
         ensures none { IfNone result (self.new ≡ self.old) }
+        // A line for which memory was refused needs more bytes.
+        ensures waits { IfNone result ((line : BufferedConn) → self.old ≡ Some line →
+            WaitsForLine line) }
     {
         if self.active.is_some() {
             return self.active.take();
@@ -88,22 +92,33 @@ impl LineBuffers {
         let Some(rest) = &self.rest else {
             return None;
         };
-        let mut line = any_buffers(alloc, sizes, pool)?;
-        if !line.resume(&rest.line) {
-            return None;
-        }
-        Some(line)
+        resumed(rest, alloc, sizes, pool)
     }
 
     /// Puts the line in with its buffers.
+    #[inline(always)]
     pub fn hold(&mut self, line: Box<BufferedConn>)
         ensures { self.new ≡ Some line.value }
     {
         self.active = Some(line);
     }
 
-    /// Puts the line in. Where it has come to rest, its buffers are given to the pool.
+    /// Puts the line in. Where many lines of the thread have buffers, and it has come to rest, its
+    /// own are given to the pool.
+    #[inline(always)]
     pub fn put(&mut self, line: Box<BufferedConn>, pool: &mut BufferPool)
+        ensures { self.new ≡ Some line.value }
+    {
+        if pool.is_short() {
+            self.settle(line, pool);
+        } else {
+            self.hold(line);
+        }
+    }
+
+    /// Puts the line in. Where it has come to rest, its buffers are given to the pool.
+    #[inline(never)]
+    fn settle(&mut self, line: Box<BufferedConn>, pool: &mut BufferPool)
         ensures { self.new ≡ Some line.value }
     {
         let Some(resting) = line.at_rest() else {
@@ -130,9 +145,28 @@ impl LineBuffers {
             return self.rest.is_none();
         };
         let renewed = line.renew();
-        self.put(line, pool);
+        self.settle(line, pool);
         renewed
     }
+}
+
+/// Buffers that have become the line at rest. `None`: memory was refused.
+#[inline(never)]
+fn resumed(
+    rest: &Rest,
+    alloc: Global,
+    sizes: Sizes,
+    pool: &mut BufferPool,
+) -> Option<Box<BufferedConn>>
+    requires { SuitLines sizes }
+    ensures { IfSome result (λ line. RestsAs rest.now.line line.value) }
+{
+    let mut line = any_buffers(alloc, sizes, pool)?;
+    if !line.resume(&rest.line) {
+        return None;
+    }
+    pool.note_held();
+    Some(line)
 }
 
 /// The buffers of some line that came to rest, or fresh ones. `None`: memory was refused.
@@ -142,12 +176,27 @@ fn any_buffers(alloc: Global, sizes: Sizes, pool: &mut BufferPool) -> Option<Box
     if let Some(line) = pool.take_conn() {
         return Some(line);
     }
-    new_buffers(alloc, sizes).ok()
+    fresh_buffers(alloc, sizes).ok()
+}
+
+/// The buffers of a seat's first line, of which nothing was read. `AllocError`: memory was refused.
+pub fn new_buffers(
+    alloc: Global,
+    sizes: Sizes,
+    pool: &mut BufferPool,
+) -> Result<Box<BufferedConn>, AllocError>
+    requires { SuitLines sizes }
+    ensures { IfOk result
+        (λ line. IsNew sizes.shards (rules_of sizes) sizes.window line.value) }
+{
+    let line = fresh_buffers(alloc, sizes)?;
+    pool.note_held();
+    Ok(line)
 }
 
 /// The buffers of a line of which nothing was read. `AllocError`: memory was refused.
 #[inline(never)]
-pub fn new_buffers(alloc: Global, sizes: Sizes) -> Result<Box<BufferedConn>, AllocError>
+fn fresh_buffers(alloc: Global, sizes: Sizes) -> Result<Box<BufferedConn>, AllocError>
     requires { SuitLines sizes }
     ensures { IfOk result
         (λ line. IsNew sizes.shards (rules_of sizes) sizes.window line.value) }
