@@ -1,5 +1,5 @@
 -- Connections that rest with the same numbers are the same for all that contracts say.
-use Rattle.std.proofs.Common.{◌≡◌, refl, sym, ap, subst, ◌∙◌}
+use Rattle.std.proofs.Common.{sym, ap, ◌∙◌}
 use Rattle.mc_reader.specs.Reader as reader
 use Rattle.mc_reader.proofs.AtRest.{same_given}
 use Rattle.mc_join.specs.Held.{Held}
@@ -8,6 +8,7 @@ use Rattle.mc_conn.specs.declared.resting.RestingConn.{RestingConn}
 use Rattle.mc_conn.specs.Conn.{IsConn, RestsAs}
 use Rattle.mc_conn.specs.Flow.{Flow}
 
+-- They have the same flows.
 pub same_flow : (resting : RestingConn) (was now : Conn) → RestsAs resting was → RestsAs resting now → (flow : Flow)
     → IsConn was flow → IsConn now flow
 unfolding IsConn

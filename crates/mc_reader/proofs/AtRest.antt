@@ -1,12 +1,12 @@
 -- Readers that rest with the same numbers are the same for all that contracts say.
-use Rattle.std.proofs.Common.{◌≡◌, ℕ, List, Bool, refl, sym, ap, subst, ◌∙◌}
-use Rattle.std.specs.Prelude.{◌<◌, MatchBool}
+use Rattle.std.proofs.Common.{ℕ, List, Bool, sym, ◌∙◌}
 use Rattle.mc_command.specs.declared.rules.Rules.{Rules}
 use Rattle.mc_reader.specs.declared.reader.Reader.{Reader}
 use Rattle.mc_reader.specs.declared.resting.RestingReader.{RestingReader}
 use Rattle.mc_reader.specs.Spelling.{Given}
 use Rattle.mc_reader.specs.Reader.{IsReader, RestsAs}
 
+-- They have the same commands.
 pub same_given : (resting : RestingReader) (was now : Reader) → RestsAs resting was → RestsAs resting now
     → (rules : Rules) (fed : List ℕ) (ended : Bool) (given : List Given) → IsReader was rules fed ended given
     → IsReader now rules fed ended given

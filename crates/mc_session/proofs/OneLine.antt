@@ -1,5 +1,5 @@
 -- A line in other memory is served as before.
-use Rattle.std.proofs.Common.{◌≡◌, ℕ, length, Option, Some, None, sym, subst}
+use Rattle.std.proofs.Common.{◌≡◌, ◌⊎◌, ℕ, inr, Option, Some, None, refl, sym, subst}
 use Rattle.std.specs.Prelude.{IsSomeAnd}
 use Rattle.mc_wire.specs.Sink.{Sight}
 use Rattle.mc_ring.specs.Channel.{Near}
@@ -9,7 +9,7 @@ use Rattle.mc_transport.specs.declared.clerk.Clerk.{Ghosts}
 use Rattle.mc_transport.specs.declared.warrant.Warrant.{Ghosts as Warrants}
 use Rattle.mc_transport.specs.declared.buffered_conn.BufferedConn.{BufferedConn}
 use Rattle.mc_sizes.specs.Sizes.{rules_of}
-use Rattle.mc_transport.specs.BufferedConn.{AreOneLine, IsNew}
+use Rattle.mc_transport.specs.BufferedConn.{AreOneLine, IsNew, WaitsForLine}
 use Rattle.mc_transport.specs.Place.{Place}
 use Rattle.mc_transport.proofs.OneLine.{new_same, stopped_same}
 use Rattle.mc_session.specs.declared.shard_link.ShardLink.{ShardLink}
@@ -23,7 +23,16 @@ pub both : {A : Type 0} (o : Option A) (P Q : A → Type 0) (R : Type 0) → IsS
 both (Some x) P Q R p q so = so x p q
 both None P Q R p q so = absurd p
 
+-- A line that needs more bytes waits for them.
+pub waits_for_it : (o o' : Option BufferedConn) (P : BufferedConn → Type 0) (A : Type 0) → o' ≡ o → IsSomeAnd o P
+    → ((line : BufferedConn) → o ≡ Some line → WaitsForLine line) → IsSomeAnd o' (λ line. A ⊎ WaitsForLine line)
+waits_for_it (Some line) o' P A same holds waits =
+    let S : Option BufferedConn → Type 0 = λ it. IsSomeAnd it (λ line. A ⊎ WaitsForLine line) in
+    subst S (sym same) (inr (waits line refl))
+waits_for_it None o' P A same holds waits = absurd holds
+
 module _ {T C : Type 0} {w : Warrants T} {g : Ghosts C T} where
+  -- What is served of a line is so of the same line in other memory.
   pub served_same : (shards : ℕ) (rules : Rules) (may_answer : ℕ → Type 0) (begin now : Sight) (before : Ends Near)
       (shard_link : ShardLink T C w g) (was line : BufferedConn) → AreOneLine was line
       → IsServedBy shards rules may_answer begin now before shard_link was
@@ -77,3 +86,32 @@ module _ {T C : Type 0} {w : Warrants T} {g : Ghosts C T} where
       → IsSomeAnd o (IsNew shards rules window) → IsReady shards rules window session o
   ready_again shards rules window session (Some line) new = new
   ready_again shards rules window session None new = absurd new
+
+  -- Shards were called: a line that is served is served as before.
+  called_same : (shards : ℕ) (rules : Rules) (may_answer : ℕ → Type 0) (begin now : Sight) (before : Ends Near)
+      (old new : ShardLink T C w g) (line : BufferedConn) → new.ends ≡ old.ends → new.clerk ≡ old.clerk → new.under_way
+      ≡ old.under_way → new.places ≡ old.places → IsServedBy shards rules may_answer begin now before old line
+      → IsServedBy shards rules may_answer begin now before new line
+  called_same shards rules may_answer begin now before old new line ends clerk ways places serves = record {
+    flow = serves.flow;
+    received = serves.received;
+    shards_is = serves.shards_is;
+    rules_are = serves.rules_are;
+    carries = rw (ends, ways) serves.carries;
+    stopped = serves.stopped;
+    credit = rw (places, ends) serves.credit;
+    recorded = rw clerk serves.recorded;
+  }
+
+  -- So is the line of a seat, if there is one.
+  pub called_on : (shards : ℕ) (rules : Rules) (may_answer : ℕ → Type 0) (begin now : Sight) (before : Ends Near)
+      (old new : ShardLink T C w g) (o o' : Option BufferedConn) → o' ≡ o → new.ends ≡ old.ends → new.clerk ≡ old.clerk
+      → new.under_way ≡ old.under_way → new.places ≡ old.places
+      → IsSomeAnd o (IsServedBy shards rules may_answer begin now before old)
+      → IsSomeAnd o' (IsServedBy shards rules may_answer begin now before new)
+  called_on shards rules may_answer begin now before old new (Some line) o' same ends clerk ways places serves =
+      let S : Option BufferedConn → Type 0 = λ it.
+      IsSomeAnd it (IsServedBy shards rules may_answer begin now before new) in
+      subst S (sym same)
+      (called_same shards rules may_answer begin now before old new line ends clerk ways places serves)
+  called_on shards rules may_answer begin now before old new None o' same ends clerk ways places serves = absurd serves

@@ -16,15 +16,14 @@ use mc_transport::{
 use std::alloc::{AllocError, Global};
 
 /// A seat that serves lines one after another. Until the first line comes it has only its ends of
-/// the channels. The buffers of a line are the thread's while the line is at rest. A clerk
-/// records what the lines' connections take.
+/// the channels. A line at rest may give its buffers to the thread's other lines. A clerk records
+/// what the lines' connections take.
 pub struct Session<T: Warrant = (), C: Clerk<T> = ()> {
     alloc: Global,
     pub(crate) shard_link: ShardLink<T, C>,
     /// By which its buffers are allocated.
     sizes: Sizes,
-    /// The connection of the line, once the first has come. It has buffers while something is under
-    /// way.
+    /// The connection of the line, once the first has come.
     buffered_conn: LineBuffers,
     ghost suited: { SuitLines sizes },
     ghost ring: { shard_link.places ≡ sizes.ring },
@@ -128,18 +127,18 @@ impl<T: Warrant + Drop, C: Clerk<T> + Drop> Session<T, C> {
         ensures shard_link { self.new.shard_link ≡ self.old.shard_link }
     {
         if self.buffered_conn.is_unused() {
-            return new_buffers(self.alloc, self.sizes);
+            return new_buffers(self.alloc, self.sizes, pool);
         }
-        match self.buffered_conn.take(self.alloc, self.sizes, pool) {
-            Some(buffered_conn) => Ok(buffered_conn),
-            None => Err(AllocError),
-        }
+        let Some(buffered_conn) = self.buffered_conn.take(self.alloc, self.sizes, pool) else {
+            return Err(AllocError);
+        };
+        Ok(buffered_conn)
     }
 
     /// Serves the line a step further, as [`ShardLink::step`] does. At each moment at most
     /// `sizes.ring` of its pieces are under way to each shard. A line at rest takes buffers from the
-    /// pool, and one that comes to rest returns them. If memory for them is refused, the line is as
-    /// before, and the next step tries again.
+    /// pool, and one that comes to rest may return them. If memory for them is refused, the line is
+    /// as before, and the next step tries again once it is woken.
     pub fn step<L: Transport<Warrant = T>, K: Clock>(
         &mut self,
         line: &mut L,
@@ -166,15 +165,12 @@ impl<T: Warrant + Drop, C: Clerk<T> + Drop> Session<T, C> {
             IsLineAt rules (L.place line.new) begin self.new }
         ensures history { session_history self.new ≡ session_history self.old }
     {
-        let taken = self.buffered_conn.take(self.alloc, self.sizes, pool);
-        let Some(mut buffered_conn) = taken else {
-            return LineStep::Did;
+        let Some(mut buffered_conn) = self.buffered_conn.take(self.alloc, self.sizes, pool) else {
+            self.shard_link.call_shards();
+            return LineStep::Waits;
         };
         let step = self.shard_link.step(&mut *buffered_conn, line, clock, pool);
-        match step {
-            LineStep::Waits => self.buffered_conn.put(buffered_conn, pool),
-            LineStep::Did | LineStep::Ended(_) => self.buffered_conn.hold(buffered_conn),
-        }
+        self.buffered_conn.put(buffered_conn, pool);
         step
     }
 

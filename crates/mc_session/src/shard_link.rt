@@ -218,7 +218,7 @@ impl<T: Warrant + Drop, C: Clerk<T> + Drop> ShardLink<T, C> {
 
     /// Calls each shard whose replies are awaited, unless that was done since the last piece was
     /// sent.
-    fn call_shards(&mut self)
+    pub(crate) fn call_shards(&mut self)
         ensures called { self.new.uncalled ≡ false }
         ensures ends { self.new.ends ≡ self.old.ends }
         ensures clerk { self.new.clerk ≡ self.old.clerk }

@@ -67,7 +67,7 @@ impl BufferPool {
         }
     }
 
-    /// Whether so many lines have buffers that a line at rest gives its own to the pool.
+    /// Whether so many lines have buffers that a line at rest returns its own to the pool.
     #[inline(always)]
     pub(crate) fn is_short(&self) -> bool {
         self.held > HELD_CONNS
