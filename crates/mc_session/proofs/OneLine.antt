@@ -1,6 +1,8 @@
 -- A line in other memory is served as before.
-use Rattle.std.proofs.Common.{◌≡◌, ◌⊎◌, ℕ, inr, Option, Some, None, refl, sym, subst}
-use Rattle.std.specs.Prelude.{IsSomeAnd}
+use Rattle.std.proofs.Common.{◌≡◌, ◌⊎◌, ℕ, inr, length, Option, Some, None, Result, Ok, Err, refl, sym, subst}
+use Rattle.std.specs.Prelude.{IfOk, IsSomeAnd}
+use Rattle.std.specs.declared.alloc.Global.{Global}
+use Rattle.std.specs.declared.boxed.Box.{Box}
 use Rattle.mc_wire.specs.Sink.{Sight}
 use Rattle.mc_ring.specs.Channel.{Near}
 use Rattle.mc_ring.specs.Ends.{Ends}
@@ -15,7 +17,7 @@ use Rattle.mc_transport.proofs.OneLine.{new_same, stopped_same}
 use Rattle.mc_session.specs.declared.shard_link.ShardLink.{ShardLink}
 use Rattle.mc_session.specs.declared.session.Session.{Session}
 use Rattle.mc_session.specs.Service.{IsServedBy, ServesSomeLine}
-use Rattle.mc_session.specs.Session.{IsReady}
+use Rattle.mc_session.specs.Session.{IsReady, IsVacant, seat_ends}
 
 -- Where two facts hold of what is there, they hold of one value.
 pub both : {A : Type 0} (o : Option A) (P Q : A → Type 0) (R : Type 0) → IsSomeAnd o P → IsSomeAnd o Q
@@ -73,6 +75,18 @@ module _ {T C : Type 0} {w : Warrants T} {g : Ghosts C T} where
       subst (λ (it : ℕ). IsNew it rules window line) at.0
       (subst (λ (it : Rules). IsNew session.sizes.shards it window line) at.1.0
       (subst (λ (it : ℕ). IsNew session.sizes.shards (rules_of session.sizes) it line) at.1.1 new))
+
+  -- where memory for them was not refused,
+  pub first_made : {E : Type 0} (session : Session T C w g) (made : Result (Box BufferedConn Global) E)
+      → session.buffered_conn ≡ None
+      → IfOk made (λ line. IsNew session.sizes.shards (rules_of session.sizes) session.sizes.window line.value)
+      → IfOk made
+      (λ line. (rules : Rules) (window : ℕ) → IsVacant rules window session
+      → IsNew (length (seat_ends session).channels) rules window line.value)
+  first_made session (Ok line) none new = λ rules window vacant.
+      first_new (length (seat_ends session).channels) rules window session session.buffered_conn line.value none
+      vacant.ready new
+  first_made session (Err _) none new = tt
 
   -- and so are those of a later line.
   pub again_new : (shards : ℕ) (rules : Rules) (window : ℕ) (session : Session T C w g) (o : Option BufferedConn)

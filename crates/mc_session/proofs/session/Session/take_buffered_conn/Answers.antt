@@ -1,6 +1,11 @@
 -- The buffers are new for the lines that a vacant seat serves.
-use Rattle.mc_session.proofs.OneLine.{again_new, first_new}
+use Rattle.std.proofs.Common.{refl}
+use Rattle.mc_session.proofs.OneLine.{again_new, first_made}
 use Rattle.mc_session.proofs.session.Session.take_buffered_conn.Goals as goal
+
+pub returns-then-is_unused-clause-new : goal.returns-then-is_unused-clause-new
+returns-then-is_unused-clause-new g c =
+    first_made c.args.self.now c.new_buffers.result (c.if-is_unused.ensures.unused refl) c.new_buffers.ensures
 
 pub returns-clause-new : goal.returns-clause-new
 returns-clause-new g c rules window vacant =
