@@ -1,20 +1,20 @@
 -- The loops that make the channels.
-use Rattle.std.proofs.Common.{◌≡◌, ◌≢◌, ℕ, zero, suc, ◌<◌, ◌≤◌, ◌+◌, List, [], ◌∷◌, ◌++◌, ◌⊎◌, inl, inr, length, map}
+use Rattle.std.proofs.Common.{◌≡◌, ◌≢◌, ℕ, zero, suc, Bool, true, IsTrue, ◌<◌, ◌≤◌, ◌+◌, List, [], ◌∷◌, ◌++◌, ◌⊎◌, inl, inr, length, map}
 use Rattle.std.proofs.Common.{refl, ap, sym, ◌∙◌, arith, slice_set, Some, length-append, take}
 use Rattle.std.specs.List.{AllByRecursion, slice_get}
-use Rattle.std.proofs.lemmas.Option.{slice_get_within, slice_get-map, same_Some}
+use Rattle.std.proofs.lemmas.Option.{slice_get_within, same_Some}
 use Rattle.std.proofs.lemmas.List.{length-map, map-append}
 use Rattle.std.proofs.Math.Seq.{take-append_seam}
 use Rattle.mc_ring.specs.Channel.{Far, Near, Side}
 use Rattle.mc_ring.specs.Ends.{Ends, channels_of}
 use Rattle.mc_ring.specs.EndsLaws.{get-set_other, length-slice_set}
-use Rattle.mc_ring.specs.Made.{AreChannels, AreNewEnds, AreRouted, IsChannel, IsUnused}
+use Rattle.mc_ring.specs.Made.{AreChannels, AreLanes, AreNewEnds, AreRouted, IsLane, IsUnused}
 use Rattle.mc_ring.specs.Route.{Name}
-use Rattle.mc_ring.specs.internal.Joined.{Joined, Joins}
-use Rattle.mc_ring.proofs.Lists.{all_at, all_push, get_below, get_last}
+use Rattle.mc_ring.specs.internal.Joined.{AreJoined, Joined, Joins, ShareRings}
+use Rattle.mc_ring.proofs.Lists.{all_at, all_push, get_below, get_last, get_map}
 
 -- The first shards have one channel more, the others have not.
-pub record JoinsFirst (name : Name) (number capacity done : ℕ) (old new : List (Ends Far)) (row : List Near) : Type 0
+pub record JoinsFirst (made : Bool) (name : Name) (number capacity done : ℕ) (old new : List (Ends Far)) (row : List Near) : Type 0
   where
     pub count : length new ≡ length old
     pub row_count : length row ≡ done
@@ -22,7 +22,7 @@ pub record JoinsFirst (name : Name) (number capacity done : ℕ) (old new : List
     pub holds : AllByRecursion (λ near. near.past.channel.capacity ≡ capacity) row
     pub each : (s : ℕ) (shard shard' : Ends Far) (near : Near) → s < done → slice_get old s ≡ Some shard
         → slice_get new s
-        ≡ Some shard' → slice_get row s ≡ Some near → Joined name number shard shard' near
+        ≡ Some shard' → slice_get row s ≡ Some near → Joined made name number shard shard' near
     pub others : (s : ℕ) → done ≤ s → slice_get new s ≡ slice_get old s
 
 -- Shards that have no channel.
@@ -57,12 +57,9 @@ module _ {A : Type 0} where
       elim (get_set xs i x j y here)
       [ inl other ↦ inl ((λ e. other.0 (omega arith)), other.1) | inr same ↦ inr (ap suc same.0, same.1) ]
 
-length-channels : {Out In : Type 0} (ends : Ends (Side Out In)) → length (channels_of ends) ≡ length ends.channels
-length-channels {Out} {In} ends = length-map ends.channels (λ (e : Side Out In). e.past.channel)
-
-pub joins_none : (name : Name) (number capacity : ℕ) (old : List (Ends Far))
-    → JoinsFirst name number capacity 0 old old []
-joins_none name number capacity old = record {
+pub joins_none : (made : Bool) (name : Name) (number capacity : ℕ) (old : List (Ends Far))
+    → JoinsFirst made name number capacity 0 old old []
+joins_none made name number capacity old = record {
   count = refl;
   row_count = refl;
   unused = tt;
@@ -72,11 +69,11 @@ joins_none name number capacity old = record {
 }
 
 -- after the last shard, where the room behind the elements is cut off again
-pub joins_all : (name : Name) (number capacity done : ℕ) (old new behind : List (Ends Far)) (row : List Near)
+pub joins_all : (made : Bool) (name : Name) (number capacity done : ℕ) (old new behind : List (Ends Far)) (row : List Near)
     (count : ℕ) → length old ≤ done → done ≤ length new → count ≡ length old
-    → JoinsFirst name number capacity done old new row
-    → Joins name number capacity old (take count (new ++ behind)) row
-joins_all name number capacity done old new behind row count whole within counted first =
+    → JoinsFirst made name number capacity done old new row
+    → Joins made name number capacity old (take count (new ++ behind)) row
+joins_all made name number capacity done old new behind row count whole within counted first =
     let same : take count (new ++ behind) ≡ new = rw (counted ∙ sym first.count) (take-append_seam new behind) in
     rw same (record {
       count = first.count;
@@ -89,12 +86,12 @@ joins_all name number capacity done old new behind row count whole within counte
     })
 
 -- Where the first shards have a channel to the new seat, and the next gets one, unused and as large, one more has it.
-pub joins_next : (name : Name) (number capacity done : ℕ) (old new : List (Ends Far)) (row : List Near)
+pub joins_next : (made : Bool) (name : Name) (number capacity done : ℕ) (old new : List (Ends Far)) (row : List Near)
     (was next : Ends Far) (near : Near) → slice_get new done ≡ Some was
-    → JoinsFirst name number capacity done old new row → IsUnused near → near.past.channel.capacity ≡ capacity
-    → Joined name number was next near
-    → JoinsFirst name number capacity (done + 1) old (slice_set new done next) (row ++ near ∷ [])
-joins_next name number capacity done old new row was next near here first unused holds joined = record {
+    → JoinsFirst made name number capacity done old new row → IsUnused near → near.past.channel.capacity ≡ capacity
+    → Joined made name number was next near
+    → JoinsFirst made name number capacity (done + 1) old (slice_set new done next) (row ++ near ∷ [])
+joins_next made name number capacity done old new row was next near here first unused holds joined = record {
   count = length-slice_set new done next ∙ first.count;
   row_count = length-append row (near ∷ []) ∙ (let e = first.row_count in omega arith);
   unused = all_push IsUnused row near first.unused unused;
@@ -134,26 +131,62 @@ new_ends_more {Out} {In} number count capacity old new end grown unused holds ar
       (all_push (λ channel. channel.capacity ≡ capacity) (channels_of old) end.past.channel are.holds holds);
 })
 
-channel_stays : (seat : Ends Near) (shard shard' : Ends Far) (near : Near) (name : Name) (number : ℕ)
-    → Joined name number shard shard' near → IsChannel seat shard → IsChannel seat shard'
-channel_stays seat shard shard' near name number joined is = rw joined.grown (record {
-  channel = is.channel;
-  near = is.near;
-  far =
-      rw (map-append (λ (e : Far). e.past.channel) shard.channels (joined.far ∷ []))
-      (get-before (channels_of shard) joined.far.past.channel seat.number is.channel is.far);
-})
+-- what is read off the ends of a shard's channels stays where one channel more comes, and what is read off the new end
 
-channel_made : (seat : Ends Near) (shard shard' : Ends Far) (near : Near) (name : Name) (number : ℕ)
-    → Joined name number shard shard' near → slice_get seat.channels shard.number ≡ Some near → seat.number
-    ≡ length shard.channels → IsChannel seat shard'
-channel_made seat shard shard' near name number joined here last = rw joined.grown (record {
+read_stays : {B : Type 0} (read : Far → B) {made : Bool} {name : Name} {number : ℕ} {shard shard' : Ends Far}
+    {near : Near} (joined : Joined made name number shard shard' near) (place : ℕ) (value : B)
+    → slice_get (map read shard.channels) place ≡ Some value → slice_get (map read shard'.channels) place ≡ Some value
+read_stays read {made} {name} {number} {shard} {shard'} {near} joined place value had =
+    rw (joined.grown, map-append read shard.channels (joined.far ∷ []))
+    (get-before (map read shard.channels) (read joined.far) place value had)
+
+read_last : {B : Type 0} (read : Far → B) {made : Bool} {name : Name} {number : ℕ} {shard shard' : Ends Far}
+    {near : Near} (joined : Joined made name number shard shard' near) (place : ℕ) → place ≡ length shard.channels
+    → slice_get (map read shard'.channels) place ≡ Some (read joined.far)
+read_last read {made} {name} {number} {shard} {shard'} {near} joined place last =
+    rw (joined.grown, map-append read shard.channels (joined.far ∷ []), last)
+    (rw (← length-map shard.channels read) (get_last (map read shard.channels) (read joined.far)))
+
+number_stays : {made : Bool} {name : Name} {number : ℕ} {shard shard' : Ends Far} {near : Near}
+    → Joined made name number shard shard' near → shard'.number ≡ shard.number
+number_stays joined = rw joined.grown refl
+
+lane_stays : (seat : Ends Near) (shard shard' : Ends Far) (near : Near) (made : Bool) (name : Name) (number : ℕ)
+    → Joined made name number shard shard' near → IsLane seat shard → IsLane seat shard'
+lane_stays seat shard shard' near made name number joined is = record {
+  channel = is.channel;
+  near = rw (number_stays joined) is.near;
+  far = read_stays (λ (e : Far). e.past.channel) joined seat.number is.channel is.far;
+}
+
+rings_stay : (seat : Ends Near) (shard shard' : Ends Far) (near : Near) (made : Bool) (name : Name) (number : ℕ)
+    → Joined made name number shard shard' near → ShareRings seat shard → ShareRings seat shard'
+rings_stay seat shard shard' near made name number joined is = record {
+  rings = is.rings;
+  near_rings = rw (number_stays joined) is.near_rings;
+  far_rings = read_stays (λ (e : Far). e.past.rings) joined seat.number (Some is.rings) is.far_rings;
+}
+
+lane_made : (seat : Ends Near) (shard shard' : Ends Far) (near : Near) (made : Bool) (name : Name) (number : ℕ)
+    → Joined made name number shard shard' near → slice_get seat.channels shard.number ≡ Some near → seat.number
+    ≡ length shard.channels → IsLane seat shard'
+lane_made seat shard shard' near made name number joined here last = record {
   channel = near.past.channel;
-  near = slice_get-map (λ (e : Near). e.past.channel) seat.channels shard.number ∙ rw here refl;
-  far =
-      rw (map-append (λ (e : Far). e.past.channel) shard.channels (joined.far ∷ []), last, ← joined.channel)
-      (rw (← length-channels shard) (get_last (channels_of shard) joined.far.past.channel));
-})
+  near = rw (number_stays joined) (get_map (λ (e : Near). e.past.channel) seat.channels shard.number near here);
+  far = read_last (λ (e : Far). e.past.channel) joined seat.number last ∙ ap Some joined.channel;
+}
+
+rings_made : (seat : Ends Near) (shard shard' : Ends Far) (near : Near) (made : Bool) (name : Name) (number : ℕ)
+    → Joined made name number shard shard' near → slice_get seat.channels shard.number ≡ Some near → seat.number
+    ≡ length shard.channels → IsTrue made → ShareRings seat shard'
+rings_made seat shard shard' near made name number joined here last is =
+    let have = joined.rings is in record {
+      rings = have.rings;
+      near_rings =
+          rw (number_stays joined) (get_map (λ (e : Near). e.past.rings) seat.channels shard.number near here)
+          ∙ ap Some have.near_is;
+      far_rings = read_last (λ (e : Far). e.past.rings) joined seat.number last ∙ ap Some have.far_is;
+    }
 
 every_map : {A B : Type 0} (f : A → B) (P : B → Type 0) (xs : List A) → AllByRecursion (λ x. P (f x)) xs
     → AllByRecursion P (map f xs)
@@ -161,19 +194,19 @@ every_map f P [] all = tt
 every_map f P (x ∷ xs) all = (all.0, every_map f P xs all.1)
 
 -- what a shard was before the row came
-record Before (name : Name) (number capacity s : ℕ) (old : List (Ends Far)) (row : List Near) (shard' : Ends Far) : Type
+record Before (made : Bool) (name : Name) (number capacity s : ℕ) (old : List (Ends Far)) (row : List Near) (shard' : Ends Far) : Type
     0 where
   shard : Ends Far
   near : Near
   here : slice_get old s ≡ Some shard
   there : slice_get row s ≡ Some near
-  joined : Joined name number shard shard' near
+  joined : Joined made name number shard shard' near
   holds : near.past.channel.capacity ≡ capacity
 
-shard_before : {name : Name} {number capacity : ℕ} {old new : List (Ends Far)} {row : List Near}
-    (joins : Joins name number capacity old new row) (s : ℕ) (shard' : Ends Far) → slice_get new s ≡ Some shard'
-    → Before name number capacity s old row shard'
-shard_before {name} {number} {capacity} {old} {new} {row} joins s shard' here' =
+shard_before : {made : Bool} {name : Name} {number capacity : ℕ} {old new : List (Ends Far)} {row : List Near}
+    (joins : Joins made name number capacity old new row) (s : ℕ) (shard' : Ends Far) → slice_get new s ≡ Some shard'
+    → Before made name number capacity s old row shard'
+shard_before {made} {name} {number} {capacity} {old} {new} {row} joins s shard' here' =
     let within : s < length new = slice_get_within new s shard' here' in
     let was = get_below old s (let e = joins.count in omega arith) in
     let there = get_below row s (let e = joins.count in let f = joins.row_count in omega arith) in
@@ -187,11 +220,11 @@ shard_before {name} {number} {capacity} {old} {new} {row} joins s shard' here' =
     }
 
 -- Once one seat more has a channel to each shard, there is a channel between each shard and each seat, that one too.
-pub channels_next : (name : Name) (seats shards capacity : ℕ) (near : List (Ends Near)) (old new : List (Ends Far))
-    (row : List Near) → Joins name seats capacity old new row
-    → AreChannels seats shards capacity near old
-    → AreChannels (seats + 1) shards capacity (near ++ record { number = seats; channels = row } ∷ []) new
-channels_next name seats shards capacity near old new row joins are =
+pub channels_next : (made : Bool) (name : Name) (seats shards capacity : ℕ) (near : List (Ends Near)) (old new : List (Ends Far))
+    (row : List Near) → Joins made name seats capacity old new row
+    → AreJoined made seats shards capacity near old
+    → AreJoined made (seats + 1) shards capacity (near ++ record { number = seats; channels = row } ∷ []) new
+channels_next made name seats shards capacity near old new row joins are =
     let seat_new : Ends Near = record { number = seats; channels = row } in
     record {
       seat_count = length-append near (seat_new ∷ []) ∙ (let e = are.seat_count in omega arith);
@@ -209,24 +242,34 @@ channels_next name seats shards capacity near old new row joins are =
           let was = shard_before joins number shard' here' in
           new_ends_more number seats capacity was.shard shard' was.joined.far was.joined.grown was.joined.unused
           (ap (λ channel. channel.capacity) was.joined.channel ∙ was.holds) (are.each_shard number was.shard was.here);
-      each_channel = λ c s seat shard' here here'.
+      each_lane = λ c s seat shard' here here'.
           let was = shard_before joins s shard' here' in
           let old_shard = are.each_shard s was.shard was.here in
           elim (get_push near seat_new c seat here) [
-            | inl before ↦ channel_stays seat was.shard shard' was.near name seats was.joined
-                (are.each_channel c s seat was.shard before was.here)
+            | inl before ↦ lane_stays seat was.shard shard' was.near made name seats was.joined
+                (are.each_lane c s seat was.shard before was.here)
             | inr last ↦ rw (← last.1)
-                (channel_made seat_new was.shard shard' was.near name seats was.joined
+                (lane_made seat_new was.shard shard' was.near made name seats was.joined
                 (rw old_shard.number_is was.there) (sym old_shard.counted))
+          ];
+      each_rings = λ c s seat shard' here here' is.
+          let was = shard_before joins s shard' here' in
+          let old_shard = are.each_shard s was.shard was.here in
+          elim (get_push near seat_new c seat here) [
+            | inl before ↦ rings_stay seat was.shard shard' was.near made name seats was.joined
+                (are.each_rings c s seat was.shard before was.here is)
+            | inr last ↦ rw (← last.1)
+                (rings_made seat_new was.shard shard' was.near made name seats was.joined
+                (rw old_shard.number_is was.there) (sym old_shard.counted) is)
           ];
     }
 
 -- The new seat's channels have their routes too.
-pub routed_next : (name : Name) (seats shards capacity : ℕ) (near : List (Ends Near)) (old new : List (Ends Far))
-    (row : List Near) → Joins name seats capacity old new row
-    → AreChannels seats shards capacity near old → AreRouted name near
+pub routed_next : (made : Bool) (name : Name) (seats shards capacity : ℕ) (near : List (Ends Near)) (old new : List (Ends Far))
+    (row : List Near) → Joins made name seats capacity old new row
+    → AreJoined made seats shards capacity near old → AreRouted name near
     → AreRouted name (near ++ record { number = seats; channels = row } ∷ [])
-routed_next name seats shards capacity near old new row joins are routed c s seat end here there =
+routed_next made name seats shards capacity near old new row joins are routed c s seat end here there =
     let seat_new : Ends Near = record { number = seats; channels = row } in
     elim (get_push near seat_new c seat here) [
       | inl before ↦ routed c s seat end before there
@@ -239,3 +282,34 @@ routed_next name seats shards capacity near old new row joins are routed c s sea
           let shard_is = are.each_shard s was.0 was.1 in
           joined.routed ∙ rw (shard_is.number_is, last.0, are.seat_count) refl
     ]
+
+-- Joined ends are channels where their rings are made.
+pub channels_joined : (seats shards capacity : ℕ) (near : List (Ends Near)) (far : List (Ends Far))
+    → AreJoined true seats shards capacity near far → AreChannels seats shards capacity near far
+channels_joined seats shards capacity near far are = record {
+  seat_count = are.seat_count;
+  shard_count = are.shard_count;
+  each_seat = are.each_seat;
+  each_shard = are.each_shard;
+  each_channel = λ c s seat shard here there.
+      let lane = are.each_lane c s seat shard here there in
+      let rings = are.each_rings c s seat shard here there refl in record {
+        channel = lane.channel;
+        near = lane.near;
+        far = lane.far;
+        rings = rings.rings;
+        near_rings = rings.near_rings;
+        far_rings = rings.far_rings;
+      };
+}
+
+-- In any case they are channels whose rings may be still to be made.
+pub lanes_joined : (made : Bool) (seats shards capacity : ℕ) (near : List (Ends Near)) (far : List (Ends Far))
+    → AreJoined made seats shards capacity near far → AreLanes seats shards capacity near far
+lanes_joined made seats shards capacity near far are = record {
+  seat_count = are.seat_count;
+  shard_count = are.shard_count;
+  each_seat = are.each_seat;
+  each_shard = are.each_shard;
+  each_lane = are.each_lane;
+}

@@ -1,6 +1,6 @@
 -- What a contract sees of the two ends of a channel. A channel is the two rings between a seat and a shard: requests go
 -- from the seat to the shard, replies come back.
-use Rattle.std.specs.Prelude.{ℕ, ◌<◌, ◌+◌, List, length}
+use Rattle.std.specs.Prelude.{ℕ, ◌<◌, ◌+◌, List, [], Option, None, length}
 use denote.RawPtr.{Ptr}
 use Rattle.std.specs.declared.alloc.Global.{Global}
 use Rattle.rtrb.specs.Shared.{Names}
@@ -36,16 +36,21 @@ ring_out consumer =
       heap = consumer.end.heap;
     }
 
--- which channel it is: its rings, how many items each of them holds, and its route
+-- which channel it is: how many items each of its rings holds, and its route
 pub record Channel : Type 0 where
-  pub requests : Ring
-  pub replies : Ring
   pub capacity : ℕ
   pub route : Route
+
+-- which rings a channel has
+pub record Rings : Type 0 where
+  pub requests : Ring
+  pub replies : Ring
 
 -- what went out and came in at one end of a channel, from the channel's beginning on
 pub record Past (Out In : Type 0) : Type 0 where
   pub channel : Channel
+  -- none until they are made
+  pub rings : Option Rings
   pub sent : List Out
   pub received : List In
 
@@ -64,6 +69,21 @@ Near = Side Request Shown
 -- a shard's end
 abbrev pub Far : Type 0
 Far = Side Shown Request
+
+-- the end of a channel whose rings aren't made
+abbrev pub unmade_side : {Out In : Type 0} → ℕ → Route → Side Out In
+unmade_side capacity route =
+    record {
+      past =
+          record {
+            channel = record { capacity = capacity; route = route };
+            rings = None;
+            sent = [];
+            received = [];
+          };
+      ahead = [];
+      free = 0;
+    }
 
 -- Room is known for each push behind the first item until as many were made as the ring holds.
 abbrev pub HasRoom : {T P : Type 0} → Producer T Global P → Type 0

@@ -1,9 +1,9 @@
 -- What a call does to one end of a channel, and to the ends of a seat or of a shard.
 use Rattle.std.specs.Prelude.{◌≡◌, ◌↔◌, ℕ, Bool, IsTrue, ◌<◌, ◌≤◌, ◌+◌, List, [], ◌∷◌, ◌++◌, length, map, slice_get}
-use Rattle.std.specs.Prelude.{slice_set, Some, Option, Result, OnOk, OnErr, IfErr, IfSome, IfNone, IsOk, IsSome}
+use Rattle.std.specs.Prelude.{slice_set, Some, None, Option, Result, OnOk, OnErr, IfErr, IfSome, IfNone, IsOk, IsSome}
 use Rattle.std.specs.Option.{option_map_or}
 use mathlib.Core.List.{IsPrefix}
-use Rattle.mc_ring.specs.Channel.{Channel, Past, Side}
+use Rattle.mc_ring.specs.Channel.{Channel, Past, Rings, Side}
 
 abbrev pub with_sent : {Out In : Type 0} → Out → Past Out In → Past Out In
 with_sent item past = record past { sent = past.sent ++ item ∷ [] }
@@ -18,14 +18,15 @@ pub record Sends {Out In T : Type 0} (view : T → Out) (item : T) (result : Res
   pub sent : OnOk result (new.past ≡ with_sent (view item) old.past)
   -- what is handed back was not sent
   pub back : IfErr result (λ back. (view back ≡ view item) × (new.past ≡ old.past))
-  -- none is handed back while fewer than the capacity were sent
-  pub room : length old.past.sent < old.past.channel.capacity → IsOk result
+  -- where the rings are made, none is handed back while fewer than the capacity were sent
+  pub room : IsSome old.past.rings → length old.past.sent < old.past.channel.capacity → IsOk result
   -- nor where room is known
   pub known : 0 < old.free → IsOk result
   pub left : OnOk result (old.free ≤ new.free + 1)
   pub full : OnErr result (new.free ≡ 0)
   pub ahead : new.ahead ≡ old.ahead
   pub channel : new.past.channel ≡ old.past.channel
+  pub rings : new.past.rings ≡ old.past.rings
 
 -- An item was received, if one was there.
 pub record Receives {Out In T : Type 0} (view : T → In) (result : Option T) (old new : Side Out In) : Type 0 where
@@ -38,11 +39,20 @@ pub record Receives {Out In T : Type 0} (view : T → In) (result : Option T) (o
   pub empty : IfNone result (new.ahead ≡ [])
   pub free : new.free ≡ old.free
   pub channel : new.past.channel ≡ old.past.channel
+  pub rings : new.past.rings ≡ old.past.rings
 
 -- Nothing was sent or received, and no knowledge was lost.
 pub record Looks {Out In : Type 0} (old new : Side Out In) : Type 0 where
   pub past : new.past ≡ old.past
   pub ahead : IsPrefix old.ahead new.ahead
+  pub free : old.free ≤ new.free
+
+-- The rings were made, and nothing else has changed: nothing had passed.
+pub record Opens {Out In : Type 0} (old new : Side Out In) : Type 0 where
+  pub unmade : old.past.rings ≡ None
+  pub made : IsSome new.past.rings
+  pub past : new.past ≡ record old.past { rings = new.past.rings }
+  pub ahead : new.ahead ≡ old.ahead
   pub free : old.free ≤ new.free
 
 -- Whether an item waits was looked up.
@@ -71,11 +81,17 @@ HoldsAt {End} says place ends = (end : End) → slice_get ends.channels place �
 abbrev pub channels_of : {Out In : Type 0} → Ends (Side Out In) → List Channel
 channels_of ends = map (λ end. end.past.channel) ends.channels
 
--- the ends of the same seat or shard, whatever has passed on them
+-- which rings they have
+abbrev pub rings_of : {Out In : Type 0} → Ends (Side Out In) → List (Option Rings)
+rings_of ends = map (λ end. end.past.rings) ends.channels
+
+-- the ends of the same seat or shard, whatever has passed on them; rings that were made are the same ones
 pub record AreSameEnds {Out In : Type 0} (old new : Ends (Side Out In)) : Type 0 where
   pub number : new.number ≡ old.number
   pub count : length new.channels ≡ length old.channels
   pub channels : channels_of new ≡ channels_of old
+  pub rings : (place : ℕ) (rings : Rings) → slice_get (rings_of old) place ≡ Some (Some rings)
+      → slice_get (rings_of new) place ≡ Some (Some rings)
 
 -- the list that is read off the element at a place, where there is one
 abbrev pub list_at : {A B : Type 0} → (A → List B) → List A → ℕ → List B

@@ -5,7 +5,7 @@ use Rattle.std.specs.List.{slice_get}
 use Rattle.std.proofs.lemmas.Bool.Decides.{eqb_tells}
 use Rattle.mc_ring.specs.Channel.{Far, Near, Side}
 use Rattle.mc_ring.specs.Ends.{AtChannel, AreSameEnds, Ends, list_at}
-use Rattle.mc_ring.specs.Made.{IsChannel}
+use Rattle.mc_ring.specs.Made.{IsChannel, IsLane}
 
 module _ {A : Type 0} where
   -- another element is the same
@@ -79,11 +79,12 @@ at_channel-map says read i old new same changed =
 -- The ends are the same ones.
 pub at_channel-same_ends : {Out In : Type 0} (says : Side Out In → Side Out In → Type 0) (i : ℕ)
     (old new : Ends (Side Out In)) → ((x y : Side Out In) → says x y → y.past.channel ≡ x.past.channel)
-    → AtChannel says i old new → AreSameEnds old new
-at_channel-same_ends says i old new same changed = record {
+    → ((x y : Side Out In) → says x y → y.past.rings ≡ x.past.rings) → AtChannel says i old new → AreSameEnds old new
+at_channel-same_ends says i old new same rings changed = record {
   number = rw changed.set refl;
   count = rw changed.set (length-slice_set old.channels i changed.after);
   channels = at_channel-map says (λ end. end.past.channel) i old new same changed;
+  rings = λ place one had. rw (at_channel-map says (λ end. end.past.rings) i old new rings changed) had;
 }
 
 -- Ends that have a channel have it whatever has passed on them.
@@ -93,10 +94,22 @@ channel_kept seat seat' shard shard' same same' is = record {
   channel = is.channel;
   near = rw (same.channels, same'.number) is.near;
   far = rw (same'.channels, same.number) is.far;
+  rings = is.rings;
+  near_rings = rw same'.number (same.rings shard.number is.rings is.near_rings);
+  far_rings = rw same.number (same'.rings seat.number is.rings is.far_rings);
+}
+
+-- So have ends whose rings may be still to be made.
+pub lane_kept : (seat seat' : Ends Near) (shard shard' : Ends Far) → AreSameEnds seat seat'
+    → AreSameEnds shard shard' → IsLane seat shard → IsLane seat' shard'
+lane_kept seat seat' shard shard' same same' is = record {
+  channel = is.channel;
+  near = rw (same.channels, same'.number) is.near;
+  far = rw (same'.channels, same.number) is.far;
 }
 
 pub same_ends-refl : {Out In : Type 0} (ends : Ends (Side Out In)) → AreSameEnds ends ends
-same_ends-refl ends = record { number = refl; count = refl; channels = refl }
+same_ends-refl ends = record { number = refl; count = refl; channels = refl; rings = λ place one had. had }
 
 pub same_ends-trans : {Out In : Type 0} (a b c : Ends (Side Out In)) → AreSameEnds a b → AreSameEnds b c
     → AreSameEnds a c
@@ -104,4 +117,5 @@ same_ends-trans a b c first second = record {
   number = second.number ∙ first.number;
   count = second.count ∙ first.count;
   channels = second.channels ∙ first.channels;
+  rings = λ place one had. second.rings place one (first.rings place one had);
 }

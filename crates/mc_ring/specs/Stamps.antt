@@ -1,5 +1,5 @@
 -- What lies in the rings of a channel: a first item, which fixes the channel's route, and behind it what was sent.
-use Rattle.std.specs.Prelude.{List, [], ◌∷◌, map}
+use Rattle.std.specs.Prelude.{List, [], ◌∷◌, map, Option, Some, None}
 use Rattle.mc_ring.specs.declared.stamped.Stamped.{Stamped}
 use Rattle.mc_ring.specs.Route.{Name, Route, no_history}
 
@@ -8,6 +8,11 @@ module _ {I T : Type 0} where
   abbrev pub route_of : (T → Name) → Stamped I T → Route
   route_of name first =
       record { seat = first.numbers.value.seat; shard = first.numbers.value.shard; name = name first.token }
+
+  -- the route that the first item will fix, where it is here
+  abbrev pub route_from : (T → Name) → Option (Stamped I T) → Route
+  route_from name None = record { seat = 0; shard = 0; name = no_history }
+  route_from name (Some first) = route_of name first
 
   -- The first item was put.
   abbrev pub IsBegun : List (Stamped I T) → Type 0

@@ -3,15 +3,20 @@
 #![tactic(auto)]
 
 mod making;
+mod new_channel;
+mod opening;
 mod pair;
 mod reply;
 mod request;
 mod seat;
+mod seat_lane;
 mod shard;
+mod shard_lane;
 mod stamped;
 mod token;
 
-pub use making::{RingError, channels, channels_with};
+pub use making::{RingError, channels, channels_with, channels_without_rings};
+pub use new_channel::NewChannel;
 pub use pair::beside;
 pub use reply::Reply;
 pub use request::Request;

@@ -1,14 +1,17 @@
 //! A seat's ends of its channels: it sends requests to the shards and receives their replies.
-ghost use Rattle.std.specs.Prelude.{◌≡◌, ◌<◌, IfSome, length};
+ghost use Rattle.std.specs.Prelude.{◌≡◌, ◌<◌, ◌↔◌, IfErr, IfOk, IfSome, IsSome, IsTrue, None, length};
 ghost use Rattle.mc_ring.specs.Reply.{shown};
-ghost use Rattle.mc_ring.specs.Ends.{AreSameEnds, AtChannel, HoldsAt, LooksFor, Receives, Sends};
+ghost use Rattle.mc_ring.specs.Ends.{AreSameEnds, AtChannel, HoldsAt, LooksFor, Opens, Receives, Sends};
+ghost use Rattle.mc_ring.specs.Made.{IsFarEndOf};
 
+use crate::new_channel::NewChannel;
 use crate::reply::Reply;
 use crate::request::Request;
+use crate::seat_lane::SeatLane;
 use crate::stamped::Stamped;
 use crate::token::{Replies, Requests, Token};
 use rtrb::{Consumer, Producer};
-use std::alloc::Global;
+use std::alloc::{AllocError, Global};
 use std::marker::Model;
 
 /// A seat's end of one channel.
@@ -19,7 +22,7 @@ pub(crate) struct SeatChannel<T: Token> {
 }
 
 impl<T: Token> Model for SeatChannel<T> {
-    ghost use Rattle.std.specs.Prelude.{◌≡◌, map};
+    ghost use Rattle.std.specs.Prelude.{◌≡◌, Some, map};
     ghost use Rattle.mc_ring.specs.Reply.{shown};
     ghost use Rattle.rtrb.specs.Ring.{sent, received, producer_capacity, known_items, known_free};
     ghost use Rattle.mc_ring.specs.Channel.{Near, ring_in, ring_out, HasRoom};
@@ -30,11 +33,13 @@ impl<T: Token> Model for SeatChannel<T> {
     ghost view = { λ end. record {
       past = record {
         channel = record {
-          requests = ring_in end.requests;
-          replies = ring_out end.replies;
           capacity = producer_capacity end.requests;
           route = route_at T.name (sent end.requests);
         };
+        rings = Some (record {
+          requests = ring_in end.requests;
+          replies = ring_out end.replies;
+        });
         sent = behind (λ request. request) (sent end.requests);
         received = behind shown (received end.replies);
       };
@@ -85,7 +90,7 @@ impl<T: Token + Drop> SeatChannel<T> {
 /// A seat's ends of its channels, one to each shard. Each request and each reply has a token.
 pub struct SeatEnds<T: Token = ()> {
     number: usize,
-    pub(crate) channels: Vec<SeatChannel<T>>,
+    pub(crate) channels: Vec<SeatLane<T>>,
 }
 
 impl<T: Token + Drop> Drop for SeatEnds<T> {
@@ -111,7 +116,7 @@ impl<T: Token + Drop> SeatEnds<T> {
     ghost use Rattle.mc_ring.specs.Channel.{Near};
 
     /// The ends of the seat of this number.
-    pub(crate) fn new(number: usize, channels: Vec<SeatChannel<T>>) -> SeatEnds<T>
+    pub(crate) fn new(number: usize, channels: Vec<SeatLane<T>>) -> SeatEnds<T>
         ensures { result ≡ record { number = number; channels = channels.items } }
     {
         SeatEnds { number, channels }
@@ -131,8 +136,30 @@ impl<T: Token + Drop> SeatEnds<T> {
         self.channels.len()
     }
 
+    /// Whether the rings of the channel to a shard are made.
+    pub fn is_made(&self, shard: usize) -> bool
+        requires { shard < length self.now.channels }
+        ensures { HoldsAt (λ (end : Near). IsTrue result ↔ IsSome end.past.rings) shard self.now }
+    {
+        self.channels[shard].is_made()
+    }
+
+    /// Makes the rings of the channel to a shard, keeps this end of them, and returns the shard's
+    /// end. `AllocError`: memory ran out; nothing has changed, and the call may be repeated.
+    pub fn open(&mut self, alloc: Global, shard: usize) -> Result<NewChannel<T>, AllocError>
+        requires shard { shard < length self.old.channels }
+        requires unmade { HoldsAt (λ (end : Near). end.past.rings ≡ None) shard self.old }
+        ensures opens { IfOk result (λ far. AtChannel (λ before after.
+            Opens before after × IsFarEndOf far after) shard self.old self.new) }
+        ensures refused { IfErr result (λ refusal. self.new ≡ self.old) }
+        ensures same { AreSameEnds self.old self.new }
+    {
+        self.channels[shard].open(alloc)
+    }
+
     /// Sends a request to a shard with a token that allows it there. Where the ring is full, the
     /// request is returned and the token dropped. Allocates nothing.
+    #[inline(always)]
     pub fn send_with(&mut self, shard: usize, request: Request, token: T) -> Result<(), Request>
         requires shard { shard < length self.old.channels }
         requires may { HoldsAt
@@ -146,6 +173,7 @@ impl<T: Token + Drop> SeatEnds<T> {
 
     /// Receives the reply of a shard that has waited longest, if one waits, with the token that
     /// allows it there. Allocates nothing.
+    #[inline(always)]
     pub fn receive_with(&mut self, shard: usize) -> Option<(Reply, T)>
         requires { shard < length self.old.channels }
         ensures channel { AtChannel (Receives (λ got. shown got.0) result) shard self.old self.new }

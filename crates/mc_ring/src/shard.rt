@@ -1,10 +1,12 @@
 //! A shard's ends of its channels: it takes the requests of the seats and sends its replies.
-ghost use Rattle.std.specs.Prelude.{◌≡◌, ◌<◌, ◌++◌, ◌∷◌, [], IfSome, OnOk, length};
+ghost use Rattle.std.specs.Prelude.{◌≡◌, ◌<◌, ◌++◌, ◌∷◌, [], IfSome, None, OnOk, length};
 ghost use Rattle.mc_ring.specs.Reply.{shown};
-ghost use Rattle.mc_ring.specs.Ends.{AreSameEnds, AtChannel, HoldsAt, LooksFor, Receives, Sends};
+ghost use Rattle.mc_ring.specs.Ends.{AreSameEnds, AtChannel, HoldsAt, LooksFor, Opens, Receives, Sends};
 
+use crate::new_channel::NewChannel;
 use crate::reply::Reply;
 use crate::request::Request;
+use crate::shard_lane::ShardLane;
 use crate::stamped::Stamped;
 use crate::token::{Replies, Requests, Token};
 use rtrb::{Consumer, Producer};
@@ -19,7 +21,7 @@ pub(crate) struct ShardChannel<T: Token> {
 }
 
 impl<T: Token> Model for ShardChannel<T> {
-    ghost use Rattle.std.specs.Prelude.{◌≡◌, map};
+    ghost use Rattle.std.specs.Prelude.{◌≡◌, Some, map};
     ghost use Rattle.mc_ring.specs.Reply.{shown};
     ghost use Rattle.rtrb.specs.Ring.{sent, received, producer_capacity, known_items, known_free};
     ghost use Rattle.mc_ring.specs.Channel.{Far, ring_in, ring_out, HasRoom};
@@ -30,11 +32,13 @@ impl<T: Token> Model for ShardChannel<T> {
     ghost view = { λ end. record {
       past = record {
         channel = record {
-          requests = ring_out end.requests;
-          replies = ring_in end.replies;
           capacity = producer_capacity end.replies;
           route = route_at T.name (received end.requests);
         };
+        rings = Some (record {
+          requests = ring_out end.requests;
+          replies = ring_in end.replies;
+        });
         sent = behind shown (sent end.replies);
         received = behind (λ request. request) (received end.requests);
       };
@@ -85,7 +89,7 @@ impl<T: Token + Drop> ShardChannel<T> {
 /// A shard's ends of its channels, one to each seat. Each request and each reply has a token.
 pub struct ShardEnds<T: Token = ()> {
     number: usize,
-    pub(crate) channels: Vec<ShardChannel<T>>,
+    pub(crate) channels: Vec<ShardLane<T>>,
 }
 
 impl<T: Token + Drop> Drop for ShardEnds<T> {
@@ -121,12 +125,25 @@ impl<T: Token + Drop> ShardEnds<T> {
     }
 
     /// Adds the shard's end of the next seat's channel.
-    pub(crate) fn add(&mut self, channel: ShardChannel<T>) -> Result<(), AllocError>
+    pub(crate) fn add(&mut self, channel: ShardLane<T>) -> Result<(), AllocError>
         ensures { OnOk result (self.new ≡
             record self.old { channels = self.old.channels ++ channel ∷ [] }) }
     {
         self.channels.push(channel)?;
         Ok(())
+    }
+
+    /// Puts the shard's end of a channel where its rings are to be.
+    pub fn add_at(&mut self, seat: usize, channel: NewChannel<T>)
+        requires seat { seat < length self.old.channels }
+        requires unmade { HoldsAt (λ (end : Far).
+            (end.past ≡ record channel.past { rings = None }) × (end.ahead ≡ channel.ahead)
+            × (end.free ≡ 0)) seat self.old }
+        ensures opens { AtChannel (λ before after. Opens before after × (after ≡ channel)) seat
+            self.old self.new }
+        ensures same { AreSameEnds self.old self.new }
+    {
+        self.channels[seat].add(channel)
     }
 
     /// The shard's number.
@@ -145,6 +162,7 @@ impl<T: Token + Drop> ShardEnds<T> {
 
     /// Takes the request of a seat that has waited longest, if one waits, with the token that
     /// allows it there. Allocates nothing.
+    #[inline(always)]
     pub fn take_with(&mut self, seat: usize) -> Option<(Request, T)>
         requires { seat < length self.old.channels }
         ensures channel { AtChannel (Receives (λ got. got.0) result) seat self.old self.new }
@@ -158,6 +176,7 @@ impl<T: Token + Drop> ShardEnds<T> {
 
     /// Sends a reply to a seat with a token that allows it there. Where the ring is full, the reply
     /// is returned and the token dropped. Allocates nothing.
+    #[inline(always)]
     pub fn give_with(&mut self, seat: usize, reply: Reply, token: T) -> Result<(), Reply>
         requires seat { seat < length self.old.channels }
         requires may { HoldsAt

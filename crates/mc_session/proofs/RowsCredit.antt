@@ -1,5 +1,5 @@
 -- Worked rows of what may be under way: with two places two pieces may be, and a third once a reply has come.
-use Rattle.std.proofs.Common.{zero, suc, List, [], ◌∷◌, refl, arith}
+use Rattle.std.proofs.Common.{zero, suc, None, List, [], ◌∷◌, refl, arith}
 use Rattle.mc_ring.specs.declared.request.Request.{Request}
 use Rattle.mc_ring.specs.Reply.{Shown}
 use Rattle.mc_ring.specs.Channel.{Channel, Near}
@@ -12,7 +12,11 @@ at channel sent received =
     record {
       number = 0;
       channels =
-          record { past = record { channel = channel; sent = sent; received = received }; ahead = []; free = 0 } ∷ [];
+          record {
+            past = record { channel = channel; rings = None; sent = sent; received = received };
+            ahead = [];
+            free = 0;
+          } ∷ [];
     }
 
 two_of_two : (channel : Channel) (a b : Request) → IsInCredit 2 (at channel [] []) (at channel (a ∷ b ∷ []) [])

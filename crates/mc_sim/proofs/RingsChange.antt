@@ -30,9 +30,10 @@ pub record ChangesAt {Out In : Type 0} (place : ℕ) (old new : Ends (Side Out I
 -- A change at one end that keeps its channel keeps which ends they are, and all that passed on the other channels.
 pub changes_at : {Out In : Type 0} (says : Side Out In → Side Out In → Type 0) (place : ℕ)
     (old new : Ends (Side Out In)) → ((x y : Side Out In) → says x y → y.past.channel ≡ x.past.channel)
-    → AtChannel says place old new → ChangesAt place old new
-changes_at says place old new same channel = record {
-  same = at_channel-same_ends says place old new same channel;
+    → ((x y : Side Out In) → says x y → y.past.rings ≡ x.past.rings) → AtChannel says place old new
+    → ChangesAt place old new
+changes_at says place old new same rings channel = record {
+  same = at_channel-same_ends says place old new same rings channel;
   sent = λ k other. at_channel-other says (λ end. end.past.sent) place k old new channel other;
   received = λ k other. at_channel-other says (λ end. end.past.received) place k old new channel other;
 }
@@ -248,7 +249,8 @@ look_past read place k old new same channel =
 pub look_changes : {Out In : Type 0} (place : ℕ) (old new : Ends (Side Out In)) → AtChannel Looks place old new
     → ChangesAt place old new
 look_changes place old new channel =
-    changes_at Looks place old new (λ x y says. ap (λ past. past.channel) says.past) channel
+    changes_at Looks place old new (λ x y says. ap (λ past. past.channel) says.past)
+    (λ x y says. ap (λ past. past.rings) says.past) channel
 
 -- A look at a channel leaves what the rings hold, and the states of the shards, as they were.
 pub looked_wired : (sizes : Sizes) (old new : Laid) (wires : Wires) (c s n m : ℕ) → HaveWires sizes old wires

@@ -89,7 +89,7 @@ sent_wired sizes old wires c s seat seat' piece was here channel =
     at_channel-kept says (λ (end : Near). end.past.received) s s seat seat'
     (λ x y is. ap (λ past. past.received) is.sent) channel in
     wired_seat sizes old wires (record wires { pieces = with_channel wires.pieces c s (pieces ++ piece ∷ []) }) c s
-    seat seat' was here (changes_at says s seat seat' (λ x y is. is.channel) channel)
+    seat seat' was here (changes_at says s seat seat' (λ x y is. is.channel) (λ x y is. is.rings) channel)
     (λ worker_state at. let w = was.each_wire c s seat worker_state here at in record {
       pieces_wait =
           longer ∙ ap (λ xs. xs ++ request.Piece piece ∷ []) w.pieces_wait
@@ -134,7 +134,7 @@ received_wired sizes old wires c s seat seat' reply rest was here channel oldest
     at_channel-kept says (λ (end : Near). end.past.sent) s s seat seat' (λ x y is. ap (λ past. past.sent) is.received)
     channel in
     wired_seat sizes old wires (record wires { replies = with_channel wires.replies c s rest }) c s seat seat' was here
-    (changes_at says s seat seat' (λ x y is. is.channel) channel)
+    (changes_at says s seat seat' (λ x y is. is.channel) (λ x y is. is.rings) channel)
     (λ worker_state at. let w = was.each_wire c s seat worker_state here at in record {
       pieces_wait = kept ∙ w.pieces_wait;
       replies_wait =
@@ -269,7 +269,8 @@ ran_wired sizes old wires c s worker_state worker_state' rest was here ran oldes
     let says = TakesIt (Some (request.Piece ran.entry.piece)) in
     let worker = was.each_worker s worker_state here in
     let stepped = ran.step (wires.state s) worker.keeps in
-    let changed = changes_at says c worker_state.ends worker_state'.ends (λ x y is. is.channel) ran.channel in
+    let changed = changes_at says c worker_state.ends worker_state'.ends (λ x y is. is.channel)
+    (λ x y is. is.rings) ran.channel in
     let live_is : worker_state'.live ≡ worker_state.live =
     ap (λ (worker_state : WorkerState). worker_state.live) ran.rest in
     let hand_is : worker_state'.hand ≡ Some (c, reply_to ran.entry) =
@@ -354,7 +355,8 @@ gave_wired sizes old wires c s worker_state worker_state' reply was here held ga
     let channel = at_place says gave.seat c worker_state.ends worker_state'.ends
     (pair_seat gave.seat c (shown gave.reply) reply pair) gave.channel in
     let worker = was.each_worker s worker_state here in
-    let changed = changes_at says c worker_state.ends worker_state'.ends (λ x y is. is.channel) channel in
+    let changed = changes_at says c worker_state.ends worker_state'.ends (λ x y is. is.channel)
+    (λ x y is. is.rings) channel in
     let live_is : worker_state'.live ≡ worker_state.live =
     ap (λ (worker_state : WorkerState). worker_state.live) gave.rest in
     let hand_is : worker_state'.hand ≡ None = ap (λ (worker_state : WorkerState). worker_state.hand) gave.rest in

@@ -35,6 +35,7 @@ receives_item item token old new got = record {
   empty = got.empty;
   free = got.free;
   channel = got.channel;
+  rings = got.rings;
 }
 
 pub receives_none : {Out In T : Type 0} (old new : Side Out In) → Receives {T = In × T} (λ got. got.0) None old new
@@ -47,6 +48,7 @@ receives_none old new got = record {
   empty = got.empty;
   free = got.free;
   channel = got.channel;
+  rings = got.rings;
 }
 
 -- An item that was taken with its token was taken.

@@ -57,7 +57,7 @@ TakesNone = Receives {T = Request} (λ request. request) None
 take_same_ends : (item : Request) (seat : ℕ) (old new : Ends Far) → AtChannel (TakesIt item) seat old new
     → AreSameEnds old new
 take_same_ends item seat old new channel =
-    at_channel-same_ends (TakesIt item) seat old new (λ x y says. says.channel) channel
+    at_channel-same_ends (TakesIt item) seat old new (λ x y says. says.channel) (λ x y says. says.rings) channel
 
 take_sent : (item : Request) (seat k : ℕ) (old new : Ends Far) → AtChannel (TakesIt item) seat old new → sent_on new k
     ≡ sent_on old k
@@ -129,7 +129,8 @@ gave_none : (old new : WorkerState) → GivesIt old new → RunsNoMore old new
 gave_none old new gave begin log had =
     let says = Sends shown gave.reply (Ok tt) in
     let kept = at_channel-kept says received_at gave.seat in
-    let same = at_channel-same_ends says gave.seat old.ends new.ends (λ x y s. s.channel) gave.channel in
+    let same = at_channel-same_ends says gave.seat old.ends new.ends (λ x y s. s.channel) (λ x y s. s.rings)
+    gave.channel in
     let shard_is : new.shard ≡ old.shard = ap (λ (worker_state : WorkerState). worker_state.shard) gave.rest in
     let live_is : new.live ≡ old.live = ap (λ (worker_state : WorkerState). worker_state.live) gave.rest in
     let hand_is : new.hand ≡ None = ap (λ (worker_state : WorkerState). worker_state.hand) gave.rest in
@@ -181,7 +182,8 @@ pub past_same : (says : Far → Far → Type 0) (seat : ℕ) (old new : WorkerSt
     ≡ record old { ends = new.ends } → RunsNoMore old new
 past_same says seat old new same channel rest =
     unchanged old new
-    (at_channel-same_ends says seat old.ends new.ends (λ x y s. ap (λ past. past.channel) (same x y s)) channel)
+    (at_channel-same_ends says seat old.ends new.ends (λ x y s. ap (λ past. past.channel) (same x y s))
+    (λ x y s. ap (λ past. past.rings) (same x y s)) channel)
     (λ k. at_channel-kept says sent_at seat k old.ends new.ends (λ x y s. ap (λ past. past.sent) (same x y s)) channel)
     (λ k. at_channel-kept says received_at seat k old.ends new.ends (λ x y s. ap (λ past. past.received) (same x y s))
     channel)
@@ -248,12 +250,14 @@ pub turned_keeps : (old : WorkerState) (seat : ℕ) (turn : Turn) (new : WorkerS
     → seat < length old.ends.channels → Turned old seat turn new → AreSameEnds old.ends new.ends
 turned_keeps old seat Gave new sound within turned =
     at_channel-same_ends (Sends shown turned.reply (Ok tt)) turned.seat old.ends new.ends (λ x y s. s.channel)
-    turned.channel
+    (λ x y s. s.rings) turned.channel
 turned_keeps old seat Blocked new sound within turned =
-    at_channel-same_ends IsFull turned.seat old.ends new.ends (λ x y s. ap (λ past. past.channel) s.past) turned.channel
+    at_channel-same_ends IsFull turned.seat old.ends new.ends (λ x y s. ap (λ past. past.channel) s.past)
+    (λ x y s. ap (λ past. past.rings) s.past) turned.channel
 turned_keeps old seat Nothing new sound within turned =
     elim (mark_at old.live seat (let e = sound.marked in omega arith)) [
-      | inl live ↦ at_channel-same_ends TakesNone seat old.ends new.ends (λ x y s. s.channel) (turned.live live)
+      | inl live ↦ at_channel-same_ends TakesNone seat old.ends new.ends (λ x y s. s.channel) (λ x y s. s.rings)
+          (turned.live live)
       | inr ended ↦ rw (turned.ended ended) (same_ends-refl old.ends)
     ]
 turned_keeps old seat Ended new sound within turned = take_same_ends request.End seat old.ends new.ends turned.channel

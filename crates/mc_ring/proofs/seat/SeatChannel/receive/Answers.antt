@@ -3,7 +3,7 @@ use Rattle.rtrb.specs.Ring.{received}
 use Rattle.mc_ring.specs.Reply.{shown}
 use Rattle.mc_ring.specs.Stamps.{item_seen}
 use Rattle.mc_ring.proofs.Prefixes.{map_longer}
-use Rattle.mc_ring.proofs.Sides.{channel_is, one_behind, popped, ring_out-same}
+use Rattle.mc_ring.proofs.Sides.{one_behind, popped, ring_out-same, rings_are}
 use Rattle.mc_ring.proofs.seat.SeatChannel.receive.Goals as goal
 
 pub returns-clause-receives : goal.returns-clause-receives
@@ -17,4 +17,4 @@ returns-clause-receives g c =
     ∙ ring_out-same r c.is_empty.new.self c.is_empty.ensures.looked.0 in
     let first = rw c.pop_known.ensures.received.1 at (map_longer (item_seen shown) _ _ c.is_empty.ensures.looked.2) in
     rw (← c.self.view_is, c.open.ensures.0)
-    (popped (λ got. shown got.0) (x.item, c.open.result.1) _ _ (channel_is _ _ refl ring refl refl) refl got first refl)
+    (popped (λ got. shown got.0) (x.item, c.open.result.1) _ _ refl (rings_are _ _ _ _ refl ring) refl got first refl)

@@ -1,7 +1,7 @@
 use Rattle.std.proofs.Common.{◌∙◌, refl, sym, arith}
 use Rattle.rtrb.specs.Ring.{sent}
 use Rattle.mc_ring.specs.declared.request.Request.{Request}
-use Rattle.mc_ring.proofs.Sides.{channel_is, one_begun, one_behind, one_longer, one_route, pushed, ring_in-same}
+use Rattle.mc_ring.proofs.Sides.{channel_is, one_begun, one_behind, one_longer, one_route, pushed, ring_in-same, rings_are}
 use Rattle.mc_ring.proofs.seat.SeatChannel.send.Goals as goal
 
 pub invariant_of-self-2 : goal.invariant_of-self-2
@@ -34,5 +34,5 @@ returns g c =
     ∙ ring_in-same p c.is_full.new.self c.is_full.ensures.looked.0 in
     let free = c.push_reserved.ensures.sent.1 in
     let more = c.is_full.ensures.looked.2 in
-    rw (← c.self.view_is) (pushed (λ request. request) c.args.request _ _ (channel_is _ _ ring refl capacity route)
-    sent_is refl refl (omega (arith, free, more)))
+    rw (← c.self.view_is) (pushed (λ request. request) c.args.request _ _ (channel_is _ _ capacity route)
+    (rings_are _ _ _ _ ring refl) sent_is refl refl (omega (arith, free, more)))

@@ -6,4 +6,4 @@ pub returns-clause-same : goal.returns-clause-same
 returns-clause-same g c =
     rw (← c.self.view_is) (same_ends c.self.inside.number c.self.inside.channels.items c.args.shard
     c.index_mut.result.now c.receive.new.self (search rules) c.index_mut.ensures.value
-    (c.receive.ensures.receives.channel))
+    c.receive.ensures.receives.channel c.receive.ensures.receives.rings)

@@ -5,4 +5,5 @@ use Rattle.mc_ring.proofs.seat.SeatEnds.send_with.Goals as goal
 pub returns-clause-same : goal.returns-clause-same
 returns-clause-same g c =
     rw (← c.self.view_is) (same_ends c.self.inside.number c.self.inside.channels.items c.args.shard
-    c.index_mut.result.now c.send.new.self (search rules) c.index_mut.ensures.value (c.send.ensures.channel))
+    c.index_mut.result.now c.send.new.self (search rules) c.index_mut.ensures.value c.send.ensures.channel
+    c.send.ensures.rings)

@@ -1,7 +1,7 @@
 use Rattle.std.proofs.Common.{◌∙◌, refl, arith}
 use Rattle.rtrb.specs.Ring.{sent}
 use Rattle.mc_ring.specs.Reply.{shown}
-use Rattle.mc_ring.proofs.Sides.{channel_is, one_begun, one_behind, one_longer, one_route, pushed, ring_in-same}
+use Rattle.mc_ring.proofs.Sides.{channel_is, one_begun, one_behind, one_longer, one_route, pushed, ring_in-same, rings_are}
 use Rattle.mc_ring.proofs.shard.ShardChannel.give.Goals as goal
 
 pub invariant_of-self-2 : goal.invariant_of-self-2
@@ -31,5 +31,6 @@ returns g c =
     ∙ ring_in-same p c.is_full.new.self c.is_full.ensures.looked.0 in
     let free = c.push_reserved.ensures.sent.1 in
     let more = c.is_full.ensures.looked.2 in
-    rw (← c.self.view_is) (pushed shown c.args.reply _ _ (channel_is _ _ refl ring capacity refl) sent_is refl refl
+    rw (← c.self.view_is) (pushed shown c.args.reply _ _ (channel_is _ _ capacity refl)
+    (rings_are _ _ _ _ refl ring) sent_is refl refl
     (omega (arith, free, more)))

@@ -3,7 +3,7 @@ use Rattle.rtrb.specs.Ring.{received}
 use Rattle.mc_ring.specs.declared.request.Request.{Request}
 use Rattle.mc_ring.specs.Stamps.{item_seen}
 use Rattle.mc_ring.proofs.Prefixes.{map_longer}
-use Rattle.mc_ring.proofs.Sides.{channel_is, one_begun, one_behind, one_route, popped, ring_out-same}
+use Rattle.mc_ring.proofs.Sides.{channel_is, one_begun, one_behind, one_route, popped, ring_out-same, rings_are}
 use Rattle.mc_ring.proofs.shard.ShardChannel.take.Goals as goal
 
 pub invariant_of-self-2 : goal.invariant_of-self-2
@@ -31,4 +31,5 @@ returns-clause-receives g c =
     let first = rw c.pop_known.ensures.received.1
     at (map_longer (item_seen (λ (request : Request). request)) _ _ c.is_empty.ensures.looked.2) in
     rw (← c.self.view_is, c.open.ensures.0)
-    (popped (λ got. got.0) (x.item, c.open.result.1) _ _ (channel_is _ _ ring refl refl route) refl got first refl)
+    (popped (λ got. got.0) (x.item, c.open.result.1) _ _ (channel_is _ _ refl route)
+    (rings_are _ _ _ _ ring refl) refl got first refl)

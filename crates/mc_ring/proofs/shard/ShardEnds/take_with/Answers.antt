@@ -6,4 +6,4 @@ pub returns-clause-same : goal.returns-clause-same
 returns-clause-same g c =
     rw (← c.self.view_is) (same_ends c.self.inside.number c.self.inside.channels.items
     c.args.seat c.index_mut.result.now c.take.new.self (search rules) c.index_mut.ensures.value
-    (c.take.ensures.receives.channel))
+    c.take.ensures.receives.channel c.take.ensures.receives.rings)

@@ -1,0 +1,96 @@
+//! A shard's end of one channel, which may be still to come.
+ghost use Rattle.std.specs.Prelude.{◌≡◌, IfSome, None};
+ghost use Rattle.mc_ring.specs.Channel.{unmade_side};
+ghost use Rattle.mc_ring.specs.Ends.{LooksFor, Opens, Receives, Sends};
+ghost use Rattle.mc_ring.specs.Reply.{shown};
+
+use crate::new_channel::NewChannel;
+use crate::reply::Reply;
+use crate::request::Request;
+use crate::shard::ShardChannel;
+use crate::stamped::{Numbers, Stamped};
+use crate::token::Token;
+use std::marker::Model;
+use std::snapshot::Snapshot;
+
+/// A shard's end of one channel. It takes memory only once its rings are made.
+#[derive(Drop)]
+pub(crate) struct ShardLane<T: Token> {
+    /// A token of the channel's history, and the channel's numbers; it takes no bytes.
+    first: Stamped<(), T>,
+    /// Of each ring, in items.
+    capacity: Snapshot<usize>,
+    pub(crate) made: Option<Box<ShardChannel<T>>>,
+}
+
+impl<T: Token> Model for ShardLane<T> {
+    ghost use Rattle.std.specs.Option.{option_map_or};
+    ghost use Rattle.mc_ring.specs.Channel.{Far, unmade_side};
+    ghost use Rattle.mc_ring.specs.Stamps.{route_of};
+
+    ghost Value = { Far };
+
+    ghost view = { λ lane. option_map_or (λ channel. channel.value) lane.made
+        (unmade_side lane.capacity.value (route_of T.name lane.first)) };
+}
+
+impl<T: Token + Drop> ShardLane<T> {
+    /// The end of the channel of these numbers, with no rings yet. The token is of their history.
+    pub(crate) fn unmade(capacity: usize, numbers: Numbers, token: T) -> ShardLane<T>
+        ensures { result ≡ unmade_side capacity
+            (record { seat = numbers.seat; shard = numbers.shard; name = T.name token }) }
+    {
+        ShardLane {
+            first: Stamped::first((), token, numbers),
+            capacity: Snapshot::of(&capacity),
+            made: None,
+        }
+    }
+
+    /// Puts the shard's end of the rings where they are to be.
+    pub(crate) fn add(&mut self, channel: NewChannel<T>)
+        requires unmade { self.old.past ≡ record channel.past { rings = None } }
+        requires none { self.old.ahead ≡ channel.ahead }
+        requires free { self.old.free ≡ 0 }
+        ensures opens { Opens self.old self.new }
+        ensures end { self.new ≡ channel }
+    {
+        self.made = Some(channel.into_end());
+    }
+
+    /// Takes the request that has waited longest, if one waits.
+    #[inline(always)]
+    pub(crate) fn take(&mut self) -> Option<(Request, T)>
+        ensures receives { Receives (λ got. got.0) result self.old self.new }
+        ensures may { IfSome result (λ got. T.may_send self.old.past.channel.route
+            self.old.past.received got.0 got.1) }
+    {
+        match &mut self.made {
+            Some(channel) => channel.take(),
+            None => None,
+        }
+    }
+
+    /// Sends a reply, or returns it where the ring is full or isn't there. The token is dropped
+    /// then.
+    #[inline(always)]
+    pub(crate) fn give(&mut self, reply: Reply, token: T) -> Result<(), Reply>
+        requires { T.may_give self.old.past.channel.route self.old.past.sent (shown reply) token }
+        ensures { Sends shown reply result self.old self.new }
+    {
+        match &mut self.made {
+            Some(channel) => channel.give(reply, token),
+            None => Err(reply),
+        }
+    }
+
+    /// Whether a request waits. Allocates nothing.
+    pub(crate) fn has_request(&mut self) -> bool
+        ensures { LooksFor result self.old self.new }
+    {
+        match &mut self.made {
+            Some(channel) => channel.has_request(),
+            None => false,
+        }
+    }
+}
