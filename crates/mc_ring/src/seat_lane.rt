@@ -28,7 +28,7 @@ pub(crate) struct SeatLane<T: Token> {
 }
 
 impl<T: Token> Model for SeatLane<T> {
-    ghost use Rattle.std.specs.Prelude.{◌≡◌, ◌<◌};
+    ghost use Rattle.std.specs.Prelude.{◌≡◌, ◌<◌, IfSome, IsSome};
     ghost use Rattle.std.specs.Option.{IsSomeAnd, option_map_or};
     ghost use Rattle.mc_ring.specs.Channel.{Near, unmade_side};
     ghost use Rattle.mc_ring.specs.Stamps.{route_from};
@@ -39,7 +39,8 @@ impl<T: Token> Model for SeatLane<T> {
         (unmade_side lane.capacity (route_from T.name lane.first)) };
 
     ghost invariant = { λ lane. (0 < lane.capacity)
-        × IsSomeAnd lane.first (λ first. first.numbers.value ≡ lane.numbers) };
+        × IsSomeAnd lane.first (λ first. first.numbers.value ≡ lane.numbers)
+        × IfSome lane.made (λ channel. IsSome channel.value.past.rings) };
 }
 
 impl<T: Token + Drop> SeatLane<T> {
@@ -96,7 +97,10 @@ impl<T: Token + Drop> SeatLane<T> {
     pub(crate) fn is_made(&self) -> bool
         ensures { IsTrue result ↔ IsSome self.now.past.rings }
     {
-        self.made.is_some()
+        match &self.made {
+            Some(_channel) => true,
+            None => false,
+        }
     }
 
     /// Sends a request, or returns it where the ring is full or isn't made. The token is dropped
