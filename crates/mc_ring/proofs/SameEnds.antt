@@ -1,6 +1,6 @@
 -- The ends of a seat or a shard of which one was used are the same ends.
 use Rattle.std.proofs.Common.{◌≡◌, ℕ, zero, suc, ◌<◌, List, [], ◌∷◌, length, map, refl, ap, sym, ◌∙◌, slice_index_or}
-use Rattle.std.proofs.Common.{slice_set, Some, None}
+use Rattle.std.proofs.Common.{slice_set, Some, None, Result, Ok, Err, IfOk, IfErr}
 use Rattle.std.specs.List.{slice_get}
 use Rattle.std.proofs.lemmas.Option.{same_Some, slice_get_read}
 use Rattle.mc_ring.specs.Channel.{Rings, Side}
@@ -67,3 +67,15 @@ module _ {Out In : Type 0} where
   same_ends number ends place before after within read same rings =
       same_ends_here number ends place before after (slice_get_read ends (length ends) place before refl within read)
       same rings
+
+  -- Ends are the same where the rings of one channel were made, or were not for want of memory.
+  pub tried_ends : {A E : Type 0} (result : Result A E) (number : ℕ) (ends : List (Side Out In)) (place : ℕ)
+      (before after : Side Out In) → place < length ends → before ≡ slice_index_or ends place before
+      → IfOk result (λ far. Opens before after) → IfErr result (λ refusal. after ≡ before)
+      → AreSameEnds (record { number = number; channels = ends })
+      (record { number = number; channels = slice_set ends place after })
+  tried_ends (Ok far) number ends place before after within read opens refused =
+      opened_ends number ends place before after within read opens
+  tried_ends (Err refusal) number ends place before after within read opens refused =
+      same_ends number ends place before after within read (ap (λ end. end.past.channel) refused)
+      (ap (λ end. end.past.rings) refused)

@@ -19,7 +19,8 @@ pub record AreNewEnds {Out In : Type 0} (number count capacity : ℕ) (ends : En
   pub unused : AllByRecursion IsUnused ends.channels
   pub holds : AllByRecursion (λ channel. channel.capacity ≡ capacity) (channels_of ends)
 
--- It is the shard's end of the rings that were made for this end of the seat: nothing has passed on them.
+-- It is the shard's end of the rings that were made for this end of the seat: nothing has passed on them, and all their
+-- room is known.
 pub record IsFarEndOf (far : Far) (near : Near) : Type 0 where
   pub channel : far.past.channel ≡ near.past.channel
   pub made : IsSome far.past.rings
@@ -28,6 +29,7 @@ pub record IsFarEndOf (far : Far) (near : Near) : Type 0 where
   pub received : far.past.received ≡ []
   pub ahead : far.ahead ≡ []
   pub free : far.free ≡ far.past.channel.capacity
+  pub room : near.free ≡ near.past.channel.capacity
 
 -- The seat and the shard have this channel, each by the other's number. Its rings may be still to be made.
 pub record IsLane (seat : Ends Near) (shard : Ends Far) : Type 0 where

@@ -193,9 +193,10 @@ fn channel<T: Token + Drop, S: Source<T>>(
 {
     let mut near = SeatLane::unmade(capacity, numbers, source.token());
     let mut far = ShardLane::unmade(capacity, numbers, source.token());
-    if made {
-        let channel = near.open(alloc)?;
-        far.add(channel);
+    if !made {
+        return Ok((near, far));
     }
+    let channel = near.open(alloc)?;
+    far.add(channel);
     Ok((near, far))
 }

@@ -8,7 +8,7 @@ use Rattle.mc_ring.specs.declared.request.Request.{Request}
 use Rattle.mc_ring.specs.declared.request.Request.TheVariants as request
 use Rattle.mc_ring.specs.Reply.{Shown, shown}
 use Rattle.mc_ring.specs.Channel.{Far}
-use Rattle.mc_ring.specs.Ends.{AreSameEnds, AtChannel, Ends, Receives, Sends, received_on, sent_on}
+use Rattle.mc_ring.specs.Ends.{AreSameEnds, AtChannel, Ends, Opens, Receives, Sends, received_on, sent_on}
 use Rattle.mc_ring.specs.EndsLaws.{at_channel-kept, at_channel-longer, at_channel-other, at_channel-same_ends}
 use Rattle.mc_ring.specs.EndsLaws.{get-set_other, get-set_same, same_ends-refl}
 use Rattle.mc_worker.specs.declared.worker.Turn.{Turn}
@@ -186,6 +186,18 @@ past_same says seat old new same channel rest =
     (λ x y s. ap (λ past. past.rings) (same x y s)) channel)
     (λ k. at_channel-kept says sent_at seat k old.ends new.ends (λ x y s. ap (λ past. past.sent) (same x y s)) channel)
     (λ k. at_channel-kept says received_at seat k old.ends new.ends (λ x y s. ap (λ past. past.received) (same x y s))
+    channel)
+    rest
+
+-- a worker that was handed the rings of a channel has run nothing more
+pub opened_none : (far : Far) (seat : ℕ) (old new : WorkerState) → AreSameEnds old.ends new.ends
+    → AtChannel (λ before after. Opens before after × (after ≡ far)) seat old.ends new.ends → new
+    ≡ record old { ends = new.ends } → RunsNoMore old new
+opened_none far seat old new same channel rest =
+    let says : Far → Far → Type 0 = λ before after. Opens before after × (after ≡ far) in
+    unchanged old new same
+    (λ k. at_channel-kept says sent_at seat k old.ends new.ends (λ x y s. ap (λ past. past.sent) s.0.past) channel)
+    (λ k. at_channel-kept says received_at seat k old.ends new.ends (λ x y s. ap (λ past. past.received) s.0.past)
     channel)
     rest
 

@@ -9,7 +9,8 @@ ghost use Rattle.mc_sizes.specs.Sizes.{SuitShards};
 ghost use Rattle.mc_item.specs.Kind.{kind_of};
 ghost use Rattle.mc_ring.specs.declared.request.Request.TheVariants as request;
 ghost use Rattle.mc_ring.specs.Reply.{shown};
-ghost use Rattle.mc_ring.specs.Ends.{AreSameEnds};
+ghost use Rattle.mc_ring.specs.Channel.{Far};
+ghost use Rattle.mc_ring.specs.Ends.{AreSameEnds, AtChannel, HoldsAt, Opens};
 ghost use Rattle.mc_ring.specs.Made.{IsChannel, IsUnused, LooksAtBoth};
 ghost use Rattle.mc_store.specs.Shard.{IsShard, Steps};
 ghost use Rattle.mc_store.specs.State.{State};
@@ -25,7 +26,7 @@ ghost use Rattle.mc_worker.specs.internal.Serving.{RanOn, ServesNext, marked_aft
 use crate::gate::Gate;
 use crate::scribe::Scribe;
 use mc_reply::Ticket;
-use mc_ring::{Reply, Request, SeatEnds, ShardEnds, Token, beside};
+use mc_ring::{NewChannel, Reply, Request, SeatEnds, ShardEnds, Token, beside};
 use mc_sizes::Sizes;
 use mc_split::Piece;
 use mc_store::Shard;
@@ -293,6 +294,21 @@ impl<T: Token + Drop, S: Scribe<T> + Drop> Worker<T, S> {
         ensures keeps { AreSameEnds self.old.ends self.new.ends }
     {
         beside(seat, &mut self.ends)
+    }
+
+    /// Puts the shard's end of a seat's channel where its rings are to be.
+    pub fn add_at(&mut self, seat: usize, channel: NewChannel<T>)
+        requires seat { seat < length self.old.ends.channels }
+        requires unmade { HoldsAt (λ (end : Far).
+            (end.past ≡ record channel.past { rings = None }) × (end.ahead ≡ channel.ahead)
+            × (end.free ≡ 0)) seat self.old.ends }
+        ensures opens { AtChannel (λ before after. Opens before after × (after ≡ channel)) seat
+            self.old.ends self.new.ends }
+        ensures rest { self.new ≡ record self.old { ends = self.new.ends } }
+        ensures ran { RunsNoMore self.old self.new }
+        ensures keeps { AreSameEnds self.old.ends self.new.ends }
+    {
+        self.ends.add_at(seat, channel)
     }
 
     /// Sends the pending reply, if there is one, then serves requests of one seat while its channel
