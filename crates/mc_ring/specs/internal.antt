@@ -1,2 +1,3 @@
 -- Definitions that only private contracts name.
 pub mod Joined
+pub mod Looking

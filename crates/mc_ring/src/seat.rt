@@ -1,8 +1,9 @@
 //! A seat's ends of its channels: it sends requests to the shards and receives their replies.
-ghost use Rattle.std.specs.Prelude.{◌≡◌, ◌<◌, ◌↔◌, IfErr, IfOk, IfSome, IsSome, IsTrue, None, length};
+ghost use Rattle.std.specs.Prelude.{◌≡◌, ◌<◌, ◌↔◌, IfErr, IfOk, IfSome, IsSome, IsTrue, None, Ok, Some, length};
 ghost use Rattle.mc_ring.specs.Reply.{shown};
 ghost use Rattle.mc_ring.specs.Ends.{AreSameEnds, AtChannel, HoldsAt, LooksFor, Opens, Receives, Sends};
 ghost use Rattle.mc_ring.specs.Made.{IsFarEndOf};
+ghost use Rattle.mc_ring.specs.internal.Looking.{LooksForRoom};
 
 use crate::new_channel::NewChannel;
 use crate::reply::Reply;
@@ -53,35 +54,40 @@ impl<T: Token> Model for SeatChannel<T> {
 }
 
 impl<T: Token + Drop> SeatChannel<T> {
-    /// Sends a request, or returns it where the ring is full. The token is dropped then.
+    /// Whether there is room for a request.
     #[inline(always)]
-    pub(crate) fn send(&mut self, request: Request, token: T) -> Result<(), Request>
-        requires { T.may_send self.old.past.channel.route self.old.past.sent request token }
-        ensures { Sends (λ sent. sent) request result self.old self.new }
+    pub(crate) fn has_room(&mut self) -> bool
+        ensures { LooksForRoom result self.old self.new }
     {
-        if self.requests.is_full() {
-            return Err(request);
-        }
-        self.requests.push_reserved(Stamped::new(request, token));
-        Ok(())
+        !self.requests.is_full()
     }
 
-    /// Receives the reply that has waited longest, if one waits.
+    /// Sends a request where room is known.
     #[inline(always)]
-    pub(crate) fn receive(&mut self) -> Option<(Reply, T)>
-        ensures receives { Receives (λ got. shown got.0) result self.old self.new }
-        ensures may { IfSome result (λ got. T.may_give self.old.past.channel.route
-            self.old.past.received (shown got.0) got.1) }
+    pub(crate) fn put(&mut self, request: Request, token: T)
+        requires room { 0 < self.old.free }
+        requires may { T.may_send self.old.past.channel.route self.old.past.sent request token }
+        ensures { Sends (λ sent. sent) request (Ok tt) self.old self.new }
     {
-        if self.replies.is_empty() {
-            return None;
-        }
-        Some(self.replies.pop_known().open())
+        self.requests.push_reserved(Stamped::new(request, token));
+    }
+
+    /// Receives the reply that has waited longest, where one is known to wait.
+    #[inline(always)]
+    pub(crate) fn get(&mut self) -> (Reply, T)
+        requires { 0 < length self.old.ahead }
+        ensures receives { Receives (λ got. shown got.0) (Some result) self.old self.new }
+        ensures may { T.may_give self.old.past.channel.route self.old.past.received
+            (shown result.0) result.1 }
+    {
+        self.replies.pop_known().open()
     }
 
     /// Whether a reply waits. Allocates nothing.
+    #[inline(always)]
     pub(crate) fn has_reply(&mut self) -> bool
-        ensures { LooksFor result self.old self.new }
+        ensures looks { LooksFor result self.old self.new }
+        ensures free { self.new.free ≡ self.old.free }
     {
         !self.replies.is_empty()
     }

@@ -1,8 +1,9 @@
 //! A seat's end of one channel, whose rings may be still to be made.
-ghost use Rattle.std.specs.Prelude.{◌≡◌, ◌<◌, ◌↔◌, IfErr, IfOk, IfSome, IsSome, IsTrue, None};
+ghost use Rattle.std.specs.Prelude.{◌≡◌, ◌<◌, ◌↔◌, IfErr, IfOk, IfSome, IsSome, IsTrue, None, Ok, Some, length};
 ghost use Rattle.mc_ring.specs.Channel.{unmade_side};
 ghost use Rattle.mc_ring.specs.Ends.{LooksFor, Opens, Receives, Sends};
 ghost use Rattle.mc_ring.specs.Made.{IsFarEndOf};
+ghost use Rattle.mc_ring.specs.internal.Looking.{LooksForRoom};
 ghost use Rattle.mc_ring.specs.Reply.{shown};
 
 use crate::new_channel::NewChannel;
@@ -110,10 +111,35 @@ impl<T: Token + Drop> SeatLane<T> {
         requires { T.may_send self.old.past.channel.route self.old.past.sent request token }
         ensures { Sends (λ sent. sent) request result self.old self.new }
     {
-        match &mut self.made {
-            Some(channel) => channel.send(request, token),
-            None => Err(request),
+        if !self.has_room() {
+            return Err(request);
         }
+        self.put(request, token);
+        Ok(())
+    }
+
+    /// Whether there is room for a request.
+    #[inline(always)]
+    fn has_room(&mut self) -> bool
+        ensures { LooksForRoom result self.old self.new }
+    {
+        match &mut self.made {
+            Some(channel) => channel.has_room(),
+            None => false,
+        }
+    }
+
+    /// Sends a request where room is known.
+    #[inline(always)]
+    fn put(&mut self, request: Request, token: T)
+        requires room { 0 < self.old.free }
+        requires may { T.may_send self.old.past.channel.route self.old.past.sent request token }
+        ensures { Sends (λ sent. sent) request (Ok tt) self.old self.new }
+    {
+        let Some(channel) = &mut self.made else {
+            unreachable!()
+        };
+        channel.put(request, token)
     }
 
     /// Receives the reply that has waited longest, if one waits.
@@ -123,15 +149,31 @@ impl<T: Token + Drop> SeatLane<T> {
         ensures may { IfSome result (λ got. T.may_give self.old.past.channel.route
             self.old.past.received (shown got.0) got.1) }
     {
-        match &mut self.made {
-            Some(channel) => channel.receive(),
-            None => None,
+        if !self.has_reply() {
+            return None;
         }
+        Some(self.get())
+    }
+
+    /// Receives the reply that has waited longest, where one is known to wait.
+    #[inline(always)]
+    fn get(&mut self) -> (Reply, T)
+        requires { 0 < length self.old.ahead }
+        ensures receives { Receives (λ got. shown got.0) (Some result) self.old self.new }
+        ensures may { T.may_give self.old.past.channel.route self.old.past.received
+            (shown result.0) result.1 }
+    {
+        let Some(channel) = &mut self.made else {
+            unreachable!()
+        };
+        channel.get()
     }
 
     /// Whether a reply waits. Allocates nothing.
+    #[inline(always)]
     pub(crate) fn has_reply(&mut self) -> bool
-        ensures { LooksFor result self.old self.new }
+        ensures looks { LooksFor result self.old self.new }
+        ensures free { self.new.free ≡ self.old.free }
     {
         match &mut self.made {
             Some(channel) => channel.has_reply(),

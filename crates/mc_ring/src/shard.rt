@@ -1,7 +1,8 @@
 //! A shard's ends of its channels: it takes the requests of the seats and sends its replies.
-ghost use Rattle.std.specs.Prelude.{◌≡◌, ◌<◌, ◌++◌, ◌∷◌, [], IfSome, None, OnOk, length};
+ghost use Rattle.std.specs.Prelude.{◌≡◌, ◌<◌, ◌++◌, ◌∷◌, [], IfSome, None, Ok, OnOk, Some, length};
 ghost use Rattle.mc_ring.specs.Reply.{shown};
 ghost use Rattle.mc_ring.specs.Ends.{AreSameEnds, AtChannel, HoldsAt, LooksFor, Opens, Receives, Sends};
+ghost use Rattle.mc_ring.specs.internal.Looking.{LooksForRoom};
 
 use crate::new_channel::NewChannel;
 use crate::reply::Reply;
@@ -52,35 +53,41 @@ impl<T: Token> Model for ShardChannel<T> {
 }
 
 impl<T: Token + Drop> ShardChannel<T> {
-    /// Takes the request that has waited longest, if one waits.
+    /// Takes the request that has waited longest, where one is known to wait.
     #[inline(always)]
-    pub(crate) fn take(&mut self) -> Option<(Request, T)>
-        ensures receives { Receives (λ got. got.0) result self.old self.new }
-        ensures may { IfSome result (λ got. T.may_send self.old.past.channel.route
-            self.old.past.received got.0 got.1) }
+    pub(crate) fn get(&mut self) -> (Request, T)
+        requires { 0 < length self.old.ahead }
+        ensures receives { Receives (λ got. got.0) (Some result) self.old self.new }
+        ensures may { T.may_send self.old.past.channel.route self.old.past.received
+            result.0 result.1 }
     {
-        if self.requests.is_empty() {
-            return None;
-        }
-        Some(self.requests.pop_known().open())
+        self.requests.pop_known().open()
     }
 
-    /// Sends a reply, or returns it where the ring is full. The token is dropped then.
+    /// Whether there is room for a reply.
     #[inline(always)]
-    pub(crate) fn give(&mut self, reply: Reply, token: T) -> Result<(), Reply>
-        requires { T.may_give self.old.past.channel.route self.old.past.sent (shown reply) token }
-        ensures { Sends shown reply result self.old self.new }
+    pub(crate) fn has_room(&mut self) -> bool
+        ensures { LooksForRoom result self.old self.new }
     {
-        if self.replies.is_full() {
-            return Err(reply);
-        }
+        !self.replies.is_full()
+    }
+
+    /// Sends a reply where room is known.
+    #[inline(always)]
+    pub(crate) fn put(&mut self, reply: Reply, token: T)
+        requires room { 0 < self.old.free }
+        requires may { T.may_give self.old.past.channel.route self.old.past.sent (shown reply)
+            token }
+        ensures { Sends shown reply (Ok tt) self.old self.new }
+    {
         self.replies.push_reserved(Stamped::new(reply, token));
-        Ok(())
     }
 
     /// Whether a request waits. Allocates nothing.
+    #[inline(always)]
     pub(crate) fn has_request(&mut self) -> bool
-        ensures { LooksFor result self.old self.new }
+        ensures looks { LooksFor result self.old self.new }
+        ensures free { self.new.free ≡ self.old.free }
     {
         !self.requests.is_empty()
     }

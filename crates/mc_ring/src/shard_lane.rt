@@ -1,7 +1,8 @@
 //! A shard's end of one channel, which may be still to come.
-ghost use Rattle.std.specs.Prelude.{◌≡◌, IfSome, None};
+ghost use Rattle.std.specs.Prelude.{◌≡◌, ◌<◌, IfSome, None, Ok, Some, length};
 ghost use Rattle.mc_ring.specs.Channel.{unmade_side};
 ghost use Rattle.mc_ring.specs.Ends.{LooksFor, Opens, Receives, Sends};
+ghost use Rattle.mc_ring.specs.internal.Looking.{LooksForRoom};
 ghost use Rattle.mc_ring.specs.Reply.{shown};
 
 use crate::new_channel::NewChannel;
@@ -65,10 +66,24 @@ impl<T: Token + Drop> ShardLane<T> {
         ensures may { IfSome result (λ got. T.may_send self.old.past.channel.route
             self.old.past.received got.0 got.1) }
     {
-        match &mut self.made {
-            Some(channel) => channel.take(),
-            None => None,
+        if !self.has_request() {
+            return None;
         }
+        Some(self.get())
+    }
+
+    /// Takes the request that has waited longest, where one is known to wait.
+    #[inline(always)]
+    fn get(&mut self) -> (Request, T)
+        requires { 0 < length self.old.ahead }
+        ensures receives { Receives (λ got. got.0) (Some result) self.old self.new }
+        ensures may { T.may_send self.old.past.channel.route self.old.past.received
+            result.0 result.1 }
+    {
+        let Some(channel) = &mut self.made else {
+            unreachable!()
+        };
+        channel.get()
     }
 
     /// Sends a reply, or returns it where the ring is full or isn't there. The token is dropped
@@ -78,15 +93,43 @@ impl<T: Token + Drop> ShardLane<T> {
         requires { T.may_give self.old.past.channel.route self.old.past.sent (shown reply) token }
         ensures { Sends shown reply result self.old self.new }
     {
+        if !self.has_room() {
+            return Err(reply);
+        }
+        self.put(reply, token);
+        Ok(())
+    }
+
+    /// Whether there is room for a reply.
+    #[inline(always)]
+    fn has_room(&mut self) -> bool
+        ensures { LooksForRoom result self.old self.new }
+    {
         match &mut self.made {
-            Some(channel) => channel.give(reply, token),
-            None => Err(reply),
+            Some(channel) => channel.has_room(),
+            None => false,
         }
     }
 
+    /// Sends a reply where room is known.
+    #[inline(always)]
+    fn put(&mut self, reply: Reply, token: T)
+        requires room { 0 < self.old.free }
+        requires may { T.may_give self.old.past.channel.route self.old.past.sent (shown reply)
+            token }
+        ensures { Sends shown reply (Ok tt) self.old self.new }
+    {
+        let Some(channel) = &mut self.made else {
+            unreachable!()
+        };
+        channel.put(reply, token)
+    }
+
     /// Whether a request waits. Allocates nothing.
+    #[inline(always)]
     pub(crate) fn has_request(&mut self) -> bool
-        ensures { LooksFor result self.old self.new }
+        ensures looks { LooksFor result self.old self.new }
+        ensures free { self.new.free ≡ self.old.free }
     {
         match &mut self.made {
             Some(channel) => channel.has_request(),

@@ -5,8 +5,8 @@ use Rattle.mc_ring.specs.Stamps.{item_seen}
 use Rattle.mc_ring.proofs.Prefixes.{map_longer}
 use Rattle.mc_ring.proofs.shard.ShardChannel.has_request.Goals as goal
 
-pub returns : goal.returns
-returns g c = rw (← c.self.view_is) (record {
+pub returns-clause-looks : goal.returns-clause-looks
+returns-clause-looks g c = rw (← c.self.view_is) (record {
   looked = record {
     past = search rules;
     ahead = map_longer (item_seen (λ (request : Request). request)) _ _ c.is_empty.ensures.looked.2;
