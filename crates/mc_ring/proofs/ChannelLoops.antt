@@ -1,5 +1,6 @@
 -- The loops that make the channels.
-use Rattle.std.proofs.Common.{◌≡◌, ◌≢◌, ℕ, zero, suc, Bool, true, IsTrue, ◌<◌, ◌≤◌, ◌+◌, List, [], ◌∷◌, ◌++◌, ◌⊎◌, inl, inr, length, map}
+use Rattle.std.proofs.Common.{◌≡◌, ◌≢◌, ℕ, zero, suc, Bool, true, IsTrue, ◌<◌, ◌≤◌, ◌+◌, List, [], ◌∷◌, ◌++◌, ◌⊎◌}
+use Rattle.std.proofs.Common.{inl, inr, length, map}
 use Rattle.std.proofs.Common.{refl, ap, sym, ◌∙◌, arith, slice_set, Some, length-append, take}
 use Rattle.std.specs.List.{AllByRecursion, slice_get}
 use Rattle.std.proofs.lemmas.Option.{slice_get_within, same_Some}
@@ -14,16 +15,16 @@ use Rattle.mc_ring.specs.internal.Joined.{AreJoined, Joined, Joins, ShareRings}
 use Rattle.mc_ring.proofs.Lists.{all_at, all_push, get_below, get_last, get_map}
 
 -- The first shards have one channel more, the others have not.
-pub record JoinsFirst (made : Bool) (name : Name) (number capacity done : ℕ) (old new : List (Ends Far)) (row : List Near) : Type 0
-  where
-    pub count : length new ≡ length old
-    pub row_count : length row ≡ done
-    pub unused : AllByRecursion IsUnused row
-    pub holds : AllByRecursion (λ near. near.past.channel.capacity ≡ capacity) row
-    pub each : (s : ℕ) (shard shard' : Ends Far) (near : Near) → s < done → slice_get old s ≡ Some shard
-        → slice_get new s
-        ≡ Some shard' → slice_get row s ≡ Some near → Joined made name number shard shard' near
-    pub others : (s : ℕ) → done ≤ s → slice_get new s ≡ slice_get old s
+pub record JoinsFirst (made : Bool) (name : Name) (number capacity done : ℕ) (old new : List (Ends Far))
+    (row : List Near) : Type 0 where
+  pub count : length new ≡ length old
+  pub row_count : length row ≡ done
+  pub unused : AllByRecursion IsUnused row
+  pub holds : AllByRecursion (λ near. near.past.channel.capacity ≡ capacity) row
+  pub each : (s : ℕ) (shard shard' : Ends Far) (near : Near) → s < done → slice_get old s ≡ Some shard
+      → slice_get new s
+      ≡ Some shard' → slice_get row s ≡ Some near → Joined made name number shard shard' near
+  pub others : (s : ℕ) → done ≤ s → slice_get new s ≡ slice_get old s
 
 -- Shards that have no channel.
 pub record NewShards (count : ℕ) (far : List (Ends Far)) : Type 0 where
@@ -69,8 +70,8 @@ joins_none made name number capacity old = record {
 }
 
 -- after the last shard, where the room behind the elements is cut off again
-pub joins_all : (made : Bool) (name : Name) (number capacity done : ℕ) (old new behind : List (Ends Far)) (row : List Near)
-    (count : ℕ) → length old ≤ done → done ≤ length new → count ≡ length old
+pub joins_all : (made : Bool) (name : Name) (number capacity done : ℕ) (old new behind : List (Ends Far))
+    (row : List Near) (count : ℕ) → length old ≤ done → done ≤ length new → count ≡ length old
     → JoinsFirst made name number capacity done old new row
     → Joins made name number capacity old (take count (new ++ behind)) row
 joins_all made name number capacity done old new behind row count whole within counted first =
@@ -194,8 +195,8 @@ every_map f P [] all = tt
 every_map f P (x ∷ xs) all = (all.0, every_map f P xs all.1)
 
 -- what a shard was before the row came
-record Before (made : Bool) (name : Name) (number capacity s : ℕ) (old : List (Ends Far)) (row : List Near) (shard' : Ends Far) : Type
-    0 where
+record Before (made : Bool) (name : Name) (number capacity s : ℕ) (old : List (Ends Far)) (row : List Near)
+    (shard' : Ends Far) : Type 0 where
   shard : Ends Far
   near : Near
   here : slice_get old s ≡ Some shard
@@ -220,8 +221,8 @@ shard_before {made} {name} {number} {capacity} {old} {new} {row} joins s shard' 
     }
 
 -- Once one seat more has a channel to each shard, there is a channel between each shard and each seat, that one too.
-pub channels_next : (made : Bool) (name : Name) (seats shards capacity : ℕ) (near : List (Ends Near)) (old new : List (Ends Far))
-    (row : List Near) → Joins made name seats capacity old new row
+pub channels_next : (made : Bool) (name : Name) (seats shards capacity : ℕ) (near : List (Ends Near))
+    (old new : List (Ends Far)) (row : List Near) → Joins made name seats capacity old new row
     → AreJoined made seats shards capacity near old
     → AreJoined made (seats + 1) shards capacity (near ++ record { number = seats; channels = row } ∷ []) new
 channels_next made name seats shards capacity near old new row joins are =
@@ -265,8 +266,8 @@ channels_next made name seats shards capacity near old new row joins are =
     }
 
 -- The new seat's channels have their routes too.
-pub routed_next : (made : Bool) (name : Name) (seats shards capacity : ℕ) (near : List (Ends Near)) (old new : List (Ends Far))
-    (row : List Near) → Joins made name seats capacity old new row
+pub routed_next : (made : Bool) (name : Name) (seats shards capacity : ℕ) (near : List (Ends Near))
+    (old new : List (Ends Far)) (row : List Near) → Joins made name seats capacity old new row
     → AreJoined made seats shards capacity near old → AreRouted name near
     → AreRouted name (near ++ record { number = seats; channels = row } ∷ [])
 routed_next made name seats shards capacity near old new row joins are routed c s seat end here there =

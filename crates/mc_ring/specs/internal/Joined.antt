@@ -48,14 +48,14 @@ pub record Joined (made : Bool) (name : Name) (number : ℕ) (old new : Ends Far
   pub unused : IsUnused far
 
 -- Each shard has one channel more, and the other ends of these channels are the row.
-pub record Joins (made : Bool) (name : Name) (number capacity : ℕ) (old new : List (Ends Far)) (row : List Near) : Type 0
-  where
-    pub count : length new ≡ length old
-    pub row_count : length row ≡ length old
-    pub unused : AllByRecursion IsUnused row
-    pub holds : AllByRecursion (λ near. near.past.channel.capacity ≡ capacity) row
-    pub each : (s : ℕ) (shard shard' : Ends Far) (near : Near) → slice_get old s ≡ Some shard → slice_get new s
-        ≡ Some shard' → slice_get row s ≡ Some near → Joined made name number shard shard' near
+pub record Joins (made : Bool) (name : Name) (number capacity : ℕ) (old new : List (Ends Far)) (row : List Near) :
+    Type 0 where
+  pub count : length new ≡ length old
+  pub row_count : length row ≡ length old
+  pub unused : AllByRecursion IsUnused row
+  pub holds : AllByRecursion (λ near. near.past.channel.capacity ≡ capacity) row
+  pub each : (s : ℕ) (shard shard' : Ends Far) (near : Near) → slice_get old s ≡ Some shard → slice_get new s
+      ≡ Some shard' → slice_get row s ≡ Some near → Joined made name number shard shard' near
 
 -- The seat and the shard have these rings, each by the other's number.
 pub record ShareRings (seat : Ends Near) (shard : Ends Far) : Type 0 where
@@ -64,15 +64,15 @@ pub record ShareRings (seat : Ends Near) (shard : Ends Far) : Type 0 where
   pub far_rings : slice_get (rings_of shard) seat.number ≡ Some (Some rings)
 
 -- New ends, a channel between each seat and each shard, whose rings are made where `made` says so.
-pub record AreJoined (made : Bool) (seats shards capacity : ℕ) (near : List (Ends Near)) (far : List (Ends Far)) : Type 0
-  where
-    pub seat_count : length near ≡ seats
-    pub shard_count : length far ≡ shards
-    pub each_seat : (number : ℕ) (seat : Ends Near) → slice_get near number
-        ≡ Some seat → AreNewEnds number shards capacity seat
-    pub each_shard : (number : ℕ) (shard : Ends Far) → slice_get far number ≡ Some shard
-        → AreNewEnds number seats capacity shard
-    pub each_lane : (c s : ℕ) (seat : Ends Near) (shard : Ends Far) → slice_get near c ≡ Some seat → slice_get far s
-        ≡ Some shard → IsLane seat shard
-    pub each_rings : (c s : ℕ) (seat : Ends Near) (shard : Ends Far) → slice_get near c ≡ Some seat → slice_get far s
-        ≡ Some shard → IsTrue made → ShareRings seat shard
+pub record AreJoined (made : Bool) (seats shards capacity : ℕ) (near : List (Ends Near)) (far : List (Ends Far)) :
+    Type 0 where
+  pub seat_count : length near ≡ seats
+  pub shard_count : length far ≡ shards
+  pub each_seat : (number : ℕ) (seat : Ends Near) → slice_get near number
+      ≡ Some seat → AreNewEnds number shards capacity seat
+  pub each_shard : (number : ℕ) (shard : Ends Far) → slice_get far number ≡ Some shard
+      → AreNewEnds number seats capacity shard
+  pub each_lane : (c s : ℕ) (seat : Ends Near) (shard : Ends Far) → slice_get near c ≡ Some seat → slice_get far s
+      ≡ Some shard → IsLane seat shard
+  pub each_rings : (c s : ℕ) (seat : Ends Near) (shard : Ends Far) → slice_get near c ≡ Some seat → slice_get far s
+      ≡ Some shard → IsTrue made → ShareRings seat shard

@@ -13,7 +13,8 @@ loop-shard-preserved g c =
     let name = g.S.Source.name c.args.source.now in (
       rw c.in_ok-push.ensures.items
           (joins_next c.args.made name c.args.number c.args.capacity s c.args.shards.now.items ends
-          c.loop-shard.row.items was c.add.new.self c.in_ok-near.near here c.loop-shard.invariant.0 made.near made.capacity
+          c.loop-shard.row.items was c.add.new.self c.in_ok-near.near here c.loop-shard.invariant.0 made.near
+          made.capacity
           (record {
             far = c.in_ok-near.far;
             routed = made.route ∙ rw (c.loop-shard.invariant.1, c.number.ensures) refl;

@@ -1,5 +1,6 @@
 -- Each round makes the ends of one shard more.
-use Rattle.std.proofs.Common.{◌≡◌, ℕ, Bool, ◌+◌, ◌≤◌, List, [], ◌∷◌, ◌++◌, inl, inr, refl, sym, ap, ◌∙◌, arith, length-append}
+use Rattle.std.proofs.Common.{◌≡◌, ℕ, Bool, ◌+◌, ◌≤◌, List, [], ◌∷◌, ◌++◌, inl, inr, refl, sym, ap, ◌∙◌, arith}
+use Rattle.std.proofs.Common.{length-append}
 use Rattle.mc_ring.specs.Ends.{Ends}
 use Rattle.mc_ring.specs.Channel.{Far}
 use Rattle.mc_ring.specs.internal.Joined.{AreJoined}

@@ -1,7 +1,8 @@
 use Rattle.std.proofs.Common.{◌∙◌, refl, arith}
 use Rattle.rtrb.specs.Ring.{sent}
 use Rattle.mc_ring.specs.Reply.{shown}
-use Rattle.mc_ring.proofs.Sides.{channel_is, one_begun, one_behind, one_longer, one_route, pushed, ring_in-same, rings_are}
+use Rattle.mc_ring.proofs.Sides.{channel_is, one_begun, one_behind, one_longer, one_route, pushed, ring_in-same}
+use Rattle.mc_ring.proofs.Sides.{rings_are}
 use Rattle.mc_ring.proofs.shard.ShardChannel.put.Goals as goal
 
 pub invariant_of-self : goal.invariant_of-self
