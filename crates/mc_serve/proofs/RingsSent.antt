@@ -23,10 +23,14 @@ use Rattle.mc_ring.specs.contracts.reply.Reply as reply
 use Rattle.mc_ring.specs.contracts.stamped.Stamped as stamped
 use Rattle.mc_ring.specs.contracts.seat.SeatChannel as seat_channel
 use Rattle.mc_ring.specs.contracts.seat.SeatChannel.TheInside as in_seat_channel
+use Rattle.mc_ring.specs.contracts.seat_lane.SeatLane as seat_lane
+use Rattle.mc_ring.specs.contracts.seat_lane.SeatLane.TheInside as in_seat_lane
 use Rattle.mc_ring.specs.contracts.seat.SeatEnds as seat_ends
 use Rattle.mc_ring.specs.contracts.seat.SeatEnds.TheInside as in_seat_ends
 use Rattle.mc_ring.specs.contracts.shard.ShardChannel as shard_channel
 use Rattle.mc_ring.specs.contracts.shard.ShardChannel.TheInside as in_shard_channel
+use Rattle.mc_ring.specs.contracts.shard_lane.ShardLane as shard_lane
+use Rattle.mc_ring.specs.contracts.shard_lane.ShardLane.TheInside as in_shard_lane
 use Rattle.mc_ring.specs.contracts.shard.ShardEnds as shard_ends
 use Rattle.mc_ring.specs.contracts.shard.ShardEnds.TheInside as in_shard_ends
 use Rattle.mc_ring.proofs.request.Request.TheSendSync as request_sent
@@ -105,15 +109,25 @@ module _ (T : RattleType) (tokens : TokenGhosts T.Denot) (token : IsSend T) wher
       view_send _ _ _ _ _ (declared_send (in_shard_channel.the_type T tokens)
       (consumer_send _ _ _ requests, (producer_send _ _ _ replies, tt)))
 
+  seat_lane_send : IsSend (seat_lane.the_row T tokens)
+  seat_lane_send =
+      view_send _ _ _ _ _ (declared_send (in_seat_lane.the_type T tokens)
+      (search (stamped_send, token, seat_channel_send, sendable, crosses) depth 20))
+
+  shard_lane_send : IsSend (shard_lane.the_row T tokens)
+  shard_lane_send =
+      view_send _ _ _ _ _ (declared_send (in_shard_lane.the_type T tokens)
+      (search (stamped_send, token, shard_channel_send, sendable, crosses) depth 20))
+
   pub seat_ends_send : IsSend (seat_ends.the_row T tokens)
   seat_ends_send =
       view_send _ _ _ _ _ (declared_send (in_seat_ends.the_type T tokens)
-      (search sendable, (vec_send (seat_channel.the_row T tokens) seat_channel_send, tt)))
+      (search sendable, (vec_send (seat_lane.the_row T tokens) seat_lane_send, tt)))
 
   pub shard_ends_send : IsSend (shard_ends.the_row T tokens)
   shard_ends_send =
       view_send _ _ _ _ _ (declared_send (in_shard_ends.the_type T tokens)
-      (search sendable, (vec_send (shard_channel.the_row T tokens) shard_channel_send, tt)))
+      (search sendable, (vec_send (shard_lane.the_row T tokens) shard_lane_send, tt)))
 
 -- ---- what holds them
 sizes_send : IsSend sizes.the_row
