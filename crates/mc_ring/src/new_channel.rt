@@ -1,5 +1,5 @@
 //! A shard's end of a channel whose rings were made a moment ago.
-ghost use Rattle.std.specs.Prelude.{◌≡◌};
+ghost use Rattle.std.specs.Prelude.{◌≡◌, []};
 
 use crate::shard::ShardChannel;
 use crate::stamped::Numbers;
@@ -56,9 +56,12 @@ impl<T: Token + Drop> NewChannel<T> {
         self.numbers.shard
     }
 
-    /// How many items each of its rings holds.
+    /// How many items each of its rings holds. Nothing was sent or received there.
     pub fn capacity(&self) -> usize
-        ensures { result ≡ self.now.past.channel.capacity }
+        ensures capacity { result ≡ self.now.past.channel.capacity }
+        ensures sent { self.now.past.sent ≡ [] }
+        ensures received { self.now.past.received ≡ [] }
+        ensures ahead { self.now.ahead ≡ [] }
     {
         self.capacity
     }

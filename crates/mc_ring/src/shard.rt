@@ -1,5 +1,6 @@
 //! A shard's ends of its channels: it takes the requests of the seats and sends its replies.
-ghost use Rattle.std.specs.Prelude.{◌≡◌, ◌<◌, ◌++◌, ◌∷◌, [], IfSome, None, Ok, OnOk, Some, length};
+ghost use Rattle.std.specs.Prelude.{◌≡◌, ◌<◌, ◌++◌, ℕ, ◌∷◌, [], IfSome, None, Ok, OnOk, Some, length};
+ghost use Rattle.std.specs.Bool.{OnFalse, OnTrue};
 ghost use Rattle.mc_ring.specs.Reply.{shown};
 ghost use Rattle.mc_ring.specs.Ends.{AreSameEnds, AtChannel, HoldsAt, LooksFor, Opens, Receives, Sends};
 ghost use Rattle.mc_ring.specs.internal.Looking.{LooksForRoom};
@@ -151,6 +152,32 @@ impl<T: Token + Drop> ShardEnds<T> {
         ensures same { AreSameEnds self.old self.new }
     {
         self.channels[seat].add(channel)
+    }
+
+    /// Puts the shard's end of a channel where its rings are to be, and returns whether it did: not
+    /// where it is of another shard or seat, or of another capacity, or the rings were made before.
+    pub fn admit(&mut self, channel: NewChannel<T>) -> bool
+        requires { (seat : ℕ) → HoldsAt (λ (end : Far). end.past.channel.route ≡ record {
+          seat = seat;
+          shard = self.old.number;
+          name = channel.past.channel.route.name;
+        }) seat
+            self.old }
+        ensures opens { OnTrue result (AtChannel (λ before after.
+            Opens before after × (after ≡ channel)) channel.past.channel.route.seat self.old
+            self.new) }
+        ensures left { OnFalse result (self.new ≡ self.old) }
+        ensures same { AreSameEnds self.old self.new }
+    {
+        let seat = channel.seat();
+        if seat >= self.channels.len() || channel.shard() != self.number {
+            return false;
+        }
+        if !self.channels[seat].awaits(channel.capacity()) {
+            return false;
+        }
+        self.add_at(seat, channel);
+        true
     }
 
     /// The shard's number.

@@ -1,5 +1,6 @@
 //! A shard's end of one channel, which may be still to come.
 ghost use Rattle.std.specs.Prelude.{◌≡◌, ◌<◌, IfSome, None, Ok, Some, length};
+ghost use Rattle.std.specs.Bool.{OnTrue};
 ghost use Rattle.mc_ring.specs.Channel.{unmade_side};
 ghost use Rattle.mc_ring.specs.Ends.{LooksFor, Opens, Receives, Sends};
 ghost use Rattle.mc_ring.specs.internal.Looking.{LooksForRoom};
@@ -12,7 +13,6 @@ use crate::shard::ShardChannel;
 use crate::stamped::{Numbers, Stamped};
 use crate::token::Token;
 use std::marker::Model;
-use std::snapshot::Snapshot;
 
 /// A shard's end of one channel. It takes memory only once its rings are made.
 #[derive(Drop)]
@@ -20,7 +20,7 @@ pub(crate) struct ShardLane<T: Token> {
     /// A token of the channel's history, and the channel's numbers; it takes no bytes.
     first: Stamped<(), T>,
     /// Of each ring, in items.
-    capacity: Snapshot<usize>,
+    capacity: usize,
     pub(crate) made: Option<Box<ShardChannel<T>>>,
 }
 
@@ -32,7 +32,7 @@ impl<T: Token> Model for ShardLane<T> {
     ghost Value = { Far };
 
     ghost view = { λ lane. option_map_or (λ channel. channel.value) lane.made
-        (unmade_side lane.capacity.value (route_of T.name lane.first)) };
+        (unmade_side lane.capacity (route_of T.name lane.first)) };
 }
 
 impl<T: Token + Drop> ShardLane<T> {
@@ -43,8 +43,21 @@ impl<T: Token + Drop> ShardLane<T> {
     {
         ShardLane {
             first: Stamped::first((), token, numbers),
-            capacity: Snapshot::of(&capacity),
+            capacity,
             made: None,
+        }
+    }
+
+    /// Whether the rings are still to be made, and are to hold so many items.
+    pub(crate) fn awaits(&self, capacity: usize) -> bool
+        ensures { OnTrue result (self.now ≡ unmade_side capacity self.now.past.channel.route) }
+    {
+        if self.capacity != capacity {
+            return false;
+        }
+        match &self.made {
+            Some(_channel) => false,
+            None => true,
         }
     }
 
