@@ -17,6 +17,9 @@ use std::marker::Model;
 /// More cells than this have no numbers of 32 bits.
 const MAX_CELLS: usize = 4_294_967_296;
 
+/// More long values than this have no places.
+const MAX_LONG: usize = 33_554_432;
+
 /// Values, each at a place of its own.
 ///
 /// A short value is kept in a chain of cells of one size, a long one by itself. A place that is
@@ -82,7 +85,7 @@ impl Cells {
     {
         self.cells.reserve(cells)?;
         self.long.reserve(long)?;
-        if self.cells.capacity() > MAX_CELLS || self.long.capacity() > MAX_CELLS {
+        if self.cells.capacity() > MAX_CELLS || self.long.capacity() > MAX_LONG {
             return Err(AllocError);
         }
         Ok(())

@@ -4,7 +4,8 @@ ghost use Rattle.mc_wire.specs.declared.TheConstants.{LATEST_MOMENT};
 ghost use Rattle.mc_store.specs.Rows.{expiry_from, has_fewer_left, is_won};
 ghost use Rattle.mc_store.specs.internal.Access.{is_sent_after};
 
-use mc_item::{Item, PackedExpiry};
+use crate::fields::Fields;
+use mc_item::PackedExpiry;
 use mc_wire::LATEST_MOMENT;
 
 /// Which command reads an item.
@@ -58,7 +59,7 @@ fn has_fewer_left(left: Option<u64>, recache: Option<i64>) -> bool
 }
 
 /// `W`: no client is to recompute the item, and it is stale or soon dead.
-pub fn is_won(item: &Item, recache: Option<i64>, time: u64) -> bool
+pub fn is_won(item: &Fields, recache: Option<i64>, time: u64) -> bool
     ensures { result ≡ is_won item.now recache time }
 {
     !item.sent && (item.stale || has_fewer_left(item.expiry.seconds_left(time), recache))
@@ -66,7 +67,7 @@ pub fn is_won(item: &Item, recache: Option<i64>, time: u64) -> bool
 
 impl FetchKind {
     /// Whether a client is to recompute the item, once it was read.
-    fn is_sent_after(self, item: &Item, time: u64) -> bool
+    fn is_sent_after(self, item: &Fields, time: u64) -> bool
         ensures { result ≡ is_sent_after self item.now time }
     {
         match self {
@@ -78,7 +79,7 @@ impl FetchKind {
 
 impl Access {
     /// What the item becomes.
-    pub fn use_of(self, item: &Item) -> Use
+    pub fn use_of(self, item: &Fields) -> Use
         requires { self.time ≤ LATEST_MOMENT }
         ensures { result ≡
             record {

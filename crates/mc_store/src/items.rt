@@ -12,9 +12,13 @@ ghost use Rattle.mc_store.specs.internal.Listed.{FitsBudget, freed_by, listed_co
 
 use crate::ITEM_OVERHEAD;
 use crate::access::{Access, Use};
+use crate::fields::Fields;
 use crate::hashing::PolynomialState;
+use crate::reserve::Reserve;
+use crate::stored::Stored;
 use lru::LruCache;
-use mc_item::{Item, NoMemory, PackedExpiry, Reserve};
+use mc_cells::{CELL_BYTES, Cells, LONG_VALUE, Place};
+use mc_item::{Item, NoMemory, PackedExpiry, Value};
 use mc_sizes::{MAX_BUDGET, MIN_BUDGET};
 use mc_wire::{KEY_LIMIT, Key, LATEST_MOMENT};
 use std::alloc::{AllocError, Global};
@@ -23,7 +27,7 @@ use std::marker::Model;
 use std::num::NonZeroUsize;
 
 /// Items by key, the most recently used first.
-type Cache = LruCache<Key, Item, PolynomialState>;
+type Cache = LruCache<Key, Stored, PolynomialState>;
 
 /// No item costs less: its key has a byte.
 const MIN_COST: usize = ITEM_OVERHEAD + 1;
@@ -31,15 +35,18 @@ const MIN_COST: usize = ITEM_OVERHEAD + 1;
 /// The items of a shard, the most recently used first, which cost no more than its budget together.
 #[derive(Drop)]
 pub struct Items {
+    /// What is kept of each item besides its value.
     cache: Cache,
+    /// The values. There is always room for as many as fit the budget, and one more.
+    cells: Cells,
     /// What they cost together, in bytes.
     cost: usize,
     /// What they may cost together, in bytes.
     budget: usize,
     /// How many were evicted. The count starts again at 0 after 2^64 - 1.
     evicted: u64,
-    /// For a copy of a value that is read, where it can't be shared. None is left once it was used,
-    /// and where no memory was found for it.
+    /// For a value that is read while memory is refused. None is left once it was used, and where
+    /// no memory was found for it.
     reserve: Option<Reserve>,
 }
 
@@ -83,135 +90,103 @@ pub fn cost_of(key_length: usize, value_length: usize) -> usize
     key_length + value_length + ITEM_OVERHEAD
 }
 
-/// What an item under a key of `key_length` bytes cost, in bytes; nothing where there was none.
-fn freed_by(old: &Option<Item>, key_length: usize) -> usize
-    requires { key_length ≤ KEY_LIMIT }
-    ensures { result ≡ freed_by old.now key_length }
-{
-    match old {
-        Some(item) => cost_of(key_length, item.value.len()),
-        None => 0,
-    }
+/// What an item under a key of `key_length` bytes cost, in bytes; nothing where there was none. Its
+/// place is free again.
+#[inline(always)]
+fn free_old(cells: &mut Cells, old: Option<Stored>, key_length: usize) -> usize {
+    let Some(stored) = old else {
+        return 0;
+    };
+    let place = stored.place();
+    cells.remove(place);
+    cost_of(key_length, place.len())
 }
 
 /// Evicts the least recently used items, as long as the rest cost more than the budget. Returns
 /// what the rest cost, in bytes.
-fn evict(cache: &mut Cache, cost: usize, budget: usize) -> usize
-    requires { cost ≡ listed_cost cache.old.entries }
-    ensures left { cache.new ≡ lru_cache (within budget cache.old.entries) cache.old.cap }
-    ensures counted { result ≡ listed_cost (within budget cache.old.entries) }
-{
+#[inline(never)]
+fn evict(cache: &mut Cache, cells: &mut Cells, cost: usize, budget: usize) -> usize {
     let mut left = cost;
     while left > budget {
-        let Some((key, item)) = cache.pop_lru() else {
+        let Some((key, stored)) = cache.pop_lru() else {
             break;
         };
-        left -= cost_of(key.bytes().len(), item.value.len());
+        let place = stored.place();
+        cells.remove(place);
+        left -= cost_of(key.bytes().len(), place.len());
     }
     left
 }
 
 /// Notes in an item that it is made the most recently used one.
-fn note_use(item: &mut Item, new: Use)
-    ensures { item.new ≡
-        record item.old {
-          last_access = new.time;
-          expiry = new.expiry;
-          fetched = new.fetched;
-          sent = new.sent;
-        } }
-{
-    item.last_access = new.time;
-    item.expiry = new.expiry;
-    item.fetched = new.fetched;
-    item.sent = new.sent;
+#[inline(always)]
+fn note_use(stored: &mut Stored, old: Fields, new: Use) {
+    stored.set_fields(&Fields {
+        flags: old.flags,
+        fetched: new.fetched,
+        stale: old.stale,
+        sent: new.sent,
+        expiry: new.expiry,
+        unique: old.unique,
+        last_access: new.time,
+    });
 }
 
 /// Makes the item under the key the most recently used one, and what it becomes by that.
-fn use_item(cache: &mut Cache, key: &Key, new: Use)
-    ensures used { (item : TheItem) → lookup (same_key key.now) cache.old.entries ≡ Some item →
-        cache.new ≡
-        lru_cache
-        (set_value (same_key key.now) (promoted (same_key key.now) cache.old.entries)
-        (record item {
-          last_access = new.time;
-          expiry = new.expiry;
-          fetched = new.fetched;
-          sent = new.sent;
-        })) cache.old.cap }
-    ensures none { lookup (same_key key.now) cache.old.entries ≡ None → cache.new ≡ cache.old }
-{
-    if let Some(item) = cache.get_mut(key) {
-        note_use(item, new);
+fn use_item(cache: &mut Cache, key: &Key, new: Use) {
+    if let Some(stored) = cache.get_mut(key) {
+        note_use(stored, stored.fields(), new);
     }
 }
 
 /// Returns the item under the key as it is, and makes it the most recently used one and what it
 /// becomes by the access.
 #[inline(always)]
-fn read_item(
-    cache: &mut Cache,
-    key: &Key,
-    access: Access,
-    reserve: &mut Option<Reserve>,
-) -> Option<Item>
-    requires time { access.time ≤ LATEST_MOMENT }
-    requires reserve { IsSome reserve.old }
-    ensures found { result ≡ lookup (same_key key.now) cache.old.entries }
-    ensures read { (item : TheItem) → lookup (same_key key.now) cache.old.entries ≡ Some item →
-        cache.new ≡
-        lru_cache
-        (set_value (same_key key.now) (promoted (same_key key.now) cache.old.entries)
-        (read_item access item)) cache.old.cap }
-    ensures none { lookup (same_key key.now) cache.old.entries ≡ None → cache.new ≡ cache.old }
-{
-    let item = cache.get_mut(key)?;
-    let found = item.shared(reserve);
-    note_use(item, access.use_of(&found));
+fn read_item(cache: &mut Cache, key: &Key, access: Access) -> Option<Stored> {
+    let stored = cache.get_mut(key)?;
+    let found = *stored;
+    let fields = found.fields();
+    note_use(stored, fields, access.use_of(&fields));
     Some(found)
 }
 
 /// Marks the item under the key stale in place.
-fn mark_stale(cache: &mut Cache, key: &Key, new: Staling)
-    ensures marked { (item : TheItem) → lookup (same_key key.now) cache.old.entries ≡ Some item →
-        cache.new ≡
-        lru_cache
-        (set_value (same_key key.now) cache.old.entries
-        (record item {
-          unique = new.unique;
-          expiry = new.expiry;
-          stale = true;
-          sent = false;
-        })) cache.old.cap }
-    ensures none { lookup (same_key key.now) cache.old.entries ≡ None → cache.new ≡ cache.old }
-{
-    if let Some(item) = cache.peek_mut(key) {
-        item.unique = new.unique;
-        item.expiry = new.expiry;
-        item.stale = true;
-        item.sent = false;
+fn mark_stale(cache: &mut Cache, key: &Key, new: Staling) {
+    if let Some(stored) = cache.peek_mut(key) {
+        let old = stored.fields();
+        stored.set_fields(&Fields {
+            flags: old.flags,
+            fetched: old.fetched,
+            stale: true,
+            sent: false,
+            expiry: new.expiry,
+            unique: new.unique,
+            last_access: old.last_access,
+        });
     }
 }
 
 /// Sets another expiry of the item under the key, and notes in it whether a client is to
 /// recompute it. It stays where it is.
-fn mark_seen(cache: &mut Cache, key: &Key, new: Use)
-    ensures marked { (item : TheItem) → lookup (same_key key.now) cache.old.entries ≡ Some item →
-        cache.new ≡
-        lru_cache
-        (set_value (same_key key.now) cache.old.entries
-        (record item { expiry = new.expiry; sent = new.sent })) cache.old.cap }
-    ensures none { lookup (same_key key.now) cache.old.entries ≡ None → cache.new ≡ cache.old }
-{
-    if let Some(seen) = cache.peek_mut(key) {
-        seen.expiry = new.expiry;
-        seen.sent = new.sent;
+fn mark_seen(cache: &mut Cache, key: &Key, new: Use) {
+    if let Some(stored) = cache.peek_mut(key) {
+        let old = stored.fields();
+        stored.set_fields(&Fields {
+            flags: old.flags,
+            fetched: old.fetched,
+            stale: old.stale,
+            sent: new.sent,
+            expiry: new.expiry,
+            unique: old.unique,
+            last_access: old.last_access,
+        });
     }
 }
 
 impl Items {
-    /// No items, which may cost `budget` bytes together. It takes no room for them before they
-    /// come. They are hashed under words that are drawn from the random state.
+    /// No items, which may cost `budget` bytes together. Before they come they take address space
+    /// alone, in which there is room for their values. They are hashed under words that are drawn
+    /// from the random state.
     pub fn new(alloc: Global, hasher: RandomState, budget: usize) -> Result<Items, AllocError>
         requires least { MIN_BUDGET ≤ budget }
         requires most { budget ≤ MAX_BUDGET }
@@ -221,8 +196,14 @@ impl Items {
         let capacity = NonZeroUsize::new(budget / MIN_COST + 1).unwrap();
         let mut cache = LruCache::unbounded_with_hasher(alloc, PolynomialState::new(hasher))?;
         cache.resize(capacity);
+        let mut cells = Cells::new(alloc);
+        cells.reserve(
+            budget / CELL_BYTES + LONG_VALUE / CELL_BYTES + 1,
+            budget / LONG_VALUE + 1,
+        )?;
         Ok(Items {
             cache,
+            cells,
             cost: 0,
             budget,
             evicted: 0,
@@ -268,11 +249,20 @@ impl Items {
         self.evicted = 0;
     }
 
-    /// The item under the key.
-    pub fn peek(&self, key: &Key) -> Option<&Item>
-        ensures { option_copied result ≡ lookup (same_key key.now) self.now.entries }
-    {
-        self.cache.peek(key)
+    /// The item under the key, without its value.
+    #[inline(always)]
+    pub fn peek(&self, key: &Key) -> Option<Fields> {
+        Some(self.cache.peek(key)?.fields())
+    }
+
+    /// The value of the item under the key. Nothing changes.
+    pub fn value(&mut self, key: &Key) -> Result<Option<Value>, NoMemory> {
+        let Some(stored) = self.cache.peek(key) else {
+            return Ok(None);
+        };
+        let place = stored.place();
+        let bytes = self.cells.read(place)?;
+        Ok(Some(Value::of_bytes(bytes)))
     }
 
     /// Returns the item under the key as it is, unless it is dead, and makes it the most recently
@@ -289,20 +279,33 @@ impl Items {
         if self.reserve.is_none() {
             return self.read_after_copy(key, access);
         }
-        let Some(item) = read_item(&mut self.cache, key, access, &mut self.reserve) else {
+        let Some(stored) = read_item(&mut self.cache, key, access) else {
             return Ok(None);
         };
-        if item.is_dead(access.time) {
-            self.remove_read(key, item);
+        let fields = stored.fields();
+        if fields.is_dead(access.time) {
+            self.remove_dead(key);
             return Ok(None);
         }
-        Ok(Some(item))
+        let value = match self.cells.read(stored.place()) {
+            Ok(bytes) => Value::of_bytes(bytes),
+            Err(_refused) => self.reserved_value(stored.place()),
+        };
+        Ok(Some(fields.with_value(value)))
     }
 
-    /// Takes the item under the key out, and drops what was read of it.
+    /// The value at the place, in the reserve, which is used up.
     #[cold]
     #[inline(never)]
-    fn remove_read(&mut self, key: &Key, _read: Item)
+    fn reserved_value(&mut self, place: Place) -> Value {
+        let reserve = self.reserve.take().unwrap();
+        Value::of_bytes(reserve.filled(&self.cells, place))
+    }
+
+    /// Takes the item under the key out, which is dead.
+    #[cold]
+    #[inline(never)]
+    fn remove_dead(&mut self, key: &Key)
         ensures { self.new ≡
             record self.old { entries = remove_entry (same_key key.now) self.old.entries } }
     {
@@ -327,9 +330,11 @@ impl Items {
             self.remove(key);
             return Ok(None);
         }
-        let item = old.clone()?;
-        self.promote(key, access.use_of(&item));
-        Ok(Some(item))
+        let Some(value) = self.value(key)? else {
+            return Ok(None);
+        };
+        self.promote(key, access.use_of(&old));
+        Ok(Some(old.with_value(value)))
     }
 
     /// Returns the item under the key as it is, unless it is dead, and makes it what it becomes by
@@ -349,20 +354,22 @@ impl Items {
             self.remove(key);
             return Ok(None);
         }
-        let item = old.clone()?;
-        self.mark_seen(key, access.use_of(&item));
-        Ok(Some(item))
+        let Some(value) = self.value(key)? else {
+            return Ok(None);
+        };
+        self.mark_seen(key, access.use_of(&old));
+        Ok(Some(old.with_value(value)))
     }
 
-    /// Takes the item under the key out.
-    pub fn remove(&mut self, key: &Key) -> Option<Item>
+    /// Takes the item under the key out, and returns it without its value.
+    pub fn remove(&mut self, key: &Key) -> Option<Fields>
         ensures item { result ≡ lookup (same_key key.now) self.old.entries }
         ensures left { self.new ≡
             record self.old { entries = remove_entry (same_key key.now) self.old.entries } }
     {
-        let item = self.cache.pop(key)?;
-        self.cost -= cost_of(key.bytes().len(), item.value.len());
-        Some(item)
+        let stored = self.cache.pop(key)?;
+        self.cost -= free_old(&mut self.cells, Some(stored), key.bytes().len());
+        Some(stored.fields())
     }
 
     /// Takes all items out.
@@ -370,6 +377,7 @@ impl Items {
         ensures { self.new ≡ record self.old { entries = [] } }
     {
         self.cache.clear();
+        self.cells.clear();
         self.cost = 0;
     }
 
@@ -385,12 +393,20 @@ impl Items {
     {
         let key_length = key.bytes().len();
         let added = cost_of(key_length, item.value.len());
-        let Ok(old) = self.cache.put(key, item) else {
+        let fields = Fields::of(&item);
+        let place = self.cells.keep(item.value.into_bytes())?;
+        let Ok(old) = self.cache.put(key, Stored::new(&fields, place)) else {
+            self.cells.remove(place);
             return Err(NoMemory);
         };
-        let freed = freed_by(&old, key_length);
+        let freed = free_old(&mut self.cells, old, key_length);
         let before = self.cache.len();
-        self.cost = evict(&mut self.cache, self.cost + added - freed, self.budget);
+        self.cost = evict(
+            &mut self.cache,
+            &mut self.cells,
+            self.cost + added - freed,
+            self.budget,
+        );
         let went = before.saturating_sub(self.cache.len());
         self.evicted = self.evicted.wrapping_add(went as u64);
         Ok(())

@@ -22,6 +22,7 @@ mod stats;
 mod storing;
 
 use crate::access;
+use crate::fields::Fields;
 use crate::items::{Items, cost_of};
 use crate::shard::reclaiming::make_turn;
 use mc_item::{Answer, Counting, Item, MetaDone, Op, OpStats, PackedExpiry, Status, Value};
@@ -286,8 +287,8 @@ impl Shard {
         self.flush = None;
     }
 
-    /// The item under the key, unless it is dead.
-    fn find(&self, key: &Key) -> Option<&Item>
+    /// The item under the key without its value, unless it is dead.
+    fn find(&self, key: &Key) -> Option<Fields>
         ensures { option_copied result ≡
             live self.now.time (lookup (same_key key.now) self.now.items.entries) }
     {
