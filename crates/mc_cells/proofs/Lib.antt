@@ -4,3 +4,4 @@ pub mod Taken
 pub mod Held
 pub mod Pieces
 pub mod Places
+pub mod Numbers

@@ -3,3 +3,4 @@ pub mod Chain
 pub mod Kept
 pub mod Contents
 pub mod Laws
+pub mod Numbers

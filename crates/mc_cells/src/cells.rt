@@ -74,7 +74,7 @@ impl Cells {
     }
 
     /// Allocates memory for so many more cells and long values. With that room `keep` succeeds.
-    /// Fails if memory is refused, or if there would be more than 2^32 cells or long values.
+    /// Fails if memory is refused, or if there would be more than 2^32 cells or 2^25 long values.
     pub fn reserve(&mut self, cells: usize, long: usize) -> Result<(), AllocError>
         ensures room { OnOk result (HasRoom self.new cells long) }
         ensures succeeds { HasRoom self.old cells long → IsOk result }
@@ -99,6 +99,7 @@ impl Cells {
         ensures kept { IfOk result (λ place. (kept : List KeptValue) → AreKept self.old kept →
             AreKept self.new ((place, value) ∷ kept)) }
         ensures len { IfOk result (λ place. place.len ≡ length value) }
+        ensures few { IfOk result (λ place. LONG_VALUE ≤ place.len → place.first < 2 ^ 25) }
         ensures succeeds { HasRoom self.old (cells_of (length value)) (slots_of (length value)) →
             IsOk result }
         ensures had_room { HasRoom self.old (cells_of (length value)) (slots_of (length value)) →
@@ -125,6 +126,7 @@ impl Cells {
         ensures kept { IfOk result (λ place. (kept : List KeptValue) → AreKept self.old kept →
             AreKept self.new ((place, value) ∷ kept)) }
         ensures len { IfOk result (λ place. place.len ≡ length value) }
+        ensures few { IfOk result (λ place. LONG_VALUE ≤ place.len → place.first < 2 ^ 25) }
         ensures succeeds { HasRoom self.old 0 1 → IsOk result }
         ensures had_room { HasRoom self.old 0 1 → self.new ≡ with_room self.new self.old }
         ensures err { OnErr result (self.new ≡ with_room self.old self.new) }

@@ -1,6 +1,5 @@
 //! What a shard keeps under a key.
-ghost use Rattle.std.specs.Prelude.{◌≡◌, ◌+◌, ◌≤◌, ◌⊎◌, None, length, IfOk};
-ghost use Rattle.std.specs.Option.{IsSome};
+ghost use Rattle.std.specs.Prelude.{◌≡◌, ◌+◌, ◌≤◌, length, IfOk};
 ghost use Rattle.mc_item.specs.Expiry.{is_dead, seconds_left};
 ghost use Rattle.mc_item.specs.Value.{number_in, joined};
 

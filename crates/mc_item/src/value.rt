@@ -1,6 +1,5 @@
 //! The value of an item.
-ghost use Rattle.std.specs.Prelude.{◌≡◌, ◌+◌, ◌≤◌, ◌==◌, ◌⊎◌, [], None, length, IfOk};
-ghost use Rattle.std.specs.Option.{IsSome};
+ghost use Rattle.std.specs.Prelude.{◌≡◌, ◌+◌, ◌≤◌, ◌==◌, [], length, IfOk};
 ghost use Rattle.std.specs.List.{list_all, position};
 ghost use Rattle.mc_item.specs.Value.{number_in, number_text, joined};
 ghost use Rattle.mc_wire.specs.Sink.{Writes};
@@ -13,7 +12,8 @@ use mc_wire::{DIGIT_LIMIT, MAX_VALUE_LIMIT, Sink, SinkError, number_u64};
 use std::alloc::{AllocError, Global};
 use std::marker::Model;
 
-/// The bytes that a client stored: at most `MAX_VALUE_LIMIT`.
+/// The bytes that a client stored: at most `MAX_VALUE_LIMIT`. Values that are cut from the same
+/// block share it.
 pub struct Value {
     held: Bytes,
 }
@@ -25,7 +25,6 @@ impl Drop for Value {
         let Value { held: _held } = self;
     }
 }
-
 
 impl Model for Value {
     ghost use Rattle.std.specs.Prelude.{ℕ, List, ◌≤◌, length};
@@ -46,11 +45,11 @@ impl Value {
     {
         match Bytes::from_vec(bytes) {
             Ok(held) => Ok(Value { held }),
-            Err(_) => Err(NoMemory),
+            Err(_refused) => Err(NoMemory),
         }
     }
 
-    /// The value with these bytes.
+    /// The value with these bytes, which may be shared. It takes no memory.
     #[inline(always)]
     pub fn of_bytes(held: Bytes) -> Value
         requires { length held ≤ MAX_VALUE_LIMIT }

@@ -24,7 +24,7 @@ pub trait Sink {
     /// Writes all bytes of a shared block, like `write_all`. A sink that keeps its bytes may keep
     /// a reference to the block instead of a copy.
     fn put_shared(&mut self, block: &Bytes) -> Result<(), SinkError>
-        ensures { Writes (block.now) result (sight self.old) (sight self.new) }
+        ensures { Writes block.now result (sight self.old) (sight self.new) }
     {
         let mut left = block.as_slice();
         while !left.is_empty() {
