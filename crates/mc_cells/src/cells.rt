@@ -1,14 +1,14 @@
 //! The values of a shard.
-ghost use Rattle.std.specs.Prelude.{◌≡◌, ◌+◌, ◌<◌, ◌≤◌, ◌^◌, List, [], ◌∷◌, ◌++◌, ℕ, length, IsOk, IfOk, OnOk, OnErr};
+ghost use Rattle.std.specs.Prelude.{◌≡◌, ◌+◌, ◌<◌, ◌≤◌, ◌^◌, List, [], ◌∷◌, ◌++◌, ℕ, length, vec_len, vec_capacity, IsOk, IfOk, OnOk, OnErr};
 ghost use Rattle.std.specs.List.{sum_by};
 ghost use Rattle.mc_cells.specs.Kept.{KeptValue, cells_of, slots_of};
 ghost use Rattle.mc_cells.specs.Contents.{AreKept, HasRoom, HasValue, value_at, with_room};
 
-use crate::LONG_VALUE;
 use crate::cell::Cell;
 use crate::chain::{keep_chain, piece_count, remove_chain};
 use crate::page::{append_short, read_short};
 use crate::place::Place;
+use crate::{CELL_BYTES, LONG_VALUE};
 use bytes::{Bytes, BytesMut};
 use slab::Slab;
 use std::alloc::{AllocError, Global};
@@ -154,11 +154,14 @@ impl Cells {
         read_short(&self.cells, place.first, len, &mut self.page, self.alloc)
     }
 
-    /// Appends the value at a place. If memory is refused, nothing is appended.
+    /// Appends the value at a place. If memory is refused, nothing is appended. With room for it and
+    /// for a cell more none is.
     pub fn append_to(&self, place: Place, out: &mut Vec<u8>) -> Result<(), AllocError>
         requires { HasValue self.now place }
         ensures ok { OnOk result (out.new.items ≡ out.old.items ++ value_at self.now place) }
         ensures err { OnErr result (out.new.items ≡ out.old.items) }
+        ensures succeeds { length (value_at self.now place) ≡ place.len →
+            vec_len out.old + place.len + CELL_BYTES ≤ vec_capacity out.old → IsOk result }
     {
         let len = place.len();
         if len >= LONG_VALUE {
