@@ -128,25 +128,25 @@ take_both xs ys n m sum = rw sum (take-append-add xs ys n)
 
 -- A whole piece is put before a value.
 pub piece_before : (old new : Slots) (number : ℕ) (cell : Cell) (text : List ℕ) (kept : List KeptValue)
-    → IsAdded old new number cell → length cell.bytes ≡ 59 → length text + 59 < LONG_VALUE
+    → IsAdded old new number cell → length cell.bytes ≡ 50 → length text + 50 < LONG_VALUE
     → CellsHold old ((place_at (next_of cell) (length text), text) ∷ kept)
-    → CellsHold new ((place_at number (length text + 59), cell.bytes ++ text) ∷ kept)
+    → CellsHold new ((place_at number (length text + 50), cell.bytes ++ text) ∷ kept)
 piece_before old new number cell text kept added whole short hold =
     let n = length text in
-    let more : cells_of (n + 59) ≡ suc (cells_of n)
-    = short_cells (n + 59) short ∙ piece_more n ∙ ap suc (sym (short_cells n (omega (arith, short)))) in
+    let more : cells_of (n + 50) ≡ suc (cells_of n)
+    = short_cells (n + 50) short ∙ piece_more n ∙ ap suc (sym (short_cells n (omega (arith, short)))) in
     let beside = beside_from_kept old (next_of cell) n text kept hold in
     let before = cell_before old new number cell (cells_of n) kept added beside in
     let behind = chain_bytes old (cells_of n) (next_of cell) in
     let bytes = hold.spelled.0.bytes (omega (arith, short)) in
-    let front = take_both cell.bytes behind n (n + 59) (omega (arith, whole)) in
-    kept_from_beside new number (n + 59) (cell.bytes ++ text) kept (rw more before.beside)
+    let front = take_both cell.bytes behind n (n + 50) (omega (arith, whole)) in
+    kept_from_beside new number (n + 50) (cell.bytes ++ text) kept (rw more before.beside)
     (omega (arith, length-append cell.bytes text, whole))
     (λ _. rw (more, before.bytes_are) (front ∙ ap (λ xs. cell.bytes ++ xs) bytes))
 
 -- The last piece of a value is kept.
 pub last_piece : (old new : Slots) (number : ℕ) (cell : Cell) (len : ℕ) (kept : List KeptValue)
-    → IsAdded old new number cell → length cell.bytes ≡ 59 → 0 < len → len ≤ 59 → CellsHold old kept
+    → IsAdded old new number cell → length cell.bytes ≡ 50 → 0 < len → len ≤ 50 → CellsHold old kept
     → CellsHold new ((place_at number len, take len cell.bytes) ∷ kept)
 last_piece old new number cell len kept added whole some one hold =
     let count : cells_of len ≡ 1 = short_cells len (omega (arith, one)) ∙ piece_alone len some one in

@@ -13,11 +13,11 @@ pub short_cells : (len : ℕ) → len < LONG_VALUE → cells_of len ≡ pieces l
 short_cells len short = rw (lt-ltb len LONG_VALUE short) refl
 
 -- a whole piece more takes a cell more
-pub piece_more : (len : ℕ) → pieces (len + 59) ≡ suc (pieces len)
+pub piece_more : (len : ℕ) → pieces (len + 50) ≡ suc (pieces len)
 piece_more len = omega arith
 
 -- one piece takes one cell
-pub piece_alone : (len : ℕ) → 0 < len → len ≤ 59 → pieces len ≡ 1
+pub piece_alone : (len : ℕ) → 0 < len → len ≤ 50 → pieces len ≡ 1
 piece_alone len some one = omega (arith, some, one)
 
 -- each number but one has the same cell in both

@@ -30,7 +30,7 @@ bytes_in (Some cell) = cell.bytes
 
 -- how many cells a short value of this many bytes takes
 abbrev pub pieces : ℕ → ℕ
-pieces len = (len + 58) / 59
+pieces len = (len + 49) / 50
 
 -- how often a chain of so many cells passes the cell with a number
 abbrev pub passes : Slots → ℕ → ℕ → ℕ → ℕ

@@ -5,14 +5,14 @@ ghost use Rattle.mc_cells.specs.Chain.{cell_of, next_of};
 use crate::CELL_BYTES;
 
 /// A piece of a value, and the number of the cell with the next piece. It is an array of bytes, so
-/// that a cell takes 64 bytes in its slab, with the slab's mark.
+/// that a cell takes 55 bytes in its slab, with the slab's mark.
 #[derive(Clone, Copy)]
 pub(crate) struct Cell {
     next: [u8; 4],
     pub(crate) bytes: [u8; CELL_BYTES],
 }
 
-const _: () = prove!(size_of::<Cell>() == 63);
+const _: () = prove!(size_of::<Cell>() == 54);
 
 impl Cell {
     /// A cell before the one with the number `next`.

@@ -196,7 +196,7 @@ impl Cells {
         self.long.clear();
     }
 
-    /// How many cells are in use: each short value takes one for every 59 bytes of it, and one for
+    /// How many cells are in use: each short value takes one for every 50 bytes of it, and one for
     /// the rest.
     pub fn cells_used(&self) -> usize
         ensures used { (kept : List KeptValue) → AreKept self.now kept →

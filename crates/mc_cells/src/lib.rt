@@ -14,7 +14,7 @@ pub use laws::every_kept;
 pub use place::Place;
 
 /// Number of bytes of a value in one cell.
-pub const CELL_BYTES: usize = 59;
+pub const CELL_BYTES: usize = 50;
 
 /// A value of so many bytes or more is kept by itself and shared.
 pub const LONG_VALUE: usize = 4_096;

@@ -5,3 +5,4 @@ pub mod Listed
 pub mod Parts
 pub mod Polynomial
 pub mod Secret
+pub mod Stored

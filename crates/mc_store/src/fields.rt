@@ -1,4 +1,8 @@
 //! What is known of an item besides its value.
+ghost use Rattle.std.specs.Prelude.{◌≡◌};
+ghost use Rattle.mc_item.specs.Expiry.{is_dead};
+ghost use Rattle.mc_store.specs.internal.Stored.{fields_in, item_with};
+
 use mc_item::{Item, PackedExpiry, Value};
 
 /// An item without its value.
@@ -22,7 +26,9 @@ pub struct Fields {
 impl Fields {
     /// The item's fields.
     #[inline(always)]
-    pub fn of(item: &Item) -> Fields {
+    pub fn of(item: &Item) -> Fields
+        ensures { result ≡ fields_in item.now }
+    {
         Fields {
             flags: item.flags,
             fetched: item.fetched,
@@ -36,7 +42,9 @@ impl Fields {
 
     /// The item with these fields and a value.
     #[inline(always)]
-    pub fn with_value(self, value: Value) -> Item {
+    pub fn with_value(self, value: Value) -> Item
+        ensures { result ≡ item_with self value }
+    {
         Item {
             value,
             flags: self.flags,
@@ -51,7 +59,9 @@ impl Fields {
 
     /// Whether the item is dead at the second `now`.
     #[inline(always)]
-    pub fn is_dead(&self, now: u64) -> bool {
+    pub fn is_dead(&self, now: u64) -> bool
+        ensures { result ≡ is_dead self.now.expiry now }
+    {
         self.expiry.is_dead(now)
     }
 }

@@ -104,7 +104,6 @@ fn free_old(cells: &mut Cells, old: Option<Stored>, key_length: usize) -> usize 
 
 /// Evicts the least recently used items, as long as the rest cost more than the budget. Returns
 /// what the rest cost, in bytes.
-#[inline(never)]
 fn evict(cache: &mut Cache, cells: &mut Cells, cost: usize, budget: usize) -> usize {
     let mut left = cost;
     while left > budget {

@@ -11,20 +11,20 @@ loop-full-preserved c =
     let full = c.loop-full.full in
     let added = c.add_cell-first.ensures in
     let bytes = c.args.bytes.now in
-    let sum : full * 59 ≡ (full - 1) * 59 + 59 = omega (arith, some) in
-    let size = piece_length bytes ((full - 1) * 59) (full * 59) sum before.0 in
-    let piece : c.piece_at.result ≡ take 59 (drop ((full - 1) * 59) bytes) = c.piece_at.ensures in
-    let short : length (drop (full * 59) bytes) + 59 < LONG_VALUE
-    = omega (arith, size, length-drop ((full - 1) * 59) bytes, c.requires.short) in (
+    let sum : full * 50 ≡ (full - 1) * 50 + 50 = omega (arith, some) in
+    let size = piece_length bytes ((full - 1) * 50) (full * 50) sum before.0 in
+    let piece : c.piece_at.result ≡ take 50 (drop ((full - 1) * 50) bytes) = c.piece_at.ensures in
+    let short : length (drop (full * 50) bytes) + 50 < LONG_VALUE
+    = omega (arith, size, length-drop ((full - 1) * 50) bytes, c.requires.short) in (
       omega (arith, before.0, some),
       omega (arith, added.len, added.capacity, before.1, some),
       added.capacity ∙ before.2,
       λ kept hold.
           let step : CellsHold c.add_cell-first.new.cells.slots
           ((
-            place_at c.add_cell-first.result (length (drop (full * 59) bytes) + 59),
-            c.piece_at.result ++ drop (full * 59) bytes,
+            place_at c.add_cell-first.result (length (drop (full * 50) bytes) + 50),
+            c.piece_at.result ++ drop (full * 50) bytes,
           ) ∷ kept)
-          = added.before (drop (full * 59) bytes) kept short (before.3 kept hold) in
-          rw (piece, size, piece_joined bytes ((full - 1) * 59) (full * 59) sum) at step,
+          = added.before (drop (full * 50) bytes) kept short (before.3 kept hold) in
+          rw (piece, size, piece_joined bytes ((full - 1) * 50) (full * 50) sum) at step,
     )

@@ -5,11 +5,11 @@ use Rattle.mc_cells.proofs.chain.keep_chain.Given as goal
 
 abbrev pub invariant-loop-full : goal.invariant-loop-full
 invariant-loop-full l =
-    (l.full * 59 ≤ length l.bytes) ×
+    (l.full * 50 ≤ length l.bytes) ×
     (count_by is_some l.cells.slots + l.full ≤ l.cells.capacity) ×
     (l.cells.capacity ≡ l.fn.cells.capacity) ×
     ((kept : List KeptValue) → CellsHold l.fn.cells.slots kept → CellsHold l.cells.slots
-    ((place_at l.first (length (drop (l.full * 59) l.bytes)), drop (l.full * 59) l.bytes) ∷ kept))
+    ((place_at l.first (length (drop (l.full * 50) l.bytes)), drop (l.full * 50) l.bytes) ∷ kept))
 
 abbrev pub decreases-loop-full : goal.decreases-loop-full
 decreases-loop-full l = l.full

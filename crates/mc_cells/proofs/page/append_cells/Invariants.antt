@@ -7,7 +7,7 @@ use Rattle.mc_cells.proofs.page.append_cells.Given as goal
 abbrev pub invariant-loop-left : goal.invariant-loop-left
 invariant-loop-left l =
     IsChain l.cells.slots l.left l.at ×
-    (vec_len l.out + l.left * 59 ≤ vec_capacity l.out) ×
+    (vec_len l.out + l.left * 50 ≤ vec_capacity l.out) ×
     (l.out.items ++ chain_bytes l.cells.slots l.left l.at
     ≡ l.fn.out.items ++ chain_bytes l.cells.slots l.fn.count l.fn.first)
 

@@ -6,8 +6,8 @@ use Rattle.mc_cells.proofs.page.read_chain.Given as goal
 abbrev pub invariant-loop-left : goal.invariant-loop-left
 invariant-loop-left l =
     IsChain l.cells.slots l.left l.at ×
-    (l.left * 59 ≤ l.page.spare) ×
-    (length l.page.items + l.left * 59 ≡ length l.fn.page.items + l.fn.count * 59) ×
+    (l.left * 50 ≤ l.page.spare) ×
+    (length l.page.items + l.left * 50 ≡ length l.fn.page.items + l.fn.count * 50) ×
     (l.page.items ++ chain_bytes l.cells.slots l.left l.at
     ≡ l.fn.page.items ++ chain_bytes l.cells.slots l.fn.count l.fn.first)
 
