@@ -1,5 +1,6 @@
 -- Definitions that only the contracts of private functions name: no public contract rests on them.
 pub mod Access
+pub mod Cached
 pub mod Found
 pub mod Listed
 pub mod Parts

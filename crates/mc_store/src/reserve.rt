@@ -1,29 +1,46 @@
 //! Memory that is put aside for a value that is read while memory is refused.
+ghost use Rattle.std.specs.Prelude.{◌≡◌, ◌+◌, ◌≤◌, [], IfOk, length, vec_capacity, vec_len};
+ghost use Rattle.mc_cells.specs.declared.TheConstants.{LONG_VALUE};
+ghost use Rattle.mc_cells.specs.Contents.{HasValue, value_at};
+ghost use Rattle.mc_wire.specs.declared.TheConstants.{MAX_VALUE_LIMIT};
+
 use bytes::Bytes;
-use mc_cells::{Cells, Place};
+use mc_cells::{CELL_BYTES, Cells, Place};
 use mc_item::NoMemory;
 use mc_wire::MAX_VALUE_LIMIT;
 use std::alloc::Global;
 
-/// Memory that is put aside for one copy of a value. Nothing writes to it before it is used, so
-/// until then it takes address space alone.
+/// Memory that is put aside for one copy of a value, so that a value which is found can be given on
+/// whatever the allocator says. Nothing writes to it before it is used, so until then it takes
+/// address space alone.
 #[derive(Drop)]
 pub struct Reserve {
     block: Vec<u8>,
+    ghost empty: { block.items ≡ [] },
+    ghost room: { MAX_VALUE_LIMIT + CELL_BYTES ≤ vec_capacity block },
 }
 
 impl Reserve {
     /// Puts the memory aside.
-    pub fn new(alloc: Global) -> Result<Reserve, NoMemory> {
-        let block = Vec::with_capacity(alloc, MAX_VALUE_LIMIT + 4_096)?;
+    pub fn new(alloc: Global) -> Result<Reserve, NoMemory>
+        ensures empty { IfOk result (λ reserve. reserve.block.items ≡ []) }
+        ensures room { IfOk result (λ reserve.
+            MAX_VALUE_LIMIT + CELL_BYTES ≤ vec_capacity reserve.block) }
+    {
+        let block = Vec::with_capacity(alloc, MAX_VALUE_LIMIT + CELL_BYTES)?;
         Ok(Reserve { block })
     }
 
-    /// The value at the place, in the memory that was put aside. It is never freed, since no
-    /// memory is left to count its owners.
-    pub fn filled(self, cells: &Cells, place: Place) -> Bytes {
+    /// The value at the place, in the memory that was put aside. That is never freed: no memory is
+    /// left in which its owners could be counted.
+    pub fn filled(self, cells: &Cells, place: Place) -> Bytes
+        requires there { HasValue cells.now place }
+        requires len { length (value_at cells.now place) ≡ place.len }
+        requires within { place.len ≤ MAX_VALUE_LIMIT }
+        ensures { result ≡ value_at cells.now place }
+    {
         let Reserve { mut block } = self;
-        let _ = cells.append_to(place, &mut block);
+        cells.append_to(place, &mut block).unwrap();
         Bytes::from_static(block.leak())
     }
 }
