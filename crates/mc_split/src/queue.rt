@@ -1,5 +1,6 @@
 //! The pieces that were not sent yet.
-ghost use Rattle.std.specs.Prelude.{◌≡◌, ◌<◌, ◌==◌, ◌∷◌, ◌++◌, [], IfNone, IfSome, OnOk, OnErr, length};
+ghost use Rattle.std.specs.Prelude.{◌≡◌, ◌<◌, ◌≤◌, ◌==◌, ◌∷◌, ◌++◌, [], IfNone, IfOk, IfSome, OnOk, OnErr, length};
+ghost use Rattle.mc_wire.specs.declared.TheConstants.{MAX_VALUE_LIMIT};
 ghost use Rattle.std.specs.VecDeque.{deque_len, deque_capacity};
 ghost use Rattle.mc_split.specs.internal.Queue.{IsBegun, begun_left, run_left};
 
@@ -84,7 +85,10 @@ fn drop_refused(_op: Op) {}
 
 /// A copy of the bytes, cut from the page.
 #[inline(always)]
-fn cut_from(page: &mut BytesMut, alloc: Global, bytes: &[u8]) -> Result<Bytes, AllocError> {
+fn cut_from(page: &mut BytesMut, alloc: Global, bytes: &[u8]) -> Result<Bytes, AllocError>
+    requires { length bytes.now ≤ PAGE_LIMIT }
+    ensures { IfOk result (λ held. held ≡ bytes.now) }
+{
     make_room_in(page, alloc, bytes.len())?;
     page.extend_reserved(bytes);
     page.freeze_to(bytes.len())
@@ -93,7 +97,11 @@ fn cut_from(page: &mut BytesMut, alloc: Global, bytes: &[u8]) -> Result<Bytes, A
 /// Makes the page empty, with room for `len` bytes: where it has no room left, it is used again if
 /// no value shares it any more, else another is allocated.
 #[inline(always)]
-fn make_room_in(page: &mut BytesMut, alloc: Global, len: usize) -> Result<(), AllocError> {
+fn make_room_in(page: &mut BytesMut, alloc: Global, len: usize) -> Result<(), AllocError>
+    requires { len ≤ PAGE_BYTES }
+    ensures empty { OnOk result (page.new.items ≡ []) }
+    ensures room { OnOk result (len ≤ page.new.spare) }
+{
     page.clear();
     if page.capacity() < len {
         return next_page(page, alloc, len);
@@ -101,10 +109,15 @@ fn make_room_in(page: &mut BytesMut, alloc: Global, len: usize) -> Result<(), Al
     Ok(())
 }
 
-/// The page again, or another.
+/// Makes room in an empty page that has too little.
 #[cold]
 #[inline(never)]
-fn next_page(page: &mut BytesMut, alloc: Global, len: usize) -> Result<(), AllocError> {
+fn next_page(page: &mut BytesMut, alloc: Global, len: usize) -> Result<(), AllocError>
+    requires empty { page.old.items ≡ [] }
+    requires len { len ≤ PAGE_BYTES }
+    ensures empty { OnOk result (page.new.items ≡ []) }
+    ensures room { OnOk result (len ≤ page.new.spare) }
+{
     if !page.try_reclaim(len) {
         *page = BytesMut::with_capacity(alloc, PAGE_BYTES)?;
     }
@@ -143,7 +156,11 @@ impl PieceQueue {
 
     /// The value with a copy of these bytes. A short one is cut from a page that many share.
     #[inline(always)]
-    pub(crate) fn value_of(&mut self, alloc: Global, bytes: &[u8]) -> Result<Value, NoMemory> {
+    pub(crate) fn value_of(&mut self, alloc: Global, bytes: &[u8]) -> Result<Value, NoMemory>
+        requires { length bytes.now ≤ MAX_VALUE_LIMIT }
+        ensures value { IfOk result (λ value. value ≡ bytes.now) }
+        ensures unchanged { self.new ≡ self.old }
+    {
         if bytes.len() > PAGE_LIMIT {
             return Value::of_slice(alloc, bytes);
         }

@@ -1,6 +1,6 @@
 //! Memory that is put aside for a value that is read while memory is refused.
 ghost use Rattle.std.specs.Prelude.{◌≡◌, ◌+◌, ◌≤◌, [], IfOk, length, vec_capacity, vec_len};
-ghost use Rattle.mc_cells.specs.declared.TheConstants.{LONG_VALUE};
+ghost use Rattle.mc_cells.specs.declared.TheConstants.{CELL_BYTES};
 ghost use Rattle.mc_cells.specs.Contents.{HasValue, value_at};
 ghost use Rattle.mc_wire.specs.declared.TheConstants.{MAX_VALUE_LIMIT};
 
