@@ -1,5 +1,5 @@
 -- What stays of the items when values are kept or removed.
-use Rattle.std.proofs.Common.{◌≡◌, ℕ, Bool, true, List, [], ◌∷◌, ◌++◌, Option, Some, None, refl, sym, ap, ◌∙◌, map, cc}
+use Rattle.std.proofs.Common.{◌≡◌, ℕ, Bool, true, List, [], ◌∷◌, ◌++◌, Option, Some, None, refl, sym, ap, ◌∙◌, map, false, cond}
 use Rattle.std.proofs.lemmas.List.{append_assoc, map-append}
 use Rattle.std.specs.Map.{lookup, remove_entry}
 use Rattle.mc_cells.specs.declared.place.Place.{Place}
@@ -7,9 +7,9 @@ use Rattle.mc_cells.specs.Contents.{Contents, AreKept, HasValue, value_at}
 use Rattle.mc_cells.specs.Kept.{KeptValue}
 use Rattle.mc_cells.specs.Laws.{KeptIsThere}
 use Rattle.mc_store.specs.declared.stored.Stored.{Stored}
-use Rattle.mc_store.specs.internal.Stored.{item_with, fields_of, place_in, shown}
+use Rattle.mc_store.specs.internal.Stored.{place_in}
 use Rattle.mc_store.specs.internal.Cached.{StoredEntry, shown_entry, shown_entries, kept_value}
-use Rattle.mc_store.proofs.Mapped.{IsDivided, divided}
+use Rattle.mc_store.proofs.Mapped.{divided}
 
 -- the items and their values are the same under other contents
 pub record AreSame (old new : Contents) (es : List StoredEntry) : Type 0 where
@@ -64,3 +64,14 @@ others_kept old new before test es stored found removed kept =
     let left : AreKept new ((before ++ front) ++ back)
     = removed (before ++ front) back (value_at old (place_in stored)) kept' in
     rw (d.removed, map-append (kept_value old) d.before d.after, ← append_assoc before front back) left
+
+-- Where none is found none is removed.
+pub none_removed : {X : Type 0} (test : List ℕ → Bool) (es : List (List ℕ × X)) → lookup test es ≡ None
+    → remove_entry test es ≡ es
+none_removed test [] none = refl
+none_removed {X} test (e ∷ es) none = by (test e.0) none (none_removed test es)
+  where
+    by : (b : Bool) → cond b (Some e.1) (lookup test es) ≡ None → (lookup test es ≡ None → remove_entry test es ≡ es)
+        → cond b es (e ∷ remove_entry test es) ≡ e ∷ es
+    by true found rest = absurd cc
+    by false found rest = ap (λ xs. e ∷ xs) (rest found)

@@ -1,5 +1,5 @@
 -- The items of a shard as a list, and how they are kept.
-use Rattle.std.specs.Prelude.{ℕ, ◌+◌, ◌/◌, ◌≤◌, ◌^◌, List, ◌×◌, map}
+use Rattle.std.specs.Prelude.{ℕ, ◌+◌, ◌/◌, ◌≤◌, ◌^◌, List, map}
 use Rattle.mc_cells.specs.Contents.{Contents, AreKept, value_at}
 use Rattle.mc_cells.specs.Kept.{KeptValue}
 use Rattle.mc_store.specs.declared.stored.Stored.{Stored}
