@@ -33,3 +33,9 @@ invariant_of-self-2 c =
         few_long = rw long room.few_long;
       };
     })
+
+pub remove-requires : goal.remove-requires
+remove-requires c =
+    rw c.place-place.ensures
+    (item_there c.every_kept.ensures.there c.self.inside.cells [] (same_key c.args.key.now) c.self.inside.cache.entries
+    c.in_ok-stored.stored (sym c.in_ok-stored.ensures.value) c.self.invariant.kept)
