@@ -8,6 +8,7 @@ pub mod Meta
 pub mod Name
 pub mod Hiding
 pub mod Table
+pub mod Request
 pub mod Laws
 pub mod FlagOrder
 pub mod internal

@@ -2,88 +2,98 @@
 //! statistics and shutdown.
 ghost use Rattle.std.specs.Prelude.{◌≡◌};
 ghost use Rattle.mc_wire.specs.Words.{words_left};
-ghost use Rattle.mc_command.specs.Field.{Reads};
+ghost use Rattle.mc_command.specs.Request.{IsRead};
 ghost use Rattle.mc_command.specs.Classic as spec;
 
-use crate::command::{Command, Direction, Retrieval, StatsRequest};
+use crate::command::{Direction, StatsRequest};
 use crate::error::CommandError;
-use crate::field::{read_exptime, read_key, read_last_word, read_noreply, read_u64};
+use crate::field::{key_word, read_exptime, read_last_word, read_noreply, read_u64};
 use crate::hiding::is_noreply;
-use crate::keys::Keys;
+use crate::keys::are_keys;
+use crate::request::Request;
 use crate::rules::{Profile, Rules};
 use crate::table::find_word;
 use mc_wire::WordWalk;
-use std::alloc::Global;
 
 /// Parses `get KEY..` and `gets KEY..`.
-pub(crate) fn read_get(
-    alloc: Global,
+pub(crate) fn read_get<'a>(
     rules: Rules,
     with_unique: bool,
-    mut walk: WordWalk<'_>,
-) -> Result<Command, CommandError>
-    ensures { Reads (spec.get_words rules with_unique (words_left walk.entry)) result }
+    mut walk: WordWalk<'a>,
+) -> Result<Request<'a>, CommandError>
+    ensures { IsRead rules (spec.get_words rules with_unique (words_left walk.entry)) result }
 {
     let Some(first) = walk.next() else {
         return Err(rules.word_count_refusal());
     };
-    let keys = Keys::read(alloc, first, walk)?;
-    Ok(Command::Get(Retrieval {
-        keys,
-        touch: None,
-        with_unique,
-    }))
+    get_words(first, walk, None, with_unique)
 }
 
 /// Parses `gat EXPTIME KEY..` and `gats EXPTIME KEY..`.
-pub(crate) fn read_gat(
-    alloc: Global,
+pub(crate) fn read_gat<'a>(
     rules: Rules,
     with_unique: bool,
-    mut walk: WordWalk<'_>,
-) -> Result<Command, CommandError>
-    ensures { Reads (spec.gat_words rules with_unique (words_left walk.entry)) result }
+    mut walk: WordWalk<'a>,
+) -> Result<Request<'a>, CommandError>
+    ensures { IsRead rules (spec.gat_words rules with_unique (words_left walk.entry)) result }
 {
     let (Some(exptime), Some(first)) = (walk.next(), walk.next()) else {
         return Err(rules.word_count_refusal());
     };
     let exptime = read_exptime(rules, exptime)?;
-    let keys = Keys::read(alloc, first, walk)?;
-    Ok(Command::Get(Retrieval {
-        keys,
-        touch: Some(exptime),
+    get_words(first, walk, Some(exptime), with_unique)
+}
+
+/// A get of this key and the others.
+#[inline(always)]
+fn get_words<'a>(
+    first: &'a [u8],
+    walk: WordWalk<'a>,
+    touch: Option<i64>,
+    with_unique: bool,
+) -> Result<Request<'a>, CommandError>
+    ensures { (rules : Rules) →
+        IsRead rules (spec.get_of_keys (first.now ∷ words_left walk) touch with_unique) result }
+{
+    let first = key_word(first)?;
+    let others = walk.text();
+    if !others.is_empty() && !are_keys(walk) {
+        return Err(CommandError::BadKey);
+    }
+    Ok(Request::Get {
+        first,
+        others,
+        touch,
         with_unique,
-    }))
+    })
 }
 
 /// Parses `delete KEY [0] [noreply]`.
-pub(crate) fn read_delete(
-    alloc: Global,
+pub(crate) fn read_delete<'a>(
     rules: Rules,
-    mut walk: WordWalk<'_>,
-) -> Result<Command, CommandError>
-    ensures { Reads (spec.delete_words rules (words_left walk.entry)) result }
+    mut walk: WordWalk<'a>,
+) -> Result<Request<'a>, CommandError>
+    ensures { IsRead rules (spec.delete_words rules (words_left walk.entry)) result }
 {
     let (Some(key), second, third, None) = (walk.next(), walk.next(), walk.next(), walk.next())
     else {
         return Err(rules.word_count_refusal());
     };
-    let key = read_key(alloc, key)?;
+    let key = key_word(key)?;
     let noreply = match (second, third) {
         (Some(b"0"), word) | (word, None) => read_noreply(word)?,
         _ => return Err(CommandError::BadFormat),
     };
-    Ok(Command::Delete { key, noreply })
+    Ok(Request::Delete { key, noreply })
 }
 
 /// Parses `incr KEY AMOUNT [noreply]` and `decr KEY AMOUNT [noreply]`.
-pub(crate) fn read_count(
-    alloc: Global,
+pub(crate) fn read_count<'a>(
     rules: Rules,
     direction: Direction,
-    mut walk: WordWalk<'_>,
-) -> Result<Command, CommandError>
-    ensures { Reads (spec.count_words rules direction (words_left walk.entry)) result }
+    mut walk: WordWalk<'a>,
+) -> Result<Request<'a>, CommandError>
+    ensures { IsRead rules (spec.count_words rules direction (words_left walk.entry)) result }
 {
     let (Some(key), Some(amount), noreply, None) = (
         walk.next(),
@@ -93,10 +103,10 @@ pub(crate) fn read_count(
     ) else {
         return Err(rules.word_count_refusal());
     };
-    let key = read_key(alloc, key)?;
+    let key = key_word(key)?;
     let amount = read_u64(amount)?;
     let noreply = read_last_word(rules, noreply)?;
-    Ok(Command::Count {
+    Ok(Request::Count {
         key,
         direction,
         amount,
@@ -105,12 +115,11 @@ pub(crate) fn read_count(
 }
 
 /// Parses `touch KEY EXPTIME [noreply]`.
-pub(crate) fn read_touch(
-    alloc: Global,
+pub(crate) fn read_touch<'a>(
     rules: Rules,
-    mut walk: WordWalk<'_>,
-) -> Result<Command, CommandError>
-    ensures { Reads (spec.touch_words rules (words_left walk.entry)) result }
+    mut walk: WordWalk<'a>,
+) -> Result<Request<'a>, CommandError>
+    ensures { IsRead rules (spec.touch_words rules (words_left walk.entry)) result }
 {
     let (Some(key), Some(exptime), noreply, None) = (
         walk.next(),
@@ -120,10 +129,10 @@ pub(crate) fn read_touch(
     ) else {
         return Err(rules.word_count_refusal());
     };
-    let key = read_key(alloc, key)?;
+    let key = key_word(key)?;
     let exptime = read_exptime(rules, exptime)?;
     let noreply = read_last_word(rules, noreply)?;
-    Ok(Command::Touch {
+    Ok(Request::Touch {
         key,
         exptime,
         noreply,
@@ -131,18 +140,18 @@ pub(crate) fn read_touch(
 }
 
 /// Parses `flush_all [DELAY] [noreply]`.
-pub(crate) fn read_flush_all(rules: Rules, mut walk: WordWalk<'_>) -> Result<Command, CommandError>
-    ensures { result ≡ spec.flush_words rules (words_left walk.entry) }
+pub(crate) fn read_flush_all<'a>(rules: Rules, mut walk: WordWalk<'a>) -> Result<Request<'a>, CommandError>
+    ensures { IsRead rules (spec.flush_words rules (words_left walk.entry)) result }
 {
     let (first, second, None) = (walk.next(), walk.next(), walk.next()) else {
         return Err(rules.word_count_refusal());
     };
     let (delay, noreply) = match (first, second) {
-        (None, _) => return Ok(Command::FlushAll {
+        (None, _) => return Ok(Request::FlushAll {
             delay: 0,
             noreply: false,
         }),
-        (Some(word), None) if is_noreply(word) => return Ok(Command::FlushAll {
+        (Some(word), None) if is_noreply(word) => return Ok(Request::FlushAll {
             delay: 0,
             noreply: true,
         }),
@@ -150,25 +159,25 @@ pub(crate) fn read_flush_all(rules: Rules, mut walk: WordWalk<'_>) -> Result<Com
     };
     let delay = rules.flush_delay(read_exptime(rules, delay)?);
     let noreply = read_last_word(rules, noreply)?;
-    Ok(Command::FlushAll { delay, noreply })
+    Ok(Request::FlushAll { delay, noreply })
 }
 
 /// Parses `verbosity LEVEL [noreply]`.
-pub(crate) fn read_verbosity(rules: Rules, mut walk: WordWalk<'_>) -> Result<Command, CommandError>
-    ensures { result ≡ spec.verbosity_words rules (words_left walk.entry) }
+pub(crate) fn read_verbosity<'a>(rules: Rules, mut walk: WordWalk<'a>) -> Result<Request<'a>, CommandError>
+    ensures { IsRead rules (spec.verbosity_words rules (words_left walk.entry)) result }
 {
     let (Some(level), noreply, None) = (walk.next(), walk.next(), walk.next()) else {
         return Err(rules.word_count_refusal());
     };
     read_u64(level)?;
     let noreply = read_last_word(rules, noreply)?;
-    Ok(Command::Verbosity { noreply })
+    Ok(Request::Verbosity { noreply })
 }
 
 /// Parses `shutdown [graceful]` (protocol.txt, "Other commands"). The native rules don't have this
 /// command. Where clients may not end the server, each form of it is refused.
-pub(crate) fn read_shutdown(rules: Rules, walk: WordWalk<'_>) -> Result<Command, CommandError>
-    ensures { result ≡ spec.shutdown_words rules (words_left walk.entry) }
+pub(crate) fn read_shutdown<'a>(rules: Rules, walk: WordWalk<'a>) -> Result<Request<'a>, CommandError>
+    ensures { IsRead rules (spec.shutdown_words rules (words_left walk.entry)) result }
 {
     match (rules.profile, rules.shutdown) {
         (Profile::Own, _) => Err(CommandError::Unknown),
@@ -178,12 +187,12 @@ pub(crate) fn read_shutdown(rules: Rules, walk: WordWalk<'_>) -> Result<Command,
 }
 
 /// Parses the mode of `shutdown`: none, or `graceful`.
-fn read_shutdown_mode(mut walk: WordWalk<'_>) -> Result<Command, CommandError>
-    ensures { result ≡ spec.shutdown_of (words_left walk.entry) }
+fn read_shutdown_mode<'a>(mut walk: WordWalk<'a>) -> Result<Request<'a>, CommandError>
+    ensures { (rules : Rules) → IsRead rules (spec.shutdown_of (words_left walk.entry)) result }
 {
     match (walk.next(), walk.next()) {
-        (None, _) => Ok(Command::Shutdown),
-        (Some(mode), None) if is_graceful(mode) => Ok(Command::Shutdown),
+        (None, _) => Ok(Request::Shutdown),
+        (Some(mode), None) if is_graceful(mode) => Ok(Request::Shutdown),
         _ => Err(CommandError::ShutdownMode),
     }
 }
@@ -196,17 +205,17 @@ fn is_graceful(word: &[u8]) -> bool
 }
 
 /// Parses `stats [WHAT..]`. The native rules don't have this command.
-pub(crate) fn read_stats(rules: Rules, mut walk: WordWalk<'_>) -> Result<Command, CommandError>
-    ensures { result ≡ spec.stats_words rules (words_left walk.entry) }
+pub(crate) fn read_stats<'a>(rules: Rules, mut walk: WordWalk<'a>) -> Result<Request<'a>, CommandError>
+    ensures { IsRead rules (spec.stats_words rules (words_left walk.entry)) result }
 {
     if !rules.is_drop_in() {
         return Err(CommandError::Unknown);
     }
     let Some(word) = walk.next() else {
-        return Ok(Command::Stats(StatsRequest::General));
+        return Ok(Request::Stats(StatsRequest::General));
     };
     match find_word(&REQUESTS, word) {
-        Some(request) => Ok(Command::Stats(request)),
+        Some(request) => Ok(Request::Stats(request)),
         None => Err(CommandError::Unknown),
     }
 }

@@ -2,29 +2,62 @@
 ghost use Rattle.std.specs.Prelude.{◌≡◌};
 ghost use Rattle.mc_wire.specs.Words.{words_left, words_of};
 ghost use Rattle.mc_command.specs.Field.{is_noreply};
+ghost use Rattle.mc_command.specs.Request.{IsParsed};
+ghost use Rattle.mc_command.specs.declared.line.Line.{Line};
 ghost use Rattle.mc_command.specs.Hiding.{ends_in_noreply, hides_faults, shown_line, shown_refusal, takes_noreply};
 
 use crate::error::CommandError;
-use crate::line::Line;
 use crate::name::CommandName;
+use crate::parsed::ParsedLine;
 use crate::rules::Rules;
 use mc_wire::{WordWalk, words};
 
 /// Hides the refusal of a line if memcached does: if its command takes `noreply`, and the line ends
 /// in it.
 #[inline(always)]
-pub(crate) fn hide_fault(line: &mut Line, rules: Rules, name: CommandName, behind: &[u8])
-    ensures { line.new ≡ shown_line (hides_faults rules name (words_of behind.now)) line.old }
+pub(crate) fn hide_fault<'a>(
+    line: ParsedLine<'a>,
+    rules: Rules,
+    name: CommandName,
+    behind: &[u8],
+) -> ParsedLine<'a>
+    ensures { (said : Line) → IsParsed rules said line →
+        IsParsed rules (shown_line (hides_faults rules name (words_of behind.now)) said) result }
 {
     match line {
-        Line::Refused(refusal) => {
-            *refusal = shown_refusal(hides_faults(rules, name, behind), *refusal);
+        ParsedLine::Whole(request) => ParsedLine::Whole(request),
+        ParsedLine::Data(request, count) => ParsedLine::Data(request, count),
+        ParsedLine::Refused(refusal) => {
+            ParsedLine::Refused(shown_fault(rules, name, behind, refusal))
         }
-        Line::Skip { refusal, .. } => {
-            *refusal = shown_refusal(hides_faults(rules, name, behind), *refusal);
-        }
-        Line::Whole(_) | Line::Data(..) => {}
+        ParsedLine::Skip { refusal, count } => ParsedLine::Skip {
+            refusal: shown_fault(rules, name, behind, refusal),
+            count,
+        },
+        ParsedLine::TooLarge {
+            request,
+            refusal,
+            count,
+        } => ParsedLine::TooLarge {
+            request,
+            refusal: shown_fault(rules, name, behind, refusal),
+            count,
+        },
     }
+}
+
+/// The refusal of such a line, or `Hidden`.
+#[cold]
+#[inline(never)]
+fn shown_fault(
+    rules: Rules,
+    name: CommandName,
+    behind: &[u8],
+    refusal: CommandError,
+) -> CommandError
+    ensures { result ≡ shown_refusal (hides_faults rules name (words_of behind.now)) refusal }
+{
+    shown_refusal(hides_faults(rules, name, behind), refusal)
 }
 
 /// Whether errors of such a line are hidden.

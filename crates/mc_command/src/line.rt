@@ -1,29 +1,33 @@
 //! Parsing of a line.
 ghost use Rattle.mc_wire.specs.Words.{words_of, words_left};
 ghost use Rattle.mc_command.specs.Line.{Says};
+ghost use Rattle.mc_command.specs.Request.{IsParsed, IsRead};
 ghost use Rattle.mc_command.specs.Rules.{own};
-ghost use Rattle.mc_command.specs.Table.{line_of, line_named, may_take_memory, takes_memory};
-ghost use Rattle.std.specs.Prelude.{◌≡◌, ◌+◌, false};
-ghost use Rattle.mc_command.specs.declared.line.Line.TheVariants.{Skip};
-ghost use Rattle.mc_command.specs.declared.error.CommandError.TheVariants.{TooLarge};
-ghost use Rattle.mc_command.specs.Blocks.{discarded_by};
+ghost use Rattle.mc_command.specs.Table.{line_of, line_if_named, line_named};
+ghost use Rattle.mc_command.specs.Name.{name_of};
+ghost use Rattle.mc_command.specs.declared.command.Command.{Command};
+ghost use Rattle.mc_command.specs.declared.error.CommandError.{CommandError};
+ghost use Rattle.std.specs.Prelude.{Result};
 ghost use Rattle.mc_command.specs.Blocks as spec;
 
 use crate::classic::{
     read_count, read_delete, read_flush_all, read_gat, read_get, read_shutdown, read_stats,
     read_touch, read_verbosity,
 };
-use crate::command::{Command, Storage, StoreMode, StoreRequest};
+use crate::command::{Command, StoreMode};
 use crate::error::CommandError;
 use crate::hiding::hide_fault;
-use crate::meta_line::read_meta;
+use crate::meta::MetaKind;
+use crate::meta_line::{read_meta, read_with_block, read_without_block};
 use crate::name::{CommandName, read_name};
+use crate::parsed::ParsedLine;
+use crate::request::Request;
 use crate::rules::Rules;
 use crate::storage::{read_cas, read_storage};
 use mc_wire::{Key, WordWalk, words};
 use std::alloc::Global;
 
-/// A parsed line.
+/// A parsed line, in memory of its own.
 #[derive(Drop)]
 pub enum Line {
     /// A command without a data block.
@@ -42,145 +46,118 @@ pub enum Line {
     },
 }
 
-/// Parses a line without its line end, under the native rules, for values of at most `limit` bytes.
+/// Parses a line without its line end, under the native rules, for values of at most `limit` bytes,
+/// into memory of its own.
 pub fn read_line(alloc: Global, line: &[u8], limit: usize) -> Line
-    ensures says { Says (line_of (own limit) (words_of line.now)) result }
-    ensures told { may_take_memory (words_of line.now) ≡ false →
-        result ≡ line_of (own limit) (words_of line.now) }
+    ensures { Says (line_of (own limit) (words_of line.now)) result }
 {
-    read_line_with_rules(alloc, line, Rules::own(limit))
+    let rules = Rules::own(limit);
+    read_line_with_rules(line, rules).to_line(alloc, rules)
 }
 
-/// Parses a line without its line end, under these rules.
-#[tactic(auto, unfolding(crate::specs::Table::line_of), using(crate::proofs::Hidings::says_shown))]
-pub fn read_line_with_rules(alloc: Global, line: &[u8], rules: Rules) -> Line
-    ensures says { Says (line_of rules (words_of line.now)) result }
-    // A line without keys is never refused for want of memory.
-    ensures told { may_take_memory (words_of line.now) ≡ false →
-        result ≡ line_of rules (words_of line.now) }
+/// Parses a line without its line end, under these rules. The names that are sent most come first.
+/// Allocates nothing.
+#[tactic(auto, unfolding(crate::specs::Table::line_of, crate::specs::Name::name_of, crate::specs::Meta::meta_line_of))]
+#[inline(always)]
+pub fn read_line_with_rules(line: &[u8], rules: Rules) -> ParsedLine<'_>
+    ensures { IsParsed rules (line_of rules (words_of line.now)) result }
 {
     let mut walk = words(line);
-    let Some(name) = walk.next().and_then(read_name) else {
-        return Line::Refused(CommandError::Unknown);
+    match walk.next() {
+        Some(b"get") => whole_line(read_get(rules, false, walk)),
+        Some(b"set") => read_named_storage(StoreMode::Set, walk, rules),
+        Some(b"mg") => read_without_block(rules, MetaKind::Get, walk),
+        Some(b"mn") => ParsedLine::Whole(Request::MetaNoop),
+        Some(b"ms") => read_with_block(walk, rules),
+        Some(b"gets") => whole_line(read_get(rules, true, walk)),
+        Some(name) => read_other(name, walk, rules),
+        None => ParsedLine::Refused(CommandError::Unknown),
+    }
+}
+
+/// Parses the words after this name. Out of line, to keep the common path small.
+#[inline(never)]
+fn read_other<'a>(name: &[u8], walk: WordWalk<'a>, rules: Rules) -> ParsedLine<'a>
+    ensures { IsParsed rules (line_if_named rules (name_of name.now) (words_left walk)) result }
+{
+    let Some(name) = read_name(name) else {
+        return ParsedLine::Refused(CommandError::Unknown);
     };
     let behind = walk.text();
-    let mut read = read_named(alloc, name, walk, rules);
-    hide_fault(&mut read, rules, name, behind);
-    read
+    hide_fault(read_named(name, walk, rules), rules, name, behind)
+}
+
+/// Parses the words after the name of a storage command.
+#[inline(always)]
+fn read_named_storage<'a>(mode: StoreMode, walk: WordWalk<'a>, rules: Rules) -> ParsedLine<'a>
+    ensures { IsParsed rules
+        (line_if_named rules (Some (CommandName.Store mode)) (words_left walk)) result }
+{
+    let behind = walk.text();
+    let read = read_storage(mode, walk, rules);
+    hide_fault(read, rules, CommandName::Store(mode), behind)
 }
 
 /// Parses the words after a command's name.
-#[tactic(auto, using(crate::proofs::GivingUp::says_whole, crate::proofs::Lines::get_may, crate::proofs::Lines::gat_may, crate::proofs::Lines::delete_may, crate::proofs::Lines::count_may, crate::proofs::Lines::touch_may, crate::proofs::Lines::flush_may, crate::proofs::Told::verbosity_told, crate::proofs::Told::stats_told, crate::proofs::Told::shutdown_told, crate::proofs::Told::says_told))]
-fn read_named(alloc: Global, name: CommandName, walk: WordWalk<'_>, rules: Rules) -> Line
-    ensures says { Says (line_named rules name (words_left walk.entry)) result }
-    ensures told { takes_memory name ≡ false →
-        result ≡ line_named rules name (words_left walk.entry) }
+fn read_named<'a>(name: CommandName, walk: WordWalk<'a>, rules: Rules) -> ParsedLine<'a>
+    ensures { IsParsed rules (line_named rules name (words_left walk)) result }
 {
     match name {
-        CommandName::Store(mode) => read_storage(alloc, mode, walk, rules),
-        CommandName::CompareAndSwap => read_cas(alloc, walk, rules),
-        CommandName::Get { with_unique } => whole_line(read_get(alloc, rules, with_unique, walk)),
-        CommandName::GetAndTouch { with_unique } => whole_line(read_gat(
-            alloc,
-            rules,
-            with_unique,
-            walk,
-        )),
-        CommandName::Delete => whole_line(read_delete(alloc, rules, walk)),
-        CommandName::Count(direction) => whole_line(read_count(alloc, rules, direction, walk)),
-        CommandName::Touch => whole_line(read_touch(alloc, rules, walk)),
+        CommandName::Store(mode) => read_storage(mode, walk, rules),
+        CommandName::CompareAndSwap => read_cas(walk, rules),
+        CommandName::Get { with_unique } => whole_line(read_get(rules, with_unique, walk)),
+        CommandName::GetAndTouch { with_unique } => whole_line(read_gat(rules, with_unique, walk)),
+        CommandName::Delete => whole_line(read_delete(rules, walk)),
+        CommandName::Count(direction) => whole_line(read_count(rules, direction, walk)),
+        CommandName::Touch => whole_line(read_touch(rules, walk)),
         CommandName::FlushAll => whole_line(read_flush_all(rules, walk)),
-        CommandName::Version => Line::Whole(Command::Version(rules.profile)),
+        CommandName::Version => ParsedLine::Whole(Request::Version),
         CommandName::Verbosity => whole_line(read_verbosity(rules, walk)),
         CommandName::Stats => whole_line(read_stats(rules, walk)),
-        CommandName::Quit => Line::Whole(Command::Quit),
+        CommandName::Quit => ParsedLine::Whole(Request::Quit),
         CommandName::Shutdown => whole_line(read_shutdown(rules, walk)),
-        CommandName::MetaNoop => Line::Whole(Command::MetaNoop),
-        CommandName::Meta(name) => read_meta(alloc, name, walk, rules),
+        CommandName::MetaNoop => ParsedLine::Whole(Request::MetaNoop),
+        CommandName::Meta(name) => read_meta(name, walk, rules),
     }
 }
 
 /// A line without a block.
 #[inline(always)]
-pub(crate) fn whole_line(read: Result<Command, CommandError>) -> Line
-    ensures { result ≡ spec.whole_line read }
+pub(crate) fn whole_line<'a>(read: Result<Request<'a>, CommandError>) -> ParsedLine<'a>
+    ensures { (rules : Rules) (asked : Result Command CommandError) → IsRead rules asked read →
+        IsParsed rules (spec.whole_line asked) result }
 {
     match read {
-        Ok(command) => Line::Whole(command),
-        Err(refusal) => Line::Refused(refusal),
+        Ok(request) => ParsedLine::Whole(request),
+        Err(refusal) => ParsedLine::Refused(refusal),
     }
 }
 
 /// A line with a block of this length, if that is valid: then the block and its line end are
 /// skipped whatever else is wrong with the line.
 #[inline(always)]
-pub(crate) fn block_line(
+pub(crate) fn block_line<'a>(
     rules: Rules,
     count: Option<u32>,
-    read: Result<Command, CommandError>,
-) -> Line
-    ensures { result ≡ spec.block_line rules count read }
+    read: Result<Request<'a>, CommandError>,
+) -> ParsedLine<'a>
+    ensures { (asked : Result Command CommandError) → IsRead rules asked read →
+        IsParsed rules (spec.block_line rules count asked) result }
 {
     match (count, read) {
-        (Some(count), Ok(command)) => {
-            if count as usize > rules.value_limit {
-                return too_large(rules, command, count);
-            }
-            Line::Data(command, count)
+        (Some(count), Ok(request)) if count as usize <= rules.value_limit => {
+            ParsedLine::Data(request, count)
         }
-        (Some(count), Err(refusal)) => Line::Skip {
-            discarded: None,
+        (Some(count), Ok(request)) => ParsedLine::TooLarge {
+            request,
+            refusal: CommandError::TooLarge,
+            count: u64::from(count) + 2,
+        },
+        (Some(count), Err(refusal)) => ParsedLine::Skip {
             refusal,
             count: u64::from(count) + 2,
         },
-        (None, Ok(command)) => {
-            let_go(command);
-            Line::Refused(CommandError::BadFormat)
-        }
-        (None, Err(refusal)) => Line::Refused(refusal),
+        (None, Ok(_)) => ParsedLine::Refused(CommandError::BadFormat),
+        (None, Err(refusal)) => ParsedLine::Refused(refusal),
     }
 }
-
-/// A line whose value is too large.
-#[cold]
-#[inline(never)]
-fn too_large(rules: Rules, command: Command, count: u32) -> Line
-    ensures { result ≡ Skip (discarded_by rules command) TooLarge (count + 2) }
-{
-    let key = key_set(command);
-    let discarded = if rules.is_drop_in() { key } else { None };
-    let skipped = u64::from(count) + 2;
-    Line::Skip {
-        discarded,
-        refusal: CommandError::TooLarge,
-        count: skipped,
-    }
-}
-
-/// The key whose item is deleted if the command's value is too large: for `set`, and for `ms` in
-/// each mode.
-fn key_set(command: Command) -> Option<Key>
-    ensures { result ≡ spec.key_set command }
-{
-    match command {
-        Command::Store(
-            Storage {
-                asked: StoreRequest {
-                    key,
-                    mode: StoreMode::Set,
-                    compare: None,
-                    ..
-                },
-                ..
-            },
-        ) => Some(key),
-        Command::MetaSet(set) => Some(set.asked.key),
-        other => {
-            let_go(other);
-            None
-        }
-    }
-}
-
-/// Drops a command. A function of its own, since dropping a command inspects each of its kinds.
-fn let_go(_command: Command) {}

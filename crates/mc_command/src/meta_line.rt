@@ -1,69 +1,101 @@
 //! Parsing of meta commands from the words after the name (protocol.txt, "Meta Commands").
 ghost use Rattle.std.specs.Prelude.{◌≡◌};
-ghost use Rattle.mc_wire.specs.Words.{words_left};
-ghost use Rattle.mc_command.specs.Line.{Says};
+ghost use Rattle.mc_wire.specs.Words.{words_left, words_of};
+ghost use Rattle.mc_command.specs.Request.{IsParsed, IsRead};
 ghost use Rattle.mc_command.specs.Field.{Reads};
 ghost use Rattle.mc_command.specs.Meta.{as_meta_get, as_meta_set, decoded_key, line_with_block, line_without_block, meta_command_of, meta_key_of, meta_line_of};
 ghost use Rattle.mc_command.specs.internal.FlagsAsked.{arithmetic_by, command_by, delete_by, get_by, set_by};
 
-use crate::announced::read_block_count;
 use crate::block::Block;
 use crate::command::{Command, Direction, StoreMode, StoreRequest};
+use crate::count::read_block_count;
 use crate::error::CommandError;
 use crate::field::read_key;
-use crate::line::{Line, block_line, whole_line};
+use crate::line::block_line;
 use crate::meta::{
     MetaArithmetic, MetaCount, MetaDelete, MetaFetch, MetaGet, MetaKind, MetaRemoval, MetaSet,
     Vivify,
 };
 use crate::meta_flags::{FlagsRead, read_flags};
+use crate::parsed::ParsedLine;
+use crate::request::Request;
 use crate::rules::Rules;
-use mc_wire::{Key, WordWalk};
+use mc_wire::{Key, WordWalk, base64_fault, key_fault, words};
 use std::alloc::Global;
 
 /// Parses a meta command from the words after its name.
 #[tactic(auto, unfolding(crate::specs::Meta::meta_line_of))]
-pub(crate) fn read_meta(alloc: Global, name: MetaKind, walk: WordWalk<'_>, rules: Rules) -> Line
-    ensures { Says (meta_line_of rules name (words_left walk.entry)) result }
+pub(crate) fn read_meta<'a>(name: MetaKind, walk: WordWalk<'a>, rules: Rules) -> ParsedLine<'a>
+    ensures { IsParsed rules (meta_line_of rules name (words_left walk)) result }
 {
     match name {
-        MetaKind::Set => read_with_block(alloc, walk, rules),
+        MetaKind::Set => read_with_block(walk, rules),
         MetaKind::Get | MetaKind::Delete | MetaKind::Arithmetic => {
-            read_without_block(alloc, rules, name, walk)
+            read_without_block(rules, name, walk)
         }
     }
 }
 
-#[tactic(auto, using(crate::proofs::Told::words_told))]
-fn read_without_block(alloc: Global, rules: Rules, name: MetaKind, mut walk: WordWalk<'_>) -> Line
-    ensures { Says (line_without_block rules name (words_left walk.entry)) result }
+/// Parses the words after `mg`, `md` or `ma`.
+#[inline(always)]
+pub(crate) fn read_without_block<'a>(
+    rules: Rules,
+    kind: MetaKind,
+    mut walk: WordWalk<'a>,
+) -> ParsedLine<'a>
+    ensures { IsParsed rules (line_without_block rules kind (words_left walk.entry)) result }
 {
-    let Some(word) = walk.next() else {
-        return Line::Refused(rules.word_count_refusal());
-    };
-    whole_line(read_command(alloc, rules, name, word, walk))
+    match walk.next() {
+        Some(word) => ParsedLine::Whole(Request::Meta {
+            kind,
+            word,
+            flags: walk.text(),
+        }),
+        None => ParsedLine::Refused(rules.word_count_refusal()),
+    }
 }
 
-#[tactic(auto, using(crate::proofs::Told::words_told))]
-fn read_with_block(alloc: Global, mut walk: WordWalk<'_>, rules: Rules) -> Line
-    ensures { Says (line_with_block rules (words_left walk.entry)) result }
+/// Parses the words after `ms`.
+#[inline(always)]
+pub(crate) fn read_with_block<'a>(mut walk: WordWalk<'a>, rules: Rules) -> ParsedLine<'a>
+    ensures { IsParsed rules (line_with_block rules (words_left walk.entry)) result }
 {
     let Some(word) = walk.next() else {
-        return Line::Refused(rules.word_count_refusal());
+        return ParsedLine::Refused(rules.word_count_refusal());
     };
     let Some(count) = walk.next() else {
-        return Line::Refused(CommandError::BadFormat);
+        return ParsedLine::Refused(CommandError::BadFormat);
     };
-    let count = read_block_count(rules, count);
-    block_line(
-        rules,
-        count,
-        read_command(alloc, rules, MetaKind::Set, word, walk),
-    )
+    let flags = walk.text();
+    match read_block_count(rules, count) {
+        Some(count) if count as usize <= rules.value_limit => {
+            let kind = MetaKind::Set;
+            ParsedLine::Data(Request::Meta { kind, word, flags }, count)
+        }
+        count => block_line(rules, count, read_set(rules, word, flags)),
+    }
+}
+
+/// `ms` with its key and flags validated, where its block is not to be stored.
+#[cold]
+#[inline(never)]
+fn read_set<'a>(
+    rules: Rules,
+    word: &'a [u8],
+    flags: &'a [u8],
+) -> Result<Request<'a>, CommandError>
+    ensures { IsRead rules (meta_command_of rules MetaKind.Set word.now (words_of flags.now))
+        result }
+{
+    let kind = MetaKind::Set;
+    let asked = read_flags(rules, kind, words(flags))?;
+    check_meta_key(asked.flags.base64, word)?;
+    asked.check_set(rules)?;
+    Ok(Request::Meta { kind, word, flags })
 }
 
 /// Parses the key and the flags after it.
-fn read_command(
+pub fn read_command(
     alloc: Global,
     rules: Rules,
     name: MetaKind,
@@ -106,6 +138,19 @@ pub fn read_meta_set(
     let asked = read_flags(rules, MetaKind::Set, flags)?;
     let key = read_meta_key(alloc, asked.flags.base64, word)?;
     asked.into_checked_set(alloc, rules, key)
+}
+
+/// Validates a key, which may be in base64.
+fn check_meta_key(base64: bool, word: &[u8]) -> Result<(), CommandError> {
+    let fault = if base64 {
+        base64_fault(word)
+    } else {
+        key_fault(word)
+    };
+    match fault {
+        Some(_) => Err(CommandError::BadKey),
+        None => Ok(()),
+    }
 }
 
 /// Parses a key, which may be in base64.
@@ -156,11 +201,17 @@ impl FlagsRead {
     ) -> Result<MetaSet, CommandError>
         ensures { as_meta_set result ≡ command_by rules MetaKind.Set key self }
     {
-        let set = self.into_set(alloc, rules, key);
-        if !rules.is_drop_in() && set.asked.compare.is_some() && set.asked.mode != StoreMode::Set {
+        self.check_set(rules)?;
+        Ok(self.into_set(alloc, rules, key))
+    }
+
+    /// Refuses `C` in modes of `ms` other than `S`, under the native rules.
+    fn check_set(&self, rules: Rules) -> Result<(), CommandError> {
+        let is_set = matches!(self.mode, None | Some(StoreMode::Set));
+        if !rules.is_drop_in() && self.compare.is_some() && !is_set {
             return Err(CommandError::BadFormat);
         }
-        Ok(set)
+        Ok(())
     }
 
     fn into_get(self, rules: Rules, key: Key) -> MetaGet

@@ -122,7 +122,7 @@ impl Rules {
     }
 
     /// Whether a value joined by `append` or `prepend` counts as not stored if it is too large.
-    pub(crate) fn is_lenient(self, mode: StoreMode) -> bool
+    pub fn is_lenient(self, mode: StoreMode) -> bool
         ensures { result ≡ is_lenient self mode }
     {
         matches!(mode, StoreMode::Append | StoreMode::Prepend) && self.is_drop_in()

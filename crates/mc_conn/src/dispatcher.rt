@@ -1,17 +1,18 @@
 //! Where commands are planned and opened: the reorder buffer, and the pieces that have not left.
-ghost use Rattle.std.specs.Prelude.{◌≡◌, ◌<◌, false, IfOk, IsTrue, length};
+ghost use Rattle.std.specs.Prelude.{◌≡◌, ◌<◌, codes, false, IfOk, IsTrue, length};
 ghost use Rattle.mc_reply.specs.Server.{shows_server};
 ghost use Rattle.mc_join.specs.Held.{opened_count};
 ghost use Rattle.mc_conn.specs.Shutdown.{is_shutdown};
 
 use crate::source::StatsSource;
 use crate::taken_log::TakenLog;
-use mc_command::{Command, CommandError, MetaGet, MetaSet, Profile, StatsRequest};
-use mc_fast::CommandSink;
+use mc_command::{Command, CommandError, MetaKind, Profile, Request, Rules, StatsRequest};
 use mc_item::NoMemory;
 use mc_join::ReorderBuffer;
+use mc_reader::CommandSink;
 use mc_reply::{PendingReply, ServerStats};
 use mc_split::{PieceQueue, Planner};
+use mc_wire::key_fault;
 use std::snapshot::Snapshot;
 
 /// Where a connection's commands are planned and opened.
@@ -36,20 +37,6 @@ fn noted(command: &Command) -> Snapshot<Command>
     ensures other { is_shutdown result.value ≡ false }
 {
     Snapshot::of(command)
-}
-
-/// Whether the reply to a command shows the server.
-fn is_stats(command: &Command) -> bool
-    ensures { result ≡ shows_server command.now }
-{
-    matches!(command, Command::Stats(StatsRequest::General))
-}
-
-/// Whether a command asks for the server's end.
-fn is_shutdown(command: &Command) -> bool
-    ensures { result ≡ is_shutdown command.now }
-{
-    matches!(command, Command::Shutdown)
 }
 
 impl Dispatcher {
@@ -160,30 +147,106 @@ impl CommandSink for Dispatcher {
 
     ghost takes = { TakesIn };
 
-    fn no_op(&mut self) {
-        self.log = self.log.and(&self.planner.moment);
-        let pending_reply = self.planner.split_no_op();
-        self.open(pending_reply);
+    #[inline(always)]
+    fn take(&mut self, rules: &Rules, request: Request<'_>, block: &[u8]) {
+        match request {
+            Request::Get {
+                first,
+                others,
+                touch,
+                with_unique,
+            } => self.take_get(first, others, touch, with_unique),
+            Request::Store {
+                mode,
+                key,
+                compare,
+                flags,
+                exptime,
+                noreply,
+            } => {
+                match self.planner.queue_store(
+                    &mut self.unsent,
+                    mode,
+                    key,
+                    compare,
+                    flags,
+                    exptime,
+                    block,
+                ) {
+                    Ok(()) => {
+                        self.log = self.log.and(&(self.planner.moment, request, block));
+                        let lenient = rules.is_lenient(mode);
+                        self.open(self.planner.pending_reply_of_store(noreply, lenient));
+                    }
+                    Err(_) => self.open_refusal(),
+                }
+            }
+            Request::Meta { kind, word, flags } => {
+                self.take_meta(rules, kind, word, flags, block);
+            }
+            Request::MetaNoop => {
+                self.log = self.log.and(&self.planner.moment);
+                let pending_reply = self.planner.split_no_op();
+                self.open(pending_reply);
+            }
+            rare => self.take_rare(rules, rare),
+        }
     }
 
-    fn get_one(&mut self, key: &[u8], with_unique: bool) {
-        match self.planner.queue_get_one(&mut self.unsent, key) {
+    #[inline(never)]
+    fn take_owned(&mut self, command: Command) {
+        let asked = noted(&command);
+        let split = self.planner.split_into(&mut self.unsent, command);
+        self.open_split(split, &asked);
+    }
+}
+
+impl Dispatcher {
+    /// A get.
+    #[inline(always)]
+    fn take_get(&mut self, first: &[u8], others: &[u8], touch: Option<i64>, with_unique: bool) {
+        if !others.is_empty() {
+            self.take_keys(first, others, touch, with_unique);
+            return;
+        }
+        match self.planner.queue_get_one(&mut self.unsent, first, touch) {
             Ok(shown) => {
-                self.log = self.log.and(&(self.planner.moment, key, with_unique));
+                self.log = self.log.and(&(self.planner.moment, first, with_unique));
                 self.open(self.planner.pending_reply_of_get_one(shown, with_unique));
             }
             Err(_) => self.open_refusal(),
         }
     }
 
-    fn get(&mut self, first: &[u8], others: &[u8], with_unique: bool) {
+    /// A get of several keys.
+    #[inline(never)]
+    fn take_keys(&mut self, first: &[u8], others: &[u8], touch: Option<i64>, with_unique: bool) {
         let split = self
             .planner
-            .split_get(&mut self.unsent, first, others, with_unique);
+            .split_get(&mut self.unsent, first, others, touch, with_unique);
         self.open_split(split, &(first, others, with_unique));
     }
 
-    fn meta_get_value(&mut self, profile: Profile, key: &[u8]) {
+    /// `mg`, `ms`, `md` or `ma`.
+    #[inline(always)]
+    fn take_meta(
+        &mut self,
+        rules: &Rules,
+        kind: MetaKind,
+        word: &[u8],
+        flags: &[u8],
+        block: &[u8],
+    ) {
+        if matches!(kind, MetaKind::Get) && is_value_flag(flags) && key_fault(word).is_none() {
+            self.take_meta_value(rules.profile, word);
+            return;
+        }
+        self.take_flags(rules, kind, word, flags, block);
+    }
+
+    /// `mg KEY v`.
+    #[inline(always)]
+    fn take_meta_value(&mut self, profile: Profile, key: &[u8]) {
         match self.planner.queue_meta_get_value(&mut self.unsent, key) {
             Ok(()) => {
                 self.log = self.log.and(&(self.planner.moment, profile, key));
@@ -193,44 +256,39 @@ impl CommandSink for Dispatcher {
         }
     }
 
-    fn meta_get(&mut self, get: MetaGet) {
-        let asked = Snapshot::of(&get);
-        let split = self.planner.split_meta_get(&mut self.unsent, get);
-        self.open_split(split, &asked);
-    }
-
-    fn meta_set(&mut self, set: MetaSet, block: &[u8]) {
-        let asked = Snapshot::of(&set);
-        let split = self.planner.split_meta_set(&mut self.unsent, set, block);
-        self.open_split(split, &(asked, block));
-    }
-
-    fn set(&mut self, key: &[u8], flags: u32, exptime: i64, noreply: bool, block: &[u8]) {
-        match self
-            .planner
-            .queue_set(&mut self.unsent, key, flags, exptime, block)
-        {
-            Ok(()) => {
-                let asked = (self.planner.moment, key, flags, exptime, noreply, block);
-                self.log = self.log.and(&asked);
-                self.open(self.planner.pending_reply_of_set(noreply));
-            }
-            Err(_) => self.open_refusal(),
-        }
-    }
-
+    /// A meta command with any flags.
     #[inline(never)]
-    fn other(&mut self, command: Command) {
-        if is_stats(&command) {
-            self.stats_asked = true;
-            return;
-        }
-        if is_shutdown(&command) {
-            self.open_shutdown();
-            return;
-        }
-        let asked = noted(&command);
-        let split = self.planner.split_into(&mut self.unsent, command);
-        self.open_split(split, &asked);
+    fn take_flags(
+        &mut self,
+        rules: &Rules,
+        kind: MetaKind,
+        word: &[u8],
+        flags: &[u8],
+        block: &[u8],
+    ) {
+        let split = self
+            .planner
+            .split_meta(&mut self.unsent, rules, kind, word, flags, block);
+        self.open_split(split, &(word, flags, block));
     }
+
+    /// A command that is sent seldom.
+    #[inline(never)]
+    fn take_rare(&mut self, rules: &Rules, request: Request<'_>) {
+        match request {
+            Request::Stats(StatsRequest::General) => self.stats_asked = true,
+            Request::Shutdown => self.open_shutdown(),
+            request => {
+                let split = self.planner.split_rare(&mut self.unsent, rules, request);
+                self.open_split(split, &request);
+            }
+        }
+    }
+}
+
+/// Whether the flags are exactly `v`.
+fn is_value_flag(flags: &[u8]) -> bool
+    ensures { IsTrue result → flags.now ≡ codes "v" }
+{
+    matches!(flags, b"v")
 }

@@ -1,6 +1,7 @@
 //! The commands that are split without a value of a command: from their words to their piece and
 //! the pending reply of their reply.
-ghost use Rattle.std.specs.Prelude.{◌≡◌, ◌≤◌, ◌∷◌, [], Bool, IfOk, List, None, ℕ, ℤ, length};
+ghost use Rattle.std.specs.Prelude.{◌≡◌, ◌≤◌, ◌∷◌, [], Bool, IfOk, List, None, Option, ℕ, ℤ, length};
+ghost use Rattle.mc_split.specs.Requests.{get_of, meta_get_of};
 ghost use Rattle.mc_command.specs.Command.{with_block};
 ghost use Rattle.mc_command.specs.Field.{AreKeys};
 ghost use Rattle.mc_command.specs.declared.command.Command.TheVariants as command;
@@ -8,19 +9,18 @@ ghost use Rattle.mc_command.specs.declared.rules.Profile.{Profile};
 ghost use Rattle.mc_wire.specs.Key.{key_fault};
 ghost use Rattle.mc_wire.specs.Words.{words_of};
 ghost use Rattle.mc_wire.specs.declared.TheConstants.{MAX_VALUE_LIMIT};
-ghost use Rattle.mc_fast.specs.FastCommand.{get_of, meta_get_of, set_of};
 ghost use Rattle.mc_split.specs.Plan.{pending_reply_of, Queues, SplitsInto};
 
-use crate::classic::{asked_with, plain_line};
+use crate::classic::asked_with;
 use crate::planner::Planner;
 use crate::queue::PieceQueue;
 use mc_command::{
-    CommandError, Keys, MetaFetch, MetaFlags, MetaKind, MetaSet, Opaque, Profile, Retrieval,
-    Returned, StoreMode, StoreRequest,
+    CommandError, Keys, MetaFetch, MetaFlags, MetaKind, Opaque, Profile, Request, Retrieval,
+    Returned, Rules, StoreMode, StoreRequest, read_command, read_meta_get, read_meta_set,
 };
 use mc_item::{Kind, NoMemory, Op, Value};
 use mc_reply::{Fixed, PendingReply, ReplyKind};
-use mc_wire::Key;
+use mc_wire::{Key, words};
 
 impl Planner {
     /// The pending reply of the reply to `mn`.
@@ -40,21 +40,26 @@ impl Planner {
         self.fixed(Fixed::Refused(refusal))
     }
 
-    /// Puts the piece of `get KEY`, or `gets KEY`, behind those of the queue, and returns the key
-    /// that the reply shows. Where memory runs out, the queue holds what it held.
+    /// Puts the piece of a get of one key behind those of the queue, and returns the key that the
+    /// reply shows. Where memory runs out, the queue holds what it held.
     #[inline(always)]
     #[tactic(auto, unfolding(crate::specs::Pieces::pieces_of))]
-    pub fn queue_get_one(self, queue: &mut PieceQueue, key: &[u8]) -> Result<Key, NoMemory>
+    pub fn queue_get_one(
+        self,
+        queue: &mut PieceQueue,
+        key: &[u8],
+        touch: Option<i64>,
+    ) -> Result<Key, NoMemory>
         requires key { key_fault key.now ≡ None }
         ensures shown { IfOk result (λ shown. shown ≡ key.now) }
         ensures queues { (with_unique : Bool) →
-            Queues self (get_of (key.now ∷ []) with_unique) result
+            Queues self (get_of (key.now ∷ []) touch with_unique) result
             queue.old.items queue.new.items }
     {
         let shown = Key::from_key_word(self.alloc, key)?;
         let key = Key::from_key_word(self.alloc, key)?;
         let shard = key.place(self.shards);
-        self.push(queue, shard, 0, Op::Fetch { key, touch: None })?;
+        self.push(queue, shard, 0, Op::Fetch { key, touch })?;
         Ok(shown)
     }
 
@@ -64,7 +69,8 @@ impl Planner {
     #[tactic(auto, unfolding(crate::specs::Pieces::pieces_of, mc_reply::specs::ReplyKind::reply_kind_of))]
     pub fn pending_reply_of_get_one(self, key: Key, with_unique: bool) -> PendingReply
         ensures { (shards : ℕ) →
-            result ≡ pending_reply_of shards self.ticket (get_of (key ∷ []) with_unique) }
+            (touch : Option ℤ) →
+            result ≡ pending_reply_of shards self.ticket (get_of (key ∷ []) touch with_unique) }
     {
         let reply_kind = ReplyKind::Values {
             keys: Keys::one(self.alloc, key),
@@ -73,19 +79,19 @@ impl Planner {
         self.pending_reply_of_one(reply_kind, Kind::Fetch)
     }
 
-    /// Splits `get KEY ..`, or `gets KEY ..`, by the first key and the text of the others, as
-    /// `split_into` does.
+    /// Splits a get by the first key and the text of the others, as `split_into` does.
     #[tactic(auto, unfolding(crate::specs::Pieces::pieces_of, mc_reply::specs::ReplyKind::reply_kind_of))]
     pub fn split_get(
         self,
         queue: &mut PieceQueue,
         first: &[u8],
         others: &[u8],
+        touch: Option<i64>,
         with_unique: bool,
     ) -> Result<PendingReply, NoMemory>
         requires first { key_fault first.now ≡ None }
         requires others { AreKeys (words_of others.now) }
-        ensures { SplitsInto self (get_of (first.now ∷ words_of others.now) with_unique) result
+        ensures { SplitsInto self (get_of (first.now ∷ words_of others.now) touch with_unique) result
             queue.old.items queue.new.items }
     {
         let keys = Keys::from_key_words(self.alloc, first, others)?;
@@ -93,7 +99,7 @@ impl Planner {
             queue,
             Retrieval {
                 keys,
-                touch: None,
+                touch,
                 with_unique,
             },
         )
@@ -144,47 +150,85 @@ impl Planner {
         self.pending_reply_of_one(reply_kind, Kind::MetaGet)
     }
 
-    /// Splits `ms` with this block in place of its own, as `split_into` does.
-    #[tactic(auto, unfolding(crate::specs::Pieces::pieces_of, mc_reply::specs::ReplyKind::reply_kind_of))]
-    pub fn split_meta_set(
+    /// Splits `mg`, `ms`, `md` or `ma` by its key word and the text of its flags, with this data
+    /// block; a refused one has no piece.
+    pub fn split_meta(
         self,
         queue: &mut PieceQueue,
-        set: MetaSet,
+        rules: &Rules,
+        kind: MetaKind,
+        word: &[u8],
+        flags: &[u8],
         block: &[u8],
     ) -> Result<PendingReply, NoMemory>
         requires { length block.now ≤ MAX_VALUE_LIMIT }
-        ensures { SplitsInto self (with_block (command.MetaSet set) block.now) result
-            queue.old.items queue.new.items }
     {
-        let value = Value::of_slice(self.alloc, block)?;
-        self.meta_store(queue, set.flags, asked_with(set.asked, value))
+        let flags = words(flags);
+        let split = match kind {
+            MetaKind::Get => match read_meta_get(self.alloc, *rules, word, flags) {
+                Ok(get) => return self.split_meta_get(queue, get),
+                Err(refusal) => refusal,
+            },
+            MetaKind::Set => match read_meta_set(self.alloc, *rules, word, flags) {
+                Ok(set) => {
+                    let value = Value::of_slice(self.alloc, block)?;
+                    return self.meta_store(queue, set.flags, asked_with(set.asked, value));
+                }
+                Err(refusal) => refusal,
+            },
+            MetaKind::Delete | MetaKind::Arithmetic => {
+                match read_command(self.alloc, *rules, kind, word, flags) {
+                    Ok(command) => return self.split_into(queue, command),
+                    Err(refusal) => refusal,
+                }
+            }
+        };
+        match split {
+            CommandError::Memory => Err(NoMemory),
+            refusal => Ok(self.pending_reply_of_refusal(refusal)),
+        }
     }
 
-    /// Puts the piece of `set KEY FLAGS E N [noreply]` with its block behind those of the queue.
+    /// Splits a command that is sent seldom, without a data block, as `split_into` does.
+    #[inline(never)]
+    pub fn split_rare(
+        self,
+        queue: &mut PieceQueue,
+        rules: &Rules,
+        request: Request<'_>,
+    ) -> Result<PendingReply, NoMemory>
+    {
+        match request.to_command(self.alloc, *rules) {
+            Ok(command) => self.split_into(queue, command),
+            Err(CommandError::Memory) => Err(NoMemory),
+            Err(refusal) => Ok(self.pending_reply_of_refusal(refusal)),
+        }
+    }
+
+    /// Puts the piece of a classic storage command with its data block behind those of the queue.
     /// Where memory runs out, the queue holds what it held.
     #[inline(always)]
     #[tactic(auto, unfolding(crate::specs::Pieces::pieces_of))]
-    pub fn queue_set(
+    pub fn queue_store(
         self,
         queue: &mut PieceQueue,
+        mode: StoreMode,
         key: &[u8],
+        compare: Option<u64>,
         flags: u32,
         exptime: i64,
         block: &[u8],
     ) -> Result<(), NoMemory>
         requires key { key_fault key.now ≡ None }
         requires small { length block.now ≤ MAX_VALUE_LIMIT }
-        ensures { (noreply : Bool) →
-            Queues self (set_of key.now flags exptime noreply block.now) result
-            queue.old.items queue.new.items }
     {
         let key = Key::from_key_word(self.alloc, key)?;
         let value = Value::of_slice(self.alloc, block)?;
         let shard = key.place(self.shards);
         let op = Op::Store(StoreRequest {
             key,
-            mode: StoreMode::Set,
-            compare: None,
+            mode,
+            compare,
             unique: None,
             flags,
             exptime,
@@ -194,13 +238,10 @@ impl Planner {
         Ok(())
     }
 
-    /// The pending reply of the reply to `set`, which `noreply` hides. It takes no memory.
+    /// The pending reply of the reply to a classic storage command, which `noreply` hides. It takes
+    /// no memory.
     #[inline(always)]
-    #[tactic(auto, unfolding(crate::specs::Pieces::pieces_of, mc_reply::specs::ReplyKind::reply_kind_of))]
-    pub fn pending_reply_of_set(self, noreply: bool) -> PendingReply
-        ensures { (shards : ℕ) (key : List ℕ) (flags : ℕ) (exptime : ℤ) (block : List ℕ) →
-            result ≡ pending_reply_of shards self.ticket (set_of key flags exptime noreply block) }
-    {
-        self.pending_reply_of_one(plain_line(noreply), Kind::Store)
+    pub fn pending_reply_of_store(self, noreply: bool, lenient: bool) -> PendingReply {
+        self.pending_reply_of_one(ReplyKind::Line { noreply, lenient }, Kind::Store)
     }
 }

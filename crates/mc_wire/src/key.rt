@@ -270,6 +270,24 @@ pub fn key_fault(word: &[u8]) -> Option<WireError>
     }
 }
 
+/// Why a word isn't a key in base64: `NoKey`, `KeyTooLong` or `NotBase64`, tested in this order;
+/// `None` if it is one. Allocates nothing.
+pub fn base64_fault(word: &[u8]) -> Option<WireError>
+    ensures { result ≡ base64_fault word.now }
+{
+    if word.is_empty() {
+        return Some(WireError::NoKey);
+    }
+    if word.len() > KEY_LIMIT {
+        return Some(WireError::KeyTooLong);
+    }
+    let mut room = [0; DECODE_ROOM];
+    match decode(word, &mut room) {
+        Some(_) => None,
+        None => Some(WireError::NotBase64),
+    }
+}
+
 /// Whether both slices are equal. Compares eight bytes at a time, as integers.
 fn same_bytes(one: &[u8], other: &[u8]) -> bool
     ensures { result ≡ same_key one.now other.now }

@@ -10,7 +10,7 @@ mod sink;
 mod walk;
 
 pub use error::{SinkError, WireError};
-pub use key::{Key, key_fault};
+pub use key::{Key, base64_fault, key_fault};
 pub use laws::{base64_is_text, limits};
 pub use number::{number_i64, number_u64};
 pub use sink::{Sink, put_parts, write_all};

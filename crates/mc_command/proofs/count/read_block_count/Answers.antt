@@ -1,5 +1,5 @@
 use Rattle.mc_command.proofs.Counts.{not_read, read_below, read_beyond}
-use Rattle.mc_command.proofs.announced.read_block_count.Goals as goal
+use Rattle.mc_command.proofs.count.read_block_count.Goals as goal
 
 pub returns-in-Ok : goal.returns-in-Ok
 returns-in-Ok c =
