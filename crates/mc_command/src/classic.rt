@@ -1,6 +1,7 @@
 //! Classic commands without a data block: retrieval, deletion, arithmetic, touch, flush, verbosity,
 //! statistics and shutdown.
-ghost use Rattle.std.specs.Prelude.{◌≡◌};
+ghost use Rattle.std.specs.Prelude.{◌∷◌};
+ghost use Rattle.mc_command.specs.declared.rules.Rules.{Rules};
 ghost use Rattle.mc_wire.specs.Words.{words_left};
 ghost use Rattle.mc_command.specs.Request.{IsRead};
 ghost use Rattle.mc_command.specs.Classic as spec;
@@ -53,7 +54,8 @@ fn get_words<'a>(
     with_unique: bool,
 ) -> Result<Request<'a>, CommandError>
     ensures { (rules : Rules) →
-        IsRead rules (spec.get_of_keys (first.now ∷ words_left walk) touch with_unique) result }
+        IsRead rules
+            (spec.retrieval_of with_unique touch (first.now ∷ words_left walk.entry)) result }
 {
     let first = key_word(first)?;
     let others = walk.text();

@@ -15,34 +15,18 @@ use mc_wire::{WordWalk, words};
 /// Hides the refusal of a line if memcached does: if its command takes `noreply`, and the line ends
 /// in it.
 #[inline(always)]
-pub(crate) fn hide_fault<'a>(
-    line: ParsedLine<'a>,
-    rules: Rules,
-    name: CommandName,
-    behind: &[u8],
-) -> ParsedLine<'a>
-    ensures { (said : Line) → IsParsed rules said line →
-        IsParsed rules (shown_line (hides_faults rules name (words_of behind.now)) said) result }
+pub(crate) fn hide_fault(line: &mut ParsedLine<'_>, rules: Rules, name: CommandName, behind: &[u8])
+    ensures { (said : Line) → IsParsed rules said line.old →
+        IsParsed rules (shown_line (hides_faults rules name (words_of behind.now)) said) line.new }
 {
     match line {
-        ParsedLine::Whole(request) => ParsedLine::Whole(request),
-        ParsedLine::Data(request, count) => ParsedLine::Data(request, count),
         ParsedLine::Refused(refusal) => {
-            ParsedLine::Refused(shown_fault(rules, name, behind, refusal))
+            *refusal = shown_fault(rules, name, behind, *refusal);
         }
-        ParsedLine::Skip { refusal, count } => ParsedLine::Skip {
-            refusal: shown_fault(rules, name, behind, refusal),
-            count,
-        },
-        ParsedLine::TooLarge {
-            request,
-            refusal,
-            count,
-        } => ParsedLine::TooLarge {
-            request,
-            refusal: shown_fault(rules, name, behind, refusal),
-            count,
-        },
+        ParsedLine::Skip { refusal, .. } | ParsedLine::TooLarge { refusal, .. } => {
+            *refusal = shown_fault(rules, name, behind, *refusal);
+        }
+        ParsedLine::Whole(_) | ParsedLine::Data(..) => {}
     }
 }
 

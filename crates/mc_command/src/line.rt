@@ -7,7 +7,8 @@ ghost use Rattle.mc_command.specs.Table.{line_of, line_if_named, line_named};
 ghost use Rattle.mc_command.specs.Name.{name_of};
 ghost use Rattle.mc_command.specs.declared.command.Command.{Command};
 ghost use Rattle.mc_command.specs.declared.error.CommandError.{CommandError};
-ghost use Rattle.std.specs.Prelude.{Result};
+ghost use Rattle.std.specs.Prelude.{Result, Some};
+ghost use Rattle.mc_command.specs.Classic.{get_words};
 ghost use Rattle.mc_command.specs.Blocks as spec;
 
 use crate::classic::{
@@ -64,12 +65,12 @@ pub fn read_line_with_rules(line: &[u8], rules: Rules) -> ParsedLine<'_>
 {
     let mut walk = words(line);
     match walk.next() {
-        Some(b"get") => whole_line(read_get(rules, false, walk)),
+        Some(b"get") => read_keys(rules, false, walk),
         Some(b"set") => read_named_storage(StoreMode::Set, walk, rules),
         Some(b"mg") => read_without_block(rules, MetaKind::Get, walk),
         Some(b"mn") => ParsedLine::Whole(Request::MetaNoop),
         Some(b"ms") => read_with_block(walk, rules),
-        Some(b"gets") => whole_line(read_get(rules, true, walk)),
+        Some(b"gets") => read_keys(rules, true, walk),
         Some(name) => read_other(name, walk, rules),
         None => ParsedLine::Refused(CommandError::Unknown),
     }
@@ -78,34 +79,44 @@ pub fn read_line_with_rules(line: &[u8], rules: Rules) -> ParsedLine<'_>
 /// Parses the words after this name. Out of line, to keep the common path small.
 #[inline(never)]
 fn read_other<'a>(name: &[u8], walk: WordWalk<'a>, rules: Rules) -> ParsedLine<'a>
-    ensures { IsParsed rules (line_if_named rules (name_of name.now) (words_left walk)) result }
+    ensures { IsParsed rules (line_if_named rules (name_of name.now) (words_left walk.entry)) result }
 {
     let Some(name) = read_name(name) else {
         return ParsedLine::Refused(CommandError::Unknown);
     };
     let behind = walk.text();
-    hide_fault(read_named(name, walk, rules), rules, name, behind)
+    let mut read = read_named(name, walk, rules);
+    hide_fault(&mut read, rules, name, behind);
+    read
+}
+
+/// Parses the words after `get` or `gets`.
+fn read_keys<'a>(rules: Rules, with_unique: bool, walk: WordWalk<'a>) -> ParsedLine<'a>
+    ensures { IsParsed rules
+        (spec.whole_line (get_words rules with_unique (words_left walk.entry))) result }
+{
+    whole_line(read_get(rules, with_unique, walk))
 }
 
 /// Parses the words after the name of a storage command.
-#[inline(always)]
 fn read_named_storage<'a>(mode: StoreMode, walk: WordWalk<'a>, rules: Rules) -> ParsedLine<'a>
     ensures { IsParsed rules
-        (line_if_named rules (Some (CommandName.Store mode)) (words_left walk)) result }
+        (line_if_named rules (Some (CommandName.Store mode)) (words_left walk.entry)) result }
 {
     let behind = walk.text();
-    let read = read_storage(mode, walk, rules);
-    hide_fault(read, rules, CommandName::Store(mode), behind)
+    let mut read = read_storage(mode, walk, rules);
+    hide_fault(&mut read, rules, CommandName::Store(mode), behind);
+    read
 }
 
 /// Parses the words after a command's name.
 fn read_named<'a>(name: CommandName, walk: WordWalk<'a>, rules: Rules) -> ParsedLine<'a>
-    ensures { IsParsed rules (line_named rules name (words_left walk)) result }
+    ensures { IsParsed rules (line_named rules name (words_left walk.entry)) result }
 {
     match name {
         CommandName::Store(mode) => read_storage(mode, walk, rules),
         CommandName::CompareAndSwap => read_cas(walk, rules),
-        CommandName::Get { with_unique } => whole_line(read_get(rules, with_unique, walk)),
+        CommandName::Get { with_unique } => read_keys(rules, with_unique, walk),
         CommandName::GetAndTouch { with_unique } => whole_line(read_gat(rules, with_unique, walk)),
         CommandName::Delete => whole_line(read_delete(rules, walk)),
         CommandName::Count(direction) => whole_line(read_count(rules, direction, walk)),
@@ -124,7 +135,7 @@ fn read_named<'a>(name: CommandName, walk: WordWalk<'a>, rules: Rules) -> Parsed
 /// A line without a block.
 #[inline(always)]
 pub(crate) fn whole_line<'a>(read: Result<Request<'a>, CommandError>) -> ParsedLine<'a>
-    ensures { (rules : Rules) (asked : Result Command CommandError) → IsRead rules asked read →
+    ensures { (rules : Rules) (asked : Result Command CommandError) → IsRead rules asked read.entry →
         IsParsed rules (spec.whole_line asked) result }
 {
     match read {
@@ -141,7 +152,7 @@ pub(crate) fn block_line<'a>(
     count: Option<u32>,
     read: Result<Request<'a>, CommandError>,
 ) -> ParsedLine<'a>
-    ensures { (asked : Result Command CommandError) → IsRead rules asked read →
+    ensures { (asked : Result Command CommandError) → IsRead rules asked read.entry →
         IsParsed rules (spec.block_line rules count asked) result }
 {
     match (count, read) {

@@ -26,7 +26,7 @@ use std::alloc::Global;
 /// Parses a meta command from the words after its name.
 #[tactic(auto, unfolding(crate::specs::Meta::meta_line_of))]
 pub(crate) fn read_meta<'a>(name: MetaKind, walk: WordWalk<'a>, rules: Rules) -> ParsedLine<'a>
-    ensures { IsParsed rules (meta_line_of rules name (words_left walk)) result }
+    ensures { IsParsed rules (meta_line_of rules name (words_left walk.entry)) result }
 {
     match name {
         MetaKind::Set => read_with_block(walk, rules),
@@ -37,7 +37,6 @@ pub(crate) fn read_meta<'a>(name: MetaKind, walk: WordWalk<'a>, rules: Rules) ->
 }
 
 /// Parses the words after `mg`, `md` or `ma`.
-#[inline(always)]
 pub(crate) fn read_without_block<'a>(
     rules: Rules,
     kind: MetaKind,
@@ -56,7 +55,6 @@ pub(crate) fn read_without_block<'a>(
 }
 
 /// Parses the words after `ms`.
-#[inline(always)]
 pub(crate) fn read_with_block<'a>(mut walk: WordWalk<'a>, rules: Rules) -> ParsedLine<'a>
     ensures { IsParsed rules (line_with_block rules (words_left walk.entry)) result }
 {

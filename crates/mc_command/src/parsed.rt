@@ -39,7 +39,7 @@ impl<'a> ParsedLine<'a> {
     /// Number of bytes after the line that belong to it (protocol.txt, "Storage commands"): its data
     /// block with the line end, or what is skipped after a refused line. 0 if there is nothing.
     pub fn bytes_behind(self) -> u64
-        ensures { (rules : Rules) (line : Line) → IsParsed rules line self →
+        ensures { (rules : Rules) (line : Line) → IsParsed rules line self.entry →
             result ≡ bytes_behind line }
     {
         match self {
@@ -51,7 +51,7 @@ impl<'a> ParsedLine<'a> {
 
     /// The line in memory of its own.
     pub fn to_line(self, alloc: Global, rules: Rules) -> Line
-        ensures { (line : Line) → IsParsed rules line self → Says line result }
+        ensures { (line : Line) → IsParsed rules line self.entry → Says line result }
     {
         match self {
             ParsedLine::Whole(request) => match request.to_command(alloc, rules) {

@@ -91,8 +91,8 @@ impl<'a> Request<'a> {
     /// flags or the key of a meta command, and `Memory`.
     #[inline(never)]
     pub fn to_command(self, alloc: Global, rules: Rules) -> Result<Command, CommandError>
-        requires { IsRequest self }
-        ensures { Reads (spelled rules self) result }
+        requires { IsRequest self.entry }
+        ensures { Reads (spelled rules self.entry) result }
     {
         match self {
             Request::Meta { kind, word, flags } => {
@@ -104,8 +104,8 @@ impl<'a> Request<'a> {
 
     /// The classic command in memory of its own, with a placeholder as its block.
     fn classic_command(self, alloc: Global, rules: Rules) -> Result<Command, AllocError>
-        requires { IsRequest self }
-        ensures { IfOk result (λ command. spelled rules self ≡ Ok command) }
+        requires { IsRequest self.entry }
+        ensures { IfOk result (λ command. spelled rules self.entry ≡ Ok command) }
     {
         let command = match self {
             Request::Store {

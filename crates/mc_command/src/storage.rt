@@ -18,7 +18,6 @@ use crate::rules::Rules;
 use mc_wire::WordWalk;
 
 /// Parses `set`, `add`, `replace`, `append` and `prepend`: `KEY FLAGS EXPTIME LEN [noreply]`.
-#[inline(always)]
 pub(crate) fn read_storage<'a>(
     mode: StoreMode,
     mut walk: WordWalk<'a>,

@@ -147,15 +147,26 @@ impl CommandSink for Dispatcher {
 
     ghost takes = { TakesIn };
 
-    #[inline(always)]
-    fn take(&mut self, rules: &Rules, request: Request<'_>, block: &[u8]) {
+    fn take(&mut self, rules: &Rules, request: Request<'_>) {
         match request {
+            Request::MetaNoop => {
+                self.log = self.log.and(&self.planner.moment);
+                let pending_reply = self.planner.split_no_op();
+                self.open(pending_reply);
+            }
             Request::Get {
                 first,
                 others,
                 touch,
                 with_unique,
             } => self.take_get(first, others, touch, with_unique),
+            Request::Meta { kind, word, flags } => self.take_meta(rules, kind, word, flags),
+            rare => self.take_rare(rules, rare),
+        }
+    }
+
+    fn store(&mut self, rules: &Rules, request: Request<'_>, block: &[u8]) {
+        match request {
             Request::Store {
                 mode,
                 key,
@@ -182,12 +193,7 @@ impl CommandSink for Dispatcher {
                 }
             }
             Request::Meta { kind, word, flags } => {
-                self.take_meta(rules, kind, word, flags, block);
-            }
-            Request::MetaNoop => {
-                self.log = self.log.and(&self.planner.moment);
-                let pending_reply = self.planner.split_no_op();
-                self.open(pending_reply);
+                self.take_flags(rules, kind, word, flags, block);
             }
             rare => self.take_rare(rules, rare),
         }
@@ -227,21 +233,14 @@ impl Dispatcher {
         self.open_split(split, &(first, others, with_unique));
     }
 
-    /// `mg`, `ms`, `md` or `ma`.
+    /// `mg`, `md` or `ma`.
     #[inline(always)]
-    fn take_meta(
-        &mut self,
-        rules: &Rules,
-        kind: MetaKind,
-        word: &[u8],
-        flags: &[u8],
-        block: &[u8],
-    ) {
+    fn take_meta(&mut self, rules: &Rules, kind: MetaKind, word: &[u8], flags: &[u8]) {
         if matches!(kind, MetaKind::Get) && is_value_flag(flags) && key_fault(word).is_none() {
             self.take_meta_value(rules.profile, word);
             return;
         }
-        self.take_flags(rules, kind, word, flags, block);
+        self.take_flags(rules, kind, word, flags, &[]);
     }
 
     /// `mg KEY v`.

@@ -2,9 +2,10 @@
 //! line is refused without it. `rt try --test --fail-alloc N` refuses the Nth allocation of each
 //! test; `a_line_without_memory_is_given_up` passes for every N.
 use crate::asserting::{equal, holds};
+use crate::owned_line::{Line, copied_line};
 use mc_command::{
-    Block, Command, CommandError, Direction, Keys, Line, StoreMode, Vivify, announced_bytes,
-    data_can_be_given_up, flags_in_any_order, read_line, table_is_never_out_of_memory,
+    Block, Command, CommandError, Direction, Keys, StoreMode, Vivify, data_can_be_given_up,
+    flags_in_any_order, read_line, table_is_never_out_of_memory,
 };
 use mc_wire::{DEFAULT_VALUE_LIMIT, Key, WireError, words};
 use std::alloc::{AllocError, Global};
@@ -25,8 +26,13 @@ impl Drop for ReadLine {
 /// Parses the line.
 pub fn read(alloc: Global, line: &[u8]) -> ReadLine {
     ReadLine {
-        line: read_line(alloc, line, DEFAULT_VALUE_LIMIT),
+        line: copied_line(alloc, line, DEFAULT_VALUE_LIMIT),
     }
+}
+
+/// Number of bytes that belong to the line behind it.
+fn announced(line: &[u8]) -> u64 {
+    read_line(line, DEFAULT_VALUE_LIMIT).bytes_behind()
 }
 
 /// Whether it is the key `a`.
@@ -67,7 +73,7 @@ fn stores(
     compare: Option<u64>,
 ) -> Result<bool, AllocError> {
     let block = Block::new(Vec::from_slice(alloc, b"xyz")?);
-    let read = with_block(read_line(alloc, line, DEFAULT_VALUE_LIMIT), block);
+    let read = with_block(copied_line(alloc, line, DEFAULT_VALUE_LIMIT), block);
     Ok(is_storage(&read.line, mode, compare))
 }
 
@@ -83,7 +89,7 @@ static STORAGE_LINES: [(&[u8], StoreMode, Option<u64>); 6] = [
 #[test]
 fn a_storage_line_takes_its_block(rt: HostRuntime) -> Result<(), Fail> {
     for (line, mode, compare) in &STORAGE_LINES {
-        equal(&rt, announced_bytes(*line), 5);
+        equal(&rt, announced(*line), 5);
         let stored = stores(rt.alloc(), *line, *mode, *compare)?;
         equal(&rt, (*mode, stored), (*mode, true));
     }
@@ -334,7 +340,7 @@ fn a_line_without_memory_is_given_up(rt: HostRuntime) {
     for (line, behind, fault) in &LINES {
         equal(
             &rt,
-            (line, announced_bytes(line.as_bytes())),
+            (line, announced(line.as_bytes())),
             (line, *behind),
         );
         let (refusal, skipped) = refused(rt.alloc(), line.as_bytes());

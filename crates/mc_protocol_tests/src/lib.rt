@@ -11,6 +11,8 @@ mod item;
 #[cfg(test)]
 mod meta_lines;
 #[cfg(test)]
+mod owned_line;
+#[cfg(test)]
 mod reader;
 #[cfg(test)]
 mod secret;

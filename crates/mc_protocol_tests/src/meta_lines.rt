@@ -2,8 +2,9 @@
 //! is skipped.
 use crate::asserting::{equal, holds};
 use crate::command::{is_a, read, refused};
+use crate::owned_line::Line;
 use mc_command::{
-    Command, CommandError, Direction, Line, MetaArithmetic, Opaque, ReturnFlag, Returned, StoreMode,
+    Command, CommandError, Direction, MetaArithmetic, Opaque, ReturnFlag, Returned, StoreMode,
 };
 use std::process::Abort;
 

@@ -18,7 +18,11 @@ impl CommandSink for Keeper {
 
     ghost takes = { λ _ entry after. (one : Given) × (one.entry ≡ entry) × ((shown : _) × (after.command ≡ Some shown) × IsGiven shown one) };
 
-    fn take(&mut self, rules: &Rules, request: Request<'_>, block: &[u8]) {
+    fn take(&mut self, rules: &Rules, request: Request<'_>) {
+        self.store(rules, request, &[]);
+    }
+
+    fn store(&mut self, rules: &Rules, request: Request<'_>, block: &[u8]) {
         let kept = match request.to_command(self.alloc, *rules) {
             Ok(command) => match Vec::from_slice(self.alloc, block) {
                 Ok(bytes) => command.with_block(Block::new(bytes)),

@@ -12,13 +12,14 @@ use crate::block::{OpenBlock, Skipped, chunk_refusal, is_block_end};
 use crate::sink::CommandSink;
 use crate::state::{State, without_return};
 use mc_command::{Command, CommandError, ParsedLine, Request, Rules, read_line_with_rules};
-use mc_wire::MAX_VALUE_LIMIT;
+use mc_wire::{Key, MAX_VALUE_LIMIT};
 use std::alloc::Global;
 
 /// Parses the first line, which has `long` of these bytes. If it and its block are complete, passes
 /// its command or refusal to the receiver, and returns the number of bytes of its text; the state is
 /// `Closed` if the command closes the stream. Otherwise enters the state of what is awaited after
-/// the line.
+/// the line. States and commands are large: they are made out of line, so that common lines don't
+/// pay for their space on the stack.
 #[inline(always)]
 pub(crate) fn give_line<C: CommandSink>(
     alloc: Global,
@@ -33,38 +34,33 @@ pub(crate) fn give_line<C: CommandSink>(
     requires can { C.can_take sink.old }
 {
     let (line, rest) = bytes.split_at(long);
-    let (_, behind) = rest.split_at(1);
     match read_line_with_rules(without_return(line), *rules) {
         ParsedLine::Whole(request) => {
-            if request.closes() {
-                *state = State::Closed;
+            let closes = request.closes();
+            sink.take(rules, request);
+            if closes {
+                state.close();
             }
-            sink.take(rules, request, &[]);
             Some(long + 1)
         }
         ParsedLine::Data(request, count) => {
             let count = count as usize;
-            match front_block(behind, count) {
+            let (_, behind) = rest.split_at(1);
+            let used = match front_block(behind, count) {
                 Some(block) => {
-                    sink.take(rules, request, block);
-                    Some(long + count + 3)
+                    sink.store(rules, request, block);
+                    count + 2
                 }
-                None => {
-                    let used = await_block(alloc, state, behind, rules, request, count, sink)?;
-                    Some(long + 1 + used)
-                }
-            }
+                None => await_block(alloc, state, behind, rules, request, count, sink)?,
+            };
+            Some(long + 1 + used)
         }
         ParsedLine::Refused(refusal) => {
-            sink.take_owned(Command::Refused(refusal));
+            give_refusal(refusal, sink);
             Some(long + 1)
         }
         ParsedLine::Skip { refusal, count } => {
-            *state = State::Skip(Skipped {
-                discarded: None,
-                refusal,
-                left: count,
-            });
+            skip(state, None, refusal, count);
             None
         }
         ParsedLine::TooLarge {
@@ -72,28 +68,49 @@ pub(crate) fn give_line<C: CommandSink>(
             refusal,
             count,
         } => {
-            *state = too_large(alloc, rules, request, refusal, count);
+            skip_value(alloc, state, rules, request, refusal, count);
             None
         }
     }
 }
 
-/// Enters the state of a value that is too large. It is skipped.
+/// Passes a refusal to the receiver.
 #[cold]
 #[inline(never)]
-fn too_large(
+fn give_refusal<C: CommandSink>(refusal: CommandError, sink: &mut C)
+    requires can { C.can_take sink.old }
+    ensures { C.takes sink.old (Command.Refused refusal) sink.new }
+{
+    sink.take_owned(Command::Refused(refusal));
+}
+
+/// Enters the state that skips the bytes after a line.
+#[cold]
+#[inline(never)]
+fn skip(state: &mut State, discarded: Option<Key>, refusal: CommandError, left: u64)
+    ensures { state.new ≡ State.Skip
+        (record { discarded = discarded; refusal = refusal; left = left }) }
+{
+    *state = State::Skip(Skipped {
+        discarded,
+        refusal,
+        left,
+    });
+}
+
+/// Enters the state that skips a value that is too large.
+#[cold]
+#[inline(never)]
+fn skip_value(
     alloc: Global,
+    state: &mut State,
     rules: &Rules,
     request: Request<'_>,
     refusal: CommandError,
     left: u64,
-) -> State {
+) {
     let (discarded, refusal) = request.discarded(alloc, *rules, refusal);
-    State::Skip(Skipped {
-        discarded,
-        refusal,
-        left,
-    })
+    skip(state, discarded, refusal, left);
 }
 
 /// Refuses a command whose block of `count` bytes has a wrong end, and returns their number with the
@@ -124,14 +141,10 @@ fn await_block<C: CommandSink>(
         Err(refusal) => refusal,
     };
     if whole {
-        sink.take_owned(Command::Refused(refusal));
+        give_refusal(refusal, sink);
         return Some(count + 2);
     }
-    *state = State::Skip(Skipped {
-        discarded: None,
-        refusal,
-        left: count as u64 + 2,
-    });
+    skip(state, None, refusal, count as u64 + 2);
     None
 }
 

@@ -1,5 +1,5 @@
 //! The receiver of parsed commands.
-ghost use Rattle.std.specs.Prelude.{◌≡◌, ◌≤◌, length};
+ghost use Rattle.std.specs.Prelude.{◌≤◌, [], length};
 ghost use Rattle.mc_wire.specs.declared.TheConstants.{MAX_VALUE_LIMIT};
 ghost use Rattle.mc_command.specs.Request.{IsRequest, command_of};
 
@@ -16,13 +16,19 @@ pub trait CommandSink {
     /// Relates the receiver before, the command received, and the receiver after.
     ghost takes: { Self → Command → Self → Type 0 };
 
-    /// The command that a request spells by these rules, with its data block, or its refusal. Line
-    /// and block are borrowed from the stream, and copied by the receiver alone.
-    fn take(&mut self, rules: &Rules, request: Request<'_>, block: &[u8])
+    /// The command that a request spells by these rules, or its refusal. Its words are borrowed
+    /// from the line, and copied by the receiver alone.
+    fn take(&mut self, rules: &Rules, request: Request<'_>)
         requires can { can_take self.old }
-        requires request { IsRequest request }
+        requires request { IsRequest request.entry }
+        ensures { takes self.old (command_of rules.now request.entry []) self.new };
+
+    /// The same of a storage command, with its data block.
+    fn store(&mut self, rules: &Rules, request: Request<'_>, block: &[u8])
+        requires can { can_take self.old }
+        requires request { IsRequest request.entry }
         requires small { length block.now ≤ MAX_VALUE_LIMIT }
-        ensures { takes self.old (command_of rules.now request block.now) self.new };
+        ensures { takes self.old (command_of rules.now request.entry block.now) self.new };
 
     /// A command in memory of its own: one whose block came in pieces, or a line that is refused.
     fn take_owned(&mut self, command: Command)
