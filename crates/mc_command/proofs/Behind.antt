@@ -1,7 +1,7 @@
 -- The bytes behind a line, by the count that its words announce.
 use Rattle.std.proofs.Common.{◌≡◌, ℕ, Bool, List, Option, Some, None, refl, ap, ◌∙◌}
-use Rattle.mc_command.specs.declared.line.Line.{Line}
-use Rattle.mc_command.specs.declared.line.Line.TheVariants.{Whole, Data, Refused, Skip}
+use Rattle.mc_command.specs.Line.{Line}
+use Rattle.mc_command.specs.Line.Line.{Whole, Data, Refused, Skip}
 use Rattle.mc_command.specs.declared.meta.MetaKind.TheVariants as meta
 use Rattle.mc_command.specs.declared.name.CommandName.{CommandName}
 use Rattle.mc_command.specs.declared.name.CommandName.TheVariants as name

@@ -9,8 +9,8 @@ use Rattle.mc_command.specs.declared.name.CommandName.{CommandName}
 use Rattle.mc_command.specs.declared.name.CommandName.TheVariants as name
 use Rattle.mc_command.specs.declared.error.CommandError.{CommandError}
 use Rattle.mc_command.specs.declared.error.CommandError.TheVariants.{BadFormat, TooLarge}
-use Rattle.mc_command.specs.declared.line.Line.{Line}
-use Rattle.mc_command.specs.declared.line.Line.TheVariants.{Whole, Data, Refused, Skip}
+use Rattle.mc_command.specs.Line.{Line}
+use Rattle.mc_command.specs.Line.Line.{Whole, Data, Refused, Skip}
 use Rattle.mc_command.specs.Command.{can_give_up}
 use Rattle.mc_command.specs.Line.{bytes_behind, is_given_up}
 use Rattle.mc_command.specs.Blocks.{block_count, block_line, bytes_with, discarded_by, whole_line, MayBeGivenUp}

@@ -15,8 +15,8 @@ use Rattle.mc_command.specs.declared.name.CommandName.TheVariants as name
 use Rattle.mc_command.specs.declared.error.CommandError.{CommandError}
 use Rattle.mc_command.specs.declared.error.CommandError.TheVariants.{BadKey, ShutdownDisabled, ShutdownMode, TooLarge}
 use Rattle.mc_command.specs.declared.error.CommandError.TheVariants.{Unknown}
-use Rattle.mc_command.specs.declared.line.Line.{Line}
-use Rattle.mc_command.specs.declared.line.Line.TheVariants.{Whole, Data, Refused, Skip}
+use Rattle.mc_command.specs.Line.{Line}
+use Rattle.mc_command.specs.Line.Line.{Whole, Data, Refused, Skip}
 use Rattle.mc_command.specs.Field.{exptime_of, is_key, is_noreply, then_of}
 use Rattle.mc_command.specs.Blocks.{discarded_by, block_count, block_line, whole_line}
 use Rattle.mc_command.specs.Hiding.{hides_faults, shown_line}

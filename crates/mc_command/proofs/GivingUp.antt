@@ -4,7 +4,7 @@ use Rattle.std.proofs.lemmas.Bool.{cond_both}
 use Rattle.mc_command.specs.declared.command.Command.{Command}
 use Rattle.mc_command.specs.declared.error.CommandError.{CommandError}
 use Rattle.mc_command.specs.declared.error.CommandError.TheVariants.{TooLarge, Memory}
-use Rattle.mc_command.specs.declared.line.Line.TheVariants.{Data, Refused, Skip}
+use Rattle.mc_command.specs.Line.Line.{Data, Refused, Skip}
 use Rattle.mc_command.specs.Command.{is_memory}
 use Rattle.mc_command.specs.Line.{Says, CanGiveUpLine, CanGiveUpBlock}
 use Rattle.mc_command.specs.Field.{Reads}

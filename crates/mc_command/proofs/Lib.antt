@@ -13,6 +13,7 @@ pub mod MetaLaws
 pub mod MetaLookups
 pub mod MetaWalks
 pub mod Permuted
+pub mod Requests
 pub mod RowsBoth
 pub mod RowsClassic
 pub mod RowsFlagOrder

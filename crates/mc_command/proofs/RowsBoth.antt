@@ -18,8 +18,8 @@ use Rattle.mc_command.specs.declared.error.CommandError.TheVariants.{InvalidFlag
 use Rattle.mc_command.specs.declared.error.CommandError.TheVariants.{TooLarge, WordCount}
 use Rattle.mc_command.specs.declared.rules.Profile.{Profile}
 use Rattle.mc_command.specs.declared.rules.Profile.TheVariants.{Own, DropIn}
-use Rattle.mc_command.specs.declared.line.Line.{Line}
-use Rattle.mc_command.specs.declared.line.Line.TheVariants.{Whole, Data, Refused, Skip}
+use Rattle.mc_command.specs.Line.{Line}
+use Rattle.mc_command.specs.Line.Line.{Whole, Data, Refused, Skip}
 use Rattle.mc_command.specs.Classic.{keys_of}
 use Rattle.mc_command.specs.Field.{is_key, word_count_refusal}
 use Rattle.mc_command.specs.Meta.{meta_line_of}

@@ -11,8 +11,8 @@ use Rattle.mc_command.specs.declared.command.StoreMode.{StoreMode}
 use Rattle.mc_command.specs.declared.command.StoreMode.TheVariants.{Set, Add, Replace, Append, Prepend}
 use Rattle.mc_command.specs.declared.command.Direction.TheVariants.{Increment, Decrement}
 use Rattle.mc_command.specs.declared.error.CommandError.TheVariants.{Unknown, BadFormat, BadKey, InvalidFlag, TooLarge}
-use Rattle.mc_command.specs.declared.line.Line.{Line}
-use Rattle.mc_command.specs.declared.line.Line.TheVariants.{Whole, Data, Refused, Skip}
+use Rattle.mc_command.specs.Line.{Line}
+use Rattle.mc_command.specs.Line.Line.{Whole, Data, Refused, Skip}
 use Rattle.mc_command.specs.Field.{is_key}
 use Rattle.mc_command.specs.Classic.{keys_of}
 use Rattle.mc_command.specs.Meta.{meta_line_of}

@@ -4,8 +4,8 @@ use Rattle.mc_wire.specs.Number.{number_of}
 use Rattle.mc_wire.specs.Words.{words_of}
 use Rattle.mc_wire.specs.declared.TheConstants.{DEFAULT_VALUE_LIMIT}
 use Rattle.mc_command.specs.declared.command.Command.TheVariants.{MetaGet}
-use Rattle.mc_command.specs.declared.line.Line.{Line}
-use Rattle.mc_command.specs.declared.line.Line.TheVariants.{Whole, Refused, Skip}
+use Rattle.mc_command.specs.Line.{Line}
+use Rattle.mc_command.specs.Line.Line.{Whole, Refused, Skip}
 use Rattle.mc_command.specs.declared.meta.ReturnFlag.{ReturnFlag}
 use Rattle.mc_command.specs.declared.meta.ReturnFlag.TheVariants.{Key, Opaque, TimeLeft}
 use Rattle.mc_command.specs.declared.meta.MetaKind.TheVariants.{Get, Set}

@@ -9,8 +9,8 @@ use Rattle.mc_wire.specs.declared.TheConstants.{DEFAULT_VALUE_LIMIT, MAX_VALUE_L
 use Rattle.mc_command.specs.declared.command.Command.TheVariants.{MetaNoop, MetaGet, MetaSet, MetaDelete}
 use Rattle.mc_command.specs.declared.command.Command.TheVariants.{MetaArithmetic}
 use Rattle.mc_command.specs.declared.command.Direction.TheVariants.{Increment, Decrement}
-use Rattle.mc_command.specs.declared.line.Line.{Line}
-use Rattle.mc_command.specs.declared.line.Line.TheVariants.{Whole, Data, Refused, Skip}
+use Rattle.mc_command.specs.Line.{Line}
+use Rattle.mc_command.specs.Line.Line.{Whole, Data, Refused, Skip}
 use Rattle.mc_command.specs.declared.meta.MetaFlags.{MetaFlags}
 use Rattle.mc_command.specs.declared.command.StoreMode.TheVariants as mode
 use Rattle.mc_command.specs.declared.meta.ReturnFlag.TheVariants.{Unique, ClientFlags, Fetched, Key, LastAccess, Opaque}

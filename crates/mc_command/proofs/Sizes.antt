@@ -1,7 +1,7 @@
 -- A data block is no longer than a value may be.
 use Rattle.std.proofs.Common.{◌≡◌, ℕ, ◌≤◌, List}
 use Rattle.mc_command.specs.declared.command.Command.{Command}
-use Rattle.mc_command.specs.declared.line.Line.TheVariants.{Data}
+use Rattle.mc_command.specs.Line.Line.{Data}
 use Rattle.mc_command.specs.Table.{line_of}
 use Rattle.mc_command.proofs.Blocks.{data_lawful}
 use Rattle.mc_command.specs.declared.rules.Rules.{Rules}

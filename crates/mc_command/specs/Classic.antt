@@ -19,7 +19,7 @@ use Rattle.mc_command.specs.declared.command.StatsRequest.TheVariants.{General, 
 use Rattle.mc_command.specs.declared.error.CommandError.{CommandError}
 use Rattle.mc_command.specs.declared.error.CommandError.TheVariants.{BadFormat, BadKey, ShutdownDisabled, ShutdownMode}
 use Rattle.mc_command.specs.declared.error.CommandError.TheVariants.{Unknown}
-use Rattle.mc_command.specs.declared.line.Line.{Line}
+use Rattle.mc_command.specs.Line.{Line}
 use Rattle.mc_command.specs.declared.rules.Rules.{Rules}
 use Rattle.mc_command.specs.Field.{exptime_of, is_key, is_noreply, key_of, last_word_of, noreply_of, then_of}
 use Rattle.mc_command.specs.Field.{unsigned_of, word_count_refusal}

@@ -3,8 +3,8 @@ use Rattle.std.specs.Prelude.{ℕ, ◌≡◌, List, [], ◌∷◌, ◌++◌, cod
 use Rattle.std.specs.List.Sorted.{IsPermutation}
 use Rattle.mc_command.specs.declared.command.Command.{Command}
 use Rattle.mc_command.specs.declared.command.Command.TheVariants as command
-use Rattle.mc_command.specs.declared.line.Line.{Line}
-use Rattle.mc_command.specs.declared.line.Line.TheVariants.{Whole, Data, Refused, Skip}
+use Rattle.mc_command.specs.Line.{Line}
+use Rattle.mc_command.specs.Line.Line.{Whole, Data, Refused, Skip}
 use Rattle.mc_command.specs.declared.meta.MetaFlags.{MetaFlags}
 use Rattle.mc_command.specs.declared.meta.ReturnFlag.{ReturnFlag}
 use Rattle.mc_command.specs.declared.meta.MetaKind.{MetaKind}

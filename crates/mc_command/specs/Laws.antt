@@ -1,7 +1,7 @@
 -- Laws of the command table.
 use Rattle.std.specs.Prelude.{ℕ, ◌≡◌, false, List, IsTrue}
 use Rattle.mc_command.specs.declared.command.Command.{Command}
-use Rattle.mc_command.specs.declared.line.Line.TheVariants.{Data}
+use Rattle.mc_command.specs.Line.Line.{Data}
 use Rattle.mc_command.specs.declared.rules.Rules.{Rules}
 use Rattle.mc_command.specs.Command.{can_give_up}
 use Rattle.mc_command.specs.Line.{is_given_up}

@@ -1,8 +1,20 @@
 -- The result of parsing a line: that of the command table, or the refusal "out of memory".
-use Rattle.std.specs.Prelude.{ℕ, ◌≡◌, ◌+◌, Bool, IsTrue, MatchBool, None}
-use Rattle.mc_command.specs.declared.line.Line.{Line}
-use Rattle.mc_command.specs.declared.line.Line.TheVariants.{Whole, Data, Refused, Skip}
+use Rattle.std.specs.Prelude.{ℕ, ◌≡◌, ◌+◌, Bool, IsTrue, List, MatchBool, None, Option}
+use Rattle.mc_command.specs.declared.command.Command.{Command}
+use Rattle.mc_command.specs.declared.error.CommandError.{CommandError}
 use Rattle.mc_command.specs.Command.{can_give_up, is_memory, is_memory_refusal, refusal_takes_memory}
+
+-- what the command table says of a line
+pub data Line : Type 0 where
+  -- a command without a data block
+  Whole : (asked : Command) → Line
+  -- a storage command with a placeholder as its block, and the block's length
+  Data : (asked : Command) (count : ℕ) → Line
+  -- a refused line; nothing after it is skipped
+  Refused : (refusal : CommandError) → Line
+  -- a refused line, and the number of bytes to skip behind it: its block and line end. If there is a key, its item is
+  -- deleted: by memcached's rules a value that is too large leaves no old one behind.
+  Skip : (discarded : Option (List ℕ)) (refusal : CommandError) (count : ℕ) → Line
 
 -- A line without a block may be refused for want of memory.
 abbrev pub CanGiveUpLine : Line → Type 0

@@ -15,8 +15,8 @@ use Rattle.mc_command.specs.declared.command.Command.{Command}
 use Rattle.mc_command.specs.declared.command.Command.TheVariants as command
 use Rattle.mc_command.specs.declared.command.Direction.{Direction}
 use Rattle.mc_command.specs.declared.command.Direction.TheVariants.{Increment, Decrement}
-use Rattle.mc_command.specs.declared.line.Line.{Line}
-use Rattle.mc_command.specs.declared.line.Line.TheVariants.{Refused}
+use Rattle.mc_command.specs.Line.{Line}
+use Rattle.mc_command.specs.Line.Line.{Refused}
 use Rattle.mc_command.specs.declared.meta.MetaArithmetic.{MetaArithmetic}
 use Rattle.mc_command.specs.declared.meta.MetaDelete.{MetaDelete}
 use Rattle.mc_command.specs.declared.meta.MetaFlags.{MetaFlags}

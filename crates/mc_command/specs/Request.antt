@@ -5,8 +5,8 @@ use Rattle.mc_wire.specs.Words.{words_of}
 use Rattle.mc_command.specs.declared.command.Command.{Command}
 use Rattle.mc_command.specs.declared.command.Command.TheVariants as command
 use Rattle.mc_command.specs.declared.error.CommandError.{CommandError}
-use Rattle.mc_command.specs.declared.line.Line.{Line}
-use Rattle.mc_command.specs.declared.line.Line.TheVariants.{Refused, Skip}
+use Rattle.mc_command.specs.Line.{Line}
+use Rattle.mc_command.specs.Line.Line.{Refused, Skip}
 use Rattle.mc_command.specs.declared.parsed.ParsedLine.{ParsedLine}
 use Rattle.mc_command.specs.declared.parsed.ParsedLine.TheVariants as parsed
 use Rattle.mc_command.specs.declared.request.Request.{Request}

@@ -3,7 +3,7 @@ ghost use Rattle.std.specs.Prelude.{◌≡◌};
 ghost use Rattle.mc_wire.specs.Words.{words_left, words_of};
 ghost use Rattle.mc_command.specs.Field.{is_noreply};
 ghost use Rattle.mc_command.specs.Request.{IsParsed};
-ghost use Rattle.mc_command.specs.declared.line.Line.{Line};
+ghost use Rattle.mc_command.specs.Line.{Line};
 ghost use Rattle.mc_command.specs.Hiding.{ends_in_noreply, hides_faults, shown_line, shown_refusal, takes_noreply};
 
 use crate::error::CommandError;

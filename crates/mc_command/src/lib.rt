@@ -26,7 +26,7 @@ pub use command::{Command, Direction, Retrieval, StatsRequest, Storage, StoreMod
 pub use error::CommandError;
 pub use keys::Keys;
 pub use laws::{data_can_be_given_up, flags_in_any_order, table_is_never_out_of_memory};
-pub use line::{Line, read_line, read_line_with_rules};
+pub use line::{read_line, read_line_with_rules};
 pub use meta::{
     MetaArithmetic, MetaCount, MetaDelete, MetaFetch, MetaFlags, MetaGet, MetaKind, MetaRemoval,
     MetaSet, Opaque, RETURN_FLAGS, ReturnFlag, Returned, Vivify,

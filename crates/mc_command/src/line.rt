@@ -1,6 +1,5 @@
 //! Parsing of a line.
 ghost use Rattle.mc_wire.specs.Words.{words_of, words_left};
-ghost use Rattle.mc_command.specs.Line.{Says};
 ghost use Rattle.mc_command.specs.Request.{IsParsed, IsRead};
 ghost use Rattle.mc_command.specs.Rules.{own};
 ghost use Rattle.mc_command.specs.Table.{line_of, line_if_named, line_named};
@@ -15,7 +14,7 @@ use crate::classic::{
     read_count, read_delete, read_flush_all, read_gat, read_get, read_shutdown, read_stats,
     read_touch, read_verbosity,
 };
-use crate::command::{Command, StoreMode};
+use crate::command::StoreMode;
 use crate::error::CommandError;
 use crate::hiding::hide_fault;
 use crate::meta::MetaKind;
@@ -25,35 +24,13 @@ use crate::parsed::ParsedLine;
 use crate::request::Request;
 use crate::rules::Rules;
 use crate::storage::{read_cas, read_storage};
-use mc_wire::{Key, WordWalk, words};
-use std::alloc::Global;
+use mc_wire::{WordWalk, words};
 
-/// A parsed line, in memory of its own.
-#[derive(Drop)]
-pub enum Line {
-    /// A command without a data block.
-    Whole(Command),
-    /// A storage command with a placeholder as its block, and the block's length.
-    Data(Command, u32),
-    /// A refused line; nothing after it is skipped.
-    Refused(CommandError),
-    /// A refused line, and the number of bytes to skip behind it: its block and line end. If there
-    /// is a key, its item is deleted: by memcached's rules a value that is too large leaves no old
-    /// one behind.
-    Skip {
-        discarded: Option<Key>,
-        refusal: CommandError,
-        count: u64,
-    },
-}
-
-/// Parses a line without its line end, under the native rules, for values of at most `limit` bytes,
-/// into memory of its own.
-pub fn read_line(alloc: Global, line: &[u8], limit: usize) -> Line
-    ensures { Says (line_of (own limit) (words_of line.now)) result }
+/// Parses a line without its line end, under the native rules, for values of at most `limit` bytes.
+pub fn read_line(line: &[u8], limit: usize) -> ParsedLine<'_>
+    ensures { IsParsed (own limit) (line_of (own limit) (words_of line.now)) result }
 {
-    let rules = Rules::own(limit);
-    read_line_with_rules(line, rules).to_line(alloc, rules)
+    read_line_with_rules(line, Rules::own(limit))
 }
 
 /// Parses a line without its line end, under these rules. The names that are sent most come first.

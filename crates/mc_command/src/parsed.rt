@@ -1,21 +1,19 @@
 //! Parsed lines over their words.
 ghost use Rattle.std.specs.Prelude.{◌≡◌};
-ghost use Rattle.mc_command.specs.Line.{Says, bytes_behind};
+ghost use Rattle.mc_command.specs.Line.{bytes_behind};
 ghost use Rattle.mc_command.specs.Request.{IsParsed};
 ghost use Rattle.mc_command.specs.Blocks as blocks;
-ghost use Rattle.mc_command.specs.declared.line.Line.{Line};
+ghost use Rattle.mc_command.specs.Line.{Line};
 ghost use Rattle.mc_command.specs.declared.rules.Rules.{Rules};
 
 use crate::command::{Command, Storage, StoreMode, StoreRequest};
 use crate::error::CommandError;
-use crate::line::Line;
 use crate::request::Request;
 use crate::rules::Rules;
 use mc_wire::Key;
 use std::alloc::Global;
 
-/// A parsed line, whose words are borrowed from it. `Line` has the same commands in memory of their
-/// own.
+/// A parsed line, whose words are borrowed from it.
 #[derive(Clone, Copy)]
 pub enum ParsedLine<'a> {
     /// A command without a data block.
@@ -38,6 +36,7 @@ pub enum ParsedLine<'a> {
 impl<'a> ParsedLine<'a> {
     /// Number of bytes after the line that belong to it (protocol.txt, "Storage commands"): its data
     /// block with the line end, or what is skipped after a refused line. 0 if there is nothing.
+    #[tactic(auto, using(crate::proofs::Requests::behind_block, crate::proofs::Requests::behind_skipped, crate::proofs::Requests::behind_whole))]
     pub fn bytes_behind(self) -> u64
         ensures { (rules : Rules) (line : Line) → IsParsed rules line self.entry →
             result ≡ bytes_behind line }
@@ -46,44 +45,6 @@ impl<'a> ParsedLine<'a> {
             ParsedLine::Whole(_) | ParsedLine::Refused(_) => 0,
             ParsedLine::Data(_, count) => u64::from(count) + 2,
             ParsedLine::Skip { count, .. } | ParsedLine::TooLarge { count, .. } => count,
-        }
-    }
-
-    /// The line in memory of its own.
-    pub fn to_line(self, alloc: Global, rules: Rules) -> Line
-        ensures { (line : Line) → IsParsed rules line self.entry → Says line result }
-    {
-        match self {
-            ParsedLine::Whole(request) => match request.to_command(alloc, rules) {
-                Ok(command) => Line::Whole(command),
-                Err(refusal) => Line::Refused(refusal),
-            },
-            ParsedLine::Data(request, count) => match request.to_command(alloc, rules) {
-                Ok(command) => Line::Data(command, count),
-                Err(refusal) => Line::Skip {
-                    discarded: None,
-                    refusal,
-                    count: u64::from(count) + 2,
-                },
-            },
-            ParsedLine::Refused(refusal) => Line::Refused(refusal),
-            ParsedLine::Skip { refusal, count } => Line::Skip {
-                discarded: None,
-                refusal,
-                count,
-            },
-            ParsedLine::TooLarge {
-                request,
-                refusal,
-                count,
-            } => {
-                let (discarded, refusal) = request.discarded(alloc, rules, refusal);
-                Line::Skip {
-                    discarded,
-                    refusal,
-                    count,
-                }
-            }
         }
     }
 }

@@ -3,7 +3,7 @@ use Rattle.std.specs.Prelude.{ℕ, ◌≡◌, ◌+◌, ◌<◌, ◌≤◌, Bool,
 use Rattle.std.specs.Prelude.{drop, IsTrue, MatchBool}
 use Rattle.std.specs.List.{AllByRecursion, concat}
 use Rattle.mc_command.specs.declared.command.Command.{Command}
-use Rattle.mc_command.specs.declared.line.Line.TheVariants.{Skip}
+use Rattle.mc_command.specs.Line.Line.{Skip}
 use Rattle.mc_command.specs.declared.error.CommandError.{CommandError}
 use Rattle.mc_reader.specs.Spelling.{AreCommands, BeginCommands, HasNoEnd, SpellsFront, is_closed, line_says}
 use Rattle.mc_ring.specs.Reply.{Shown}

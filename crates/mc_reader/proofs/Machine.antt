@@ -9,8 +9,8 @@ use Rattle.mc_command.specs.declared.command.Command.{Command}
 use Rattle.mc_command.specs.declared.command.Command.TheVariants as command
 use Rattle.mc_command.specs.declared.error.CommandError.{CommandError}
 use Rattle.mc_command.specs.declared.error.CommandError.TheVariants.{BadChunk, Hidden, LineTooLong, Memory}
-use Rattle.mc_command.specs.declared.line.Line.{Line}
-use Rattle.mc_command.specs.declared.line.Line.TheVariants.{Whole, Data, Refused, Skip}
+use Rattle.mc_command.specs.Line.{Line}
+use Rattle.mc_command.specs.Line.Line.{Whole, Data, Refused, Skip}
 use Rattle.mc_command.specs.Command.{can_give_up, is_memory, with_block}
 use Rattle.mc_command.specs.Rules.{is_drop_in}
 use Rattle.mc_command.specs.Line.{Says, CanGiveUpBlock, CanGiveUpLine, bytes_behind}

@@ -12,7 +12,7 @@ use Rattle.mc_command.specs.declared.command.Command.{Command}
 use Rattle.mc_command.specs.declared.command.Command.TheVariants as command
 use Rattle.mc_command.specs.declared.error.CommandError.{CommandError}
 use Rattle.mc_command.specs.declared.error.CommandError.TheVariants.{LineTooLong, Memory}
-use Rattle.mc_command.specs.declared.line.Line.TheVariants.{Data, Skip}
+use Rattle.mc_command.specs.Line.Line.{Data, Skip}
 use Rattle.mc_command.proofs.Sizes.{data_small}
 use Rattle.mc_wire.specs.Words.{words_of}
 use Rattle.mc_command.specs.Command.{can_give_up}

@@ -11,7 +11,7 @@ use Rattle.mc_command.specs.declared.command.Command.{Command}
 use Rattle.mc_command.specs.declared.command.Command.TheVariants as command
 use Rattle.mc_command.specs.declared.error.CommandError.{CommandError}
 use Rattle.mc_command.specs.declared.error.CommandError.TheVariants.{LineTooLong}
-use Rattle.mc_command.specs.declared.line.Line.TheVariants.{Skip}
+use Rattle.mc_command.specs.Line.Line.{Skip}
 use Rattle.mc_command.specs.Line.{Says, bytes_behind}
 use Rattle.mc_reader.specs.declared.block.OpenBlock.{OpenBlock}
 use Rattle.mc_reader.specs.declared.block.Skipped.{Skipped}

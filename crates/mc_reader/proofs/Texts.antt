@@ -7,8 +7,8 @@ use Rattle.std.specs.Cmp.Lexicographic.{same_text}
 use Rattle.mc_command.specs.declared.command.Command.{Command}
 use Rattle.mc_command.specs.declared.command.Command.TheVariants as command
 use Rattle.mc_command.specs.declared.error.CommandError.TheVariants.{LineTooLong}
-use Rattle.mc_command.specs.declared.line.Line.{Line}
-use Rattle.mc_command.specs.declared.line.Line.TheVariants.{Whole, Data, Refused, Skip}
+use Rattle.mc_command.specs.Line.{Line}
+use Rattle.mc_command.specs.Line.Line.{Whole, Data, Refused, Skip}
 use Rattle.mc_command.specs.Command.{with_block}
 use Rattle.mc_command.specs.Line.{bytes_behind}
 use Rattle.mc_reader.specs.Spelling.{HasNoEnd, IsLine, Spells, SpellsNothing, block_entry, chunk_refusal, is_block_end}

@@ -11,8 +11,8 @@ use Rattle.mc_command.specs.declared.command.Command.{Command}
 use Rattle.mc_command.specs.declared.command.Command.TheVariants as command
 use Rattle.mc_command.specs.declared.error.CommandError.{CommandError}
 use Rattle.mc_command.specs.declared.error.CommandError.TheVariants.{BadChunk, Hidden, LineTooLong, Memory}
-use Rattle.mc_command.specs.declared.line.Line.{Line}
-use Rattle.mc_command.specs.declared.line.Line.TheVariants.{Whole, Data, Refused, Skip}
+use Rattle.mc_command.specs.Line.{Line}
+use Rattle.mc_command.specs.Line.Line.{Whole, Data, Refused, Skip}
 use Rattle.mc_command.specs.Command.{can_give_up, with_block}
 use Rattle.mc_command.specs.Table.{line_of}
 use Rattle.mc_command.specs.declared.rules.Rules.{Rules}

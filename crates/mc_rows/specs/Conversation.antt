@@ -6,8 +6,8 @@ use Rattle.std.specs.Option.{option_and_then}
 use Rattle.mc_wire.specs.declared.TheConstants.{DEFAULT_LINE_LIMIT, DEFAULT_VALUE_LIMIT}
 use Rattle.mc_command.specs.declared.command.Command.{Command}
 use Rattle.mc_command.specs.declared.command.Command.TheVariants as command
-use Rattle.mc_command.specs.declared.line.Line.{Line}
-use Rattle.mc_command.specs.declared.line.Line.TheVariants.{Whole, Data, Refused, Skip}
+use Rattle.mc_command.specs.Line.{Line}
+use Rattle.mc_command.specs.Line.Line.{Whole, Data, Refused, Skip}
 use Rattle.mc_sizes.specs.declared.sizes.Sizes.{Sizes}
 use Rattle.mc_item.specs.declared.answer.Answer.TheVariants as answer
 use Rattle.mc_item.specs.declared.answer.Answer.TheVariants.{Stored, Number, Done, MetaDone}

@@ -3,7 +3,7 @@ use Rattle.std.specs.Prelude.{ℕ, ◌≡◌, ◌+◌, ◌<◌, ◌≤◌, Bool,
 use Rattle.std.specs.Prelude.{nat_lt}
 use Rattle.mc_command.specs.declared.command.Command.{Command}
 use Rattle.mc_command.specs.declared.error.CommandError.{CommandError}
-use Rattle.mc_command.specs.declared.line.Line.TheVariants.{Data, Skip}
+use Rattle.mc_command.specs.Line.Line.{Data, Skip}
 use Rattle.mc_command.specs.Line.{Says}
 use Rattle.mc_reader.specs.declared.state.State.{State}
 use Rattle.mc_reader.specs.declared.state.State.TheVariants as state
