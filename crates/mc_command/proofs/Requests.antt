@@ -1,6 +1,8 @@
 -- What the words of a line spell, as a request over them.
 use Rattle.std.proofs.Common.{◌≡◌, ◌≤◌, ◌==◌, ◌+◌, arith, ℕ, ℤ, Bool, true, false, cond, List, [], ◌∷◌, Option, Some, None}
-use Rattle.std.proofs.Common.{refl, sym, ap, ◌∙◌, Result, Ok, Err, Bor, length, nat_lt}
+use Rattle.std.proofs.Common.{refl, sym, ap, ◌∙◌, Result, Ok, Err, Bor, IsTrue, length, nat_lt}
+use Rattle.std.specs.Prelude.{is_ok}
+use Rattle.mc_command.specs.Hiding.{shown_line, shown_refusal}
 use Rattle.std.specs.List.{list_all}
 use Rattle.std.proofs.lemmas.Bool.{cond_both, le-ltb}
 use Rattle.std.proofs.lemmas.Bool.Decides.{nat_tests}
@@ -62,3 +64,32 @@ behind_skipped rules (Err fault) refusal count = refl
 pub behind_whole : (asked : Result Command CommandError) → bytes_behind (whole_line asked) ≡ 0
 behind_whole (Ok asked) = refl
 behind_whole (Err refusal) = refl
+
+-- Hiding errors changes no line without a block whose command is sure.
+pub shown_whole : (hides : Bool) (asked : Result Command CommandError) → (IsTrue hides → IsTrue (is_ok asked))
+    → shown_line hides (whole_line asked) ≡ whole_line asked
+shown_whole hides (Ok asked) sure = refl
+shown_whole false (Err refusal) sure = refl
+shown_whole true (Err refusal) sure = absurd (let no : false ≡ true = sure refl in cc)
+
+-- A block within the value limit belongs to its command.
+pub within : (rules : Rules) (count : ℕ) (asked : Command) → count ≤ rules.value_limit
+    → block_line rules (Some count) (Ok asked) ≡ Data asked count
+within rules count asked small = rw (le-ltb rules.value_limit count small)
+
+-- Nor does it change a line with a block within the value limit.
+pub shown_block : (rules : Rules) (hides : Bool) (count : ℕ) (asked : Result Command CommandError)
+    → count ≤ rules.value_limit → (IsTrue hides → IsTrue (is_ok asked))
+    → shown_line hides (block_line rules (Some count) asked) ≡ block_line rules (Some count) asked
+shown_block rules hides count (Ok asked) small sure = rw (within rules count asked small)
+shown_block rules false count (Err refusal) small sure = refl
+shown_block rules true count (Err refusal) small sure = absurd (let no : false ≡ true = sure refl in cc)
+
+-- It changes the refusal of a value that is too large.
+pub shown_skipped : (rules : Rules) (hides : Bool) (asked : Result Command CommandError) (refusal : CommandError)
+    (count : ℕ) → (IsTrue hides → IsTrue (is_ok asked))
+    → shown_line hides (skipped_line rules asked refusal count)
+    ≡ skipped_line rules asked (shown_refusal hides refusal) count
+shown_skipped rules hides (Ok asked) refusal count sure = refl
+shown_skipped rules false (Err fault) refusal count sure = refl
+shown_skipped rules true (Err fault) refusal count sure = absurd (let no : false ≡ true = sure refl in cc)

@@ -1,5 +1,5 @@
 -- Requests over the words of a line, and the commands that they spell.
-use Rattle.std.specs.Prelude.{ℕ, ◌≡◌, ◌≤◌, ◌<◌, ◌+◌, List, [], ◌∷◌, Some, None, Result, Ok, Err}
+use Rattle.std.specs.Prelude.{ℕ, ◌≡◌, ◌≤◌, List, [], ◌∷◌, Some, None, Result, Ok, Err, IsTrue, is_ok}
 use Rattle.mc_wire.specs.Key.{key_fault}
 use Rattle.mc_wire.specs.Words.{words_of}
 use Rattle.mc_command.specs.declared.command.Command.{Command}
@@ -78,3 +78,10 @@ IsParsed rules line (parsed.Refused refusal) = line ≡ Refused refusal
 IsParsed rules line (parsed.Skip refusal count) = line ≡ Skip None refusal count
 IsParsed rules line (parsed.TooLarge read refusal count) =
     IsRequest read × (line ≡ skipped_line rules (spelled rules read) refusal count)
+
+-- The command of a parsed line is sure: it isn't refused once its flags are parsed.
+abbrev pub IsSure : Rules → ParsedLine → Type 0
+IsSure rules (parsed.Whole read) = IsTrue (is_ok (spelled rules read))
+IsSure rules (parsed.Data read count) = IsTrue (is_ok (spelled rules read))
+IsSure rules (parsed.TooLarge read refusal count) = IsTrue (is_ok (spelled rules read))
+IsSure rules other = Unit {0}

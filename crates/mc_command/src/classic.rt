@@ -59,7 +59,15 @@ fn get_words<'a>(
 {
     let first = key_word(first)?;
     let others = walk.text();
-    if !others.is_empty() && !are_keys(walk) {
+    if others.is_empty() {
+        return Ok(Request::Get {
+            first,
+            others,
+            touch,
+            with_unique,
+        });
+    }
+    if !are_keys(walk) {
         return Err(CommandError::BadKey);
     }
     Ok(Request::Get {

@@ -1,8 +1,8 @@
 //! Errors that are hidden because of `noreply` (protocol.txt, "Commands").
-ghost use Rattle.std.specs.Prelude.{◌≡◌};
+ghost use Rattle.std.specs.Prelude.{◌≡◌, IsTrue};
 ghost use Rattle.mc_wire.specs.Words.{words_left, words_of};
 ghost use Rattle.mc_command.specs.Field.{is_noreply};
-ghost use Rattle.mc_command.specs.Request.{IsParsed};
+ghost use Rattle.mc_command.specs.Request.{IsParsed, IsSure};
 ghost use Rattle.mc_command.specs.Line.{Line};
 ghost use Rattle.mc_command.specs.Hiding.{ends_in_noreply, hides_faults, shown_line, shown_refusal, takes_noreply};
 
@@ -14,16 +14,21 @@ use mc_wire::{WordWalk, words};
 
 /// Hides the refusal of a line if memcached does: if its command takes `noreply`, and the line ends
 /// in it.
+#[tactic(auto, using(crate::proofs::Requests::shown_whole, crate::proofs::Requests::shown_block, crate::proofs::Requests::shown_skipped))]
 #[inline(always)]
 pub(crate) fn hide_fault(line: &mut ParsedLine<'_>, rules: Rules, name: CommandName, behind: &[u8])
     ensures { (said : Line) → IsParsed rules said line.old →
+        (IsTrue (hides_faults rules name (words_of behind.now)) → IsSure rules line.old) →
         IsParsed rules (shown_line (hides_faults rules name (words_of behind.now)) said) line.new }
 {
     match line {
         ParsedLine::Refused(refusal) => {
             *refusal = shown_fault(rules, name, behind, *refusal);
         }
-        ParsedLine::Skip { refusal, .. } | ParsedLine::TooLarge { refusal, .. } => {
+        ParsedLine::Skip { refusal, .. } => {
+            *refusal = shown_fault(rules, name, behind, *refusal);
+        }
+        ParsedLine::TooLarge { refusal, .. } => {
             *refusal = shown_fault(rules, name, behind, *refusal);
         }
         ParsedLine::Whole(_) | ParsedLine::Data(..) => {}
