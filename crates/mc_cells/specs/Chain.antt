@@ -28,13 +28,13 @@ bytes_in (Some cell) = cell.bytes
 abbrev pub pieces : ℕ → ℕ
 pieces len = (len + 59) / 60
 
--- how often a chain of so many cells passes the cell with a number
+-- how often a chain of count cells passes the cell with a number
 abbrev pub passes : Slots → ℕ → ℕ → ℕ → ℕ
 passes slots number zero at = 0
 passes slots number (suc count) at =
     (if at == number then 1 else 0) + passes slots number count (next_in (cell_at slots at))
 
--- a chain of so many cells, all of them in use, which passes none twice
+-- a chain of count cells, all of them in use, which passes none twice
 abbrev pub IsChain : Slots → ℕ → ℕ → Type 0
 IsChain slots zero at = Unit {0}
 IsChain slots (suc count) at =

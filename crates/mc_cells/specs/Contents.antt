@@ -37,7 +37,7 @@ pub record HasValue (contents : Contents) (place : Place) : Type 0 where
   pub chain : IsChain contents.slots (cells_of place.len) place.first
   pub long : LONG_VALUE ≤ place.len → IsSome (slice_index_or contents.long place.first None)
 
--- there is memory for so many more cells and long values, and the numbers of all cells fit a place
+-- there is memory for these numbers of further cells and long values, and the numbers of all cells fit a place
 pub record HasRoom (contents : Contents) (more_cells more_long : ℕ) : Type 0 where
   pub cells : count_by is_some contents.slots + more_cells ≤ contents.cell_room
   pub long : count_by is_some contents.long + more_long ≤ contents.long_room

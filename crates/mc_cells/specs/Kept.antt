@@ -41,7 +41,7 @@ pub record CellsHold (slots : Slots) (kept : List KeptValue) : Type 0 where
   pub once : (number : ℕ) → all_passes slots number kept ≡ used (cell_at slots number)
   pub counted : count_by is_some slots ≡ sum_by (λ (value : KeptValue). cells_of value.0.len) kept
 
--- As CellsHold, with one chain more of so many cells.
+-- As CellsHold, beside one more chain, of count cells.
 pub record IsBeside (slots : Slots) (count at : ℕ) (kept : List KeptValue) : Type 0 where
   pub chain : IsChain slots count at
   pub spelled : AllByRecursion (IsSpelled slots) kept

@@ -10,11 +10,11 @@ pub record Pool : Type 0 where
   -- how many cells there is memory for
   pub capacity : ℕ
 
--- there is memory for so many more cells
+-- there is memory for more cells, this many
 abbrev pub HasRoomFor : Pool → ℕ → Type 0
 HasRoomFor pool more = count_by is_some pool.slots + more ≤ pool.capacity
 
--- all cells but those of a chain of so many: the chain of the vacant ones
+-- all cells but those of a chain of count cells: the chain of the vacant ones
 abbrev pub vacate : Slots → ℕ → ℕ → Slots
 vacate all zero at = all
 vacate all (suc count) at = slice_set (vacate all count (next_in (cell_at all at))) at None

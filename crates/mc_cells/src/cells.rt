@@ -27,7 +27,7 @@ pub struct Cells {
     cells: CellPool,
     /// Long values.
     long: Slab<Bytes>,
-    /// The bytes of short values that are read are cut off it. It has room for values to come.
+    /// The bytes of short values that are read are cut off it.
     page: BytesMut,
 }
 
@@ -70,7 +70,8 @@ impl Cells {
         }
     }
 
-    /// Allocates memory for so many more cells and long values. With that room `keep` succeeds.
+    /// Allocates memory for `cells` more cells and `long` more long values. With that room `keep`
+    /// succeeds.
     /// Fails if memory is refused, or if there would be more than 2^32 cells or long values.
     pub fn reserve(&mut self, cells: usize, long: usize) -> Result<(), AllocError>
         ensures room { OnOk result (HasRoom self.new cells long) }

@@ -17,5 +17,5 @@ pub use place::Place;
 /// Number of bytes of a value in one cell.
 pub const CELL_BYTES: usize = 60;
 
-/// A value of so many bytes or more is kept by itself and shared.
+/// A value of at least this many bytes is kept by itself and shared.
 pub const LONG_VALUE: usize = 8_192;

@@ -7,8 +7,8 @@ use crate::cell::Cell;
 use std::alloc::{AllocError, Global};
 use std::marker::Model;
 
-/// Memory grows by so many cells at least, 1 MiB. A large block is grown in place or its pages are
-/// moved, so that nothing is copied, and doubling would reserve up to twice what is needed.
+/// Memory grows by at least this many cells, 1 MiB; doubling would reserve up to twice what is
+/// needed. The C library moves the pages of a block above 32 MiB; a smaller one may be copied.
 const GROWTH: usize = 16_384;
 
 /// Cells, by their numbers.
@@ -66,7 +66,7 @@ impl CellPool {
         self.cells.capacity()
     }
 
-    /// Allocates memory for so many cells more than are in use. Fails if memory is refused.
+    /// Allocates memory for `additional` cells beside those in use. Fails if memory is refused.
     pub(crate) fn reserve(&mut self, additional: usize) -> Result<(), AllocError>
         ensures room { OnOk result (HasRoomFor self.new additional) }
         ensures succeeds { HasRoomFor self.old additional → IsOk result }

@@ -1,4 +1,5 @@
-//! A list of pairs that contracts alone see.
+//! A list of pairs that contracts alone see. It is here for the crates that wait, accept and serve:
+//! none of them is below this one.
 ghost use Rattle.std.specs.Prelude.{◌≡◌, List, [], ◌∷◌, ◌++◌};
 ghost use Rattle.std.specs.Borrow.{ftrue};
 
