@@ -136,13 +136,18 @@ impl Cells {
     }
 
     /// The value at a place. A short one is cut off a page that many values share, a long one is
-    /// shared. Fails if memory is refused; the values stay as they are.
+    /// shared, and one without bytes takes no memory. Fails if memory is refused; the values stay
+    /// as they are.
     #[inline(always)]
     pub fn read(&mut self, place: Place) -> Result<Bytes, AllocError>
         requires { HasValue self.old place }
         ensures value { IfOk result (λ value. value ≡ value_at self.old place) }
+        ensures empty { place.len ≡ 0 → IsOk result }
         ensures unchanged { self.new ≡ self.old }
     {
+        if place.is_empty() {
+            return Ok(Bytes::new());
+        }
         let len = place.len();
         if len >= LONG_VALUE {
             return self.long[place.first as usize].clone();
