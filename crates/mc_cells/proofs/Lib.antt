@@ -6,3 +6,4 @@ pub mod Pieces
 pub mod Places
 pub mod Vacant
 pub mod Rows
+pub mod Numbers

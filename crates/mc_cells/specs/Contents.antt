@@ -37,12 +37,12 @@ pub record HasValue (contents : Contents) (place : Place) : Type 0 where
   pub chain : IsChain contents.slots (cells_of place.len) place.first
   pub long : LONG_VALUE ≤ place.len → IsSome (slice_index_or contents.long place.first None)
 
--- there is memory for these numbers of further cells and long values, and the numbers of all cells fit a place
+-- there is memory for these numbers of further cells and long values, and the numbers of all fit a place
 pub record HasRoom (contents : Contents) (more_cells more_long : ℕ) : Type 0 where
   pub cells : count_by is_some contents.slots + more_cells ≤ contents.cell_room
   pub long : count_by is_some contents.long + more_long ≤ contents.long_room
   pub few_cells : contents.cell_room ≤ 2 ^ 32
-  pub few_long : contents.long_room ≤ 2 ^ 32
+  pub few_long : contents.long_room ≤ 2 ^ 25
 
 -- nothing but the memory that there is for more
 abbrev pub with_room : Contents → Contents → Contents

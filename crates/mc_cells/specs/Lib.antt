@@ -4,3 +4,4 @@ pub mod Pool
 pub mod Kept
 pub mod Contents
 pub mod Laws
+pub mod Numbers

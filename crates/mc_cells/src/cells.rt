@@ -1,14 +1,14 @@
 //! The values of a shard.
-ghost use Rattle.std.specs.Prelude.{◌≡◌, ◌+◌, ◌<◌, ◌≤◌, ◌^◌, List, [], ◌∷◌, ◌++◌, ℕ, length, IsOk, IfOk, OnOk, OnErr};
+ghost use Rattle.std.specs.Prelude.{◌≡◌, ◌+◌, ◌<◌, ◌≤◌, ◌^◌, List, [], ◌∷◌, ◌++◌, ℕ, length, vec_len, vec_capacity, IsOk, IfOk, OnOk, OnErr};
 ghost use Rattle.std.specs.List.{sum_by};
 ghost use Rattle.mc_cells.specs.Kept.{KeptValue, cells_of, slots_of};
 ghost use Rattle.mc_cells.specs.Contents.{AreKept, HasRoom, HasValue, value_at, with_room};
 
-use crate::LONG_VALUE;
 use crate::chain::{keep_chain, piece_count, remove_chain};
 use crate::page::{append_short, read_short};
 use crate::place::Place;
 use crate::pool::CellPool;
+use crate::{CELL_BYTES, LONG_VALUE};
 use bytes::{Bytes, BytesMut};
 use slab::Slab;
 use std::alloc::{AllocError, Global};
@@ -16,6 +16,9 @@ use std::marker::Model;
 
 /// More cells than this have no numbers of 32 bits.
 const MAX_CELLS: usize = 4_294_967_296;
+
+/// More long values than this have no places: the number of a place would exceed 50 bits.
+const MAX_LONG: usize = 33_554_432;
 
 /// Values, each at a place of its own.
 ///
@@ -72,7 +75,7 @@ impl Cells {
 
     /// Allocates memory for `cells` more cells and `long` more long values. With that room `keep`
     /// succeeds.
-    /// Fails if memory is refused, or if there would be more than 2^32 cells or long values.
+    /// Fails if memory is refused, or if there would be more than 2^32 cells or 2^25 long values.
     pub fn reserve(&mut self, cells: usize, long: usize) -> Result<(), AllocError>
         ensures room { OnOk result (HasRoom self.new cells long) }
         ensures succeeds { HasRoom self.old cells long → IsOk result }
@@ -83,7 +86,7 @@ impl Cells {
     {
         self.cells.reserve(cells)?;
         self.long.reserve(long)?;
-        if self.cells.capacity() > MAX_CELLS || self.long.capacity() > MAX_CELLS {
+        if self.cells.capacity() > MAX_CELLS || self.long.capacity() > MAX_LONG {
             return Err(AllocError);
         }
         Ok(())
@@ -97,6 +100,7 @@ impl Cells {
         ensures kept { IfOk result (λ place. (kept : List KeptValue) → AreKept self.old kept →
             AreKept self.new ((place, value) ∷ kept)) }
         ensures len { IfOk result (λ place. place.len ≡ length value) }
+        ensures few { IfOk result (λ place. LONG_VALUE ≤ place.len → place.first < 2 ^ 25) }
         ensures succeeds { HasRoom self.old (cells_of (length value)) (slots_of (length value)) →
             IsOk result }
         ensures had_room { HasRoom self.old (cells_of (length value)) (slots_of (length value)) →
@@ -123,6 +127,7 @@ impl Cells {
         ensures kept { IfOk result (λ place. (kept : List KeptValue) → AreKept self.old kept →
             AreKept self.new ((place, value) ∷ kept)) }
         ensures len { IfOk result (λ place. place.len ≡ length value) }
+        ensures few { IfOk result (λ place. LONG_VALUE ≤ place.len → place.first < 2 ^ 25) }
         ensures succeeds { HasRoom self.old 0 1 → IsOk result }
         ensures had_room { HasRoom self.old 0 1 → self.new ≡ with_room self.new self.old }
         ensures err { OnErr result (self.new ≡ with_room self.old self.new) }
@@ -155,11 +160,14 @@ impl Cells {
         read_short(&self.cells, place.first, len, &mut self.page, self.alloc)
     }
 
-    /// Appends the value at a place. If memory is refused, nothing is appended.
+    /// Appends the value at a place. If memory is refused, nothing is appended. With room for the
+    /// value and for a cell more, none is refused.
     pub fn append_to(&self, place: Place, out: &mut Vec<u8>) -> Result<(), AllocError>
         requires { HasValue self.now place }
         ensures ok { OnOk result (out.new.items ≡ out.old.items ++ value_at self.now place) }
         ensures err { OnErr result (out.new.items ≡ out.old.items) }
+        ensures succeeds { length (value_at self.now place) ≡ place.len →
+            vec_len out.old + place.len + CELL_BYTES ≤ vec_capacity out.old → IsOk result }
     {
         let len = place.len();
         if len >= LONG_VALUE {

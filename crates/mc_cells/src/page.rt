@@ -1,5 +1,5 @@
 //! Reads of short values. Their bytes are cut off a page that many of them share.
-ghost use Rattle.std.specs.Prelude.{◌≡◌, ◌+◌, ◌*◌, ◌<◌, ◌≤◌, [], ◌++◌, length, take, vec_len, vec_capacity, IfOk, OnOk, OnErr};
+ghost use Rattle.std.specs.Prelude.{◌≡◌, ◌+◌, ◌*◌, ◌<◌, ◌≤◌, [], ◌++◌, length, take, vec_len, vec_capacity, IsOk, IfOk, OnOk, OnErr};
 ghost use Rattle.mc_cells.specs.Chain.{pieces, IsChain, chain_bytes};
 
 use crate::chain::piece_count;
@@ -93,6 +93,7 @@ pub(crate) fn append_short(
     ensures ok { OnOk result (out.new.items ≡
         out.old.items ++ take len (chain_bytes cells.now.slots (pieces len) first)) }
     ensures err { OnErr result (out.new.items ≡ out.old.items) }
+    ensures succeeds { vec_len out.old + len + CELL_BYTES ≤ vec_capacity out.old → IsOk result }
 {
     let before = out.len();
     let count = piece_count(len);

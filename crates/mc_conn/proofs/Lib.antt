@@ -9,6 +9,7 @@ mod Shown
 pub mod Rows
 pub mod Calls
 pub mod GivenUp
+pub mod AtRest
 pub mod Takes
 pub mod Staying
 pub mod Handing

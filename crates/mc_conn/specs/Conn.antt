@@ -1,5 +1,5 @@
 -- What a connection is, by what came in and what went out; and what its calls return.
-use Rattle.std.specs.Prelude.{ℕ, ◌≡◌, ◌+◌, ◌<◌, true, false, List, [], ◌∷◌, ◌++◌, length, IsTrue}
+use Rattle.std.specs.Prelude.{ℕ, ◌≡◌, ◌+◌, ◌<◌, true, false, List, [], None, ◌∷◌, ◌++◌, length, IsTrue}
 use Rattle.mc_wire.specs.Sink.{Sight, took}
 use Rattle.mc_wire.specs.Sink as sink
 use Rattle.mc_reader.specs.Reader.{IsWaiting}
@@ -8,9 +8,11 @@ use Rattle.mc_reader.specs.Spelling.{BeginCommands, is_closed}
 use Rattle.mc_reply.specs.declared.server_stats.ServerStats.{ServerStats}
 use Rattle.mc_reply.specs.declared.ticket.Ticket.{Ticket}
 use Rattle.mc_reply.specs.Server.{shows_server}
+use Rattle.mc_join.specs.Held.{held_at_rest}
 use Rattle.mc_conn.specs.declared.conn.Conn.{Conn}
 use Rattle.mc_conn.specs.declared.conn.Taken.{Taken as Took}
 use Rattle.mc_conn.specs.declared.conn.Taken.TheVariants as took
+use Rattle.mc_conn.specs.declared.resting.RestingConn.{RestingConn}
 use Rattle.mc_conn.specs.History.{Taken, MayBeTaken, planned}
 use Rattle.mc_conn.specs.Flow.{Flow, IsAllTaken, IsClosed, IsOver, all_texts, commands_of, handed_text, waiting_text}
 use Rattle.mc_conn.specs.internal.Inside.{HasFlow}
@@ -102,3 +104,14 @@ pub record StaysSilent (flow : Flow) (count : ℕ) (new : Conn) (before after : 
   pub none : count ≡ 0
   pub same : after ≡ before
   pub now : IsConn new flow
+
+-- The connection holds nothing but these numbers: no byte is unread, no command is open, no piece is unsent, and it is
+-- not broken.
+pub record RestsAs (resting : RestingConn) (conn : Conn) : Type 0 where
+  pub reads : reader.RestsAs resting.reader conn.reader
+  pub replies : conn.dispatcher.reorder_buffer ≡ held_at_rest resting.replies
+  pub shards : conn.dispatcher.planner.shards ≡ resting.planner.shards
+  pub log : conn.dispatcher.log ≡ resting.log
+  pub none_back : conn.put_back ≡ None
+  pub none_unsent : conn.dispatcher.unsent.items ≡ []
+  pub whole : conn.broken ≡ false

@@ -28,6 +28,13 @@ impl CommandLog {
         CommandLog { of: PhantomData }
     }
 
+    /// A copy.
+    pub(crate) fn same(&self) -> CommandLog
+        ensures { result.items ≡ self.now.items }
+    {
+        CommandLog { of: PhantomData }
+    }
+
     /// With one command more, which the caller's proof names by what `about` has.
     pub(crate) fn and<A>(&self, about: &A) -> CommandLog
         ghost one: { Taken }

@@ -11,6 +11,7 @@ ghost use Rattle.mc_conn.specs.Shutdown.{asks_shutdown};
 ghost use Rattle.mc_conn.specs.Flow.{Flow, IsAtRest, IsNotAllTaken, IsAllTaken, IsOpen, IsOver, IsShut, EndsAmidSkipped, IsUsedUp, LeavesUnread, all_pending_replies, all_pieces, all_texts, new_flow, waiting_text};
 
 use crate::dispatcher::Dispatcher;
+use crate::resting::RestingConn;
 use crate::source::StatsSource;
 use crate::taken_log::TakenLog;
 use mc_command::Rules;
@@ -63,7 +64,7 @@ impl Drop for Conn {
 }
 
 impl Conn {
-    ghost use Rattle.mc_conn.specs.Conn.{IsConn, IfConn, IsAwaiting, TakeSays, HandsOut, FailsToHand, SkipsBytes, StaysSilent, held_bytes};
+    ghost use Rattle.mc_conn.specs.Conn.{IsConn, IfConn, IsAwaiting, TakeSays, HandsOut, FailsToHand, RestsAs, SkipsBytes, StaysSilent, held_bytes};
 
     /// A new connection over `shards` shards by this server's own rules, for values of at most
     /// `limit` bytes and with this window. It takes the room for the longest line and for the open
@@ -375,6 +376,50 @@ impl Conn {
                 == self.dispatcher.reorder_buffer.waiting();
         }
         !self.whole() && self.dispatcher.reorder_buffer.waiting() == 0
+    }
+
+    /// The numbers of the connection, if nothing else is to be kept: no byte is unread, no command
+    /// is open, no piece is unsent, and it is neither closed nor broken. It takes no memory.
+    #[inline(always)]
+    pub fn at_rest(&self) -> Option<RestingConn>
+        ensures rests { IfSome result (λ resting. RestsAs resting self.now) }
+        ensures goes_on { IfSome result (λ _. IfConn self.now (λ flow. ¬ IsOver flow)) }
+    {
+        let replies = self.dispatcher.reorder_buffer.at_rest()?;
+        if self.put_back.is_some() || !self.dispatcher.unsent.is_empty() {
+            return None;
+        }
+        let reader = self.reader.at_rest()?;
+        if self.broken || self.is_over() {
+            return None;
+        }
+        Some(RestingConn {
+            reader,
+            replies,
+            planner: self.dispatcher.planner,
+            log: self.dispatcher.log.same(),
+        })
+    }
+
+    /// Becomes the connection that rested, and returns whether it did: only if it is at rest
+    /// itself, and has the same line limit and the same window. Allocates nothing.
+    #[inline(always)]
+    pub fn resume(&mut self, resting: &RestingConn) -> bool
+        ensures { IsTrue result → RestsAs resting.now self.new }
+    {
+        if self.put_back.is_some() || !self.dispatcher.unsent.is_empty() {
+            return false;
+        }
+        if !self.reader.resume(&resting.reader)
+            || !self.dispatcher.reorder_buffer.resume(&resting.replies)
+        {
+            return false;
+        }
+        self.dispatcher.planner = resting.planner;
+        self.dispatcher.stats_asked = false;
+        self.dispatcher.log = resting.log.same();
+        self.broken = false;
+        true
     }
 
     /// Resets the state for the next connection if this one is at rest and closed or broken, and

@@ -6,6 +6,7 @@ mod command_log;
 mod conn;
 mod dispatcher;
 mod laws;
+mod resting;
 mod source;
 mod taken_log;
 
@@ -16,4 +17,5 @@ pub use laws::{
     keys_name_one_place, more_commands_fit, only_shards_are_asked,
     received_answers_tell_the_history, replies_of_shards_fit, serving_keeps_answers,
 };
+pub use resting::RestingConn;
 pub use source::StatsSource;

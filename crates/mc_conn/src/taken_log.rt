@@ -39,6 +39,16 @@ impl TakenLog {
         }
     }
 
+    /// A copy.
+    pub(crate) fn same(&self) -> TakenLog
+        ensures { result ≡ self.now }
+    {
+        TakenLog {
+            commands: self.commands.same(),
+            has_shutdown: self.has_shutdown,
+        }
+    }
+
     /// With one command more, other than `shutdown`, which the caller's proof names by what `about`
     /// has.
     #[tactic(auto, using(crate::proofs::Asks::asks_same))]

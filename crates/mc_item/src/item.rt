@@ -1,12 +1,10 @@
 //! What a shard keeps under a key.
-ghost use Rattle.std.specs.Prelude.{◌≡◌, ◌+◌, ◌≤◌, ◌⊎◌, None, length, IfOk};
-ghost use Rattle.std.specs.Option.{IsSome};
+ghost use Rattle.std.specs.Prelude.{◌≡◌, ◌+◌, ◌≤◌, length, IfOk};
 ghost use Rattle.mc_item.specs.Expiry.{is_dead, seconds_left};
 ghost use Rattle.mc_item.specs.Value.{number_in, joined};
 
 use crate::memory::NoMemory;
 use crate::packed::PackedExpiry;
-use crate::reserve::Reserve;
 use crate::value::Value;
 use mc_wire::MAX_VALUE_LIMIT;
 use std::alloc::{AllocError, Global};
@@ -75,24 +73,6 @@ impl Item {
         ensures { result ≡ number_in self.now.value }
     {
         self.value.number()
-    }
-
-    /// Another item with the value: shared, or else copied into the reserve, which is used up.
-    pub fn shared(&self, reserve: &mut Option<Reserve>) -> Item
-        requires { IsSome reserve.old }
-        ensures item { result ≡ self.now }
-        ensures reserve { (reserve.new ≡ reserve.old) ⊎ (reserve.new ≡ None) }
-    {
-        Item {
-            value: self.value.shared(reserve),
-            flags: self.flags,
-            fetched: self.fetched,
-            stale: self.stale,
-            sent: self.sent,
-            expiry: self.expiry,
-            unique: self.unique,
-            last_access: self.last_access,
-        }
     }
 
     /// The item's value with the block after it or before it. The item stays as it is.

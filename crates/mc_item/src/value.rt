@@ -1,23 +1,21 @@
 //! The value of an item.
-ghost use Rattle.std.specs.Prelude.{◌≡◌, ◌+◌, ◌≤◌, ◌==◌, ◌⊎◌, [], None, length, IfOk};
-ghost use Rattle.std.specs.Option.{IsSome};
+ghost use Rattle.std.specs.Prelude.{◌≡◌, ◌+◌, ◌≤◌, ◌==◌, [], length, IfOk};
 ghost use Rattle.std.specs.List.{list_all, position};
 ghost use Rattle.mc_item.specs.Value.{number_in, number_text, joined};
 ghost use Rattle.mc_wire.specs.Sink.{Writes};
 ghost use Rattle.mc_wire.specs.Words.{is_space};
 
-use crate::held::{BLOCK_LIMIT, Held};
 use crate::memory::NoMemory;
-use crate::reserve::Reserve;
+use bytes::Bytes;
 use itoa::Buffer;
-use mc_wire::{DIGIT_LIMIT, MAX_VALUE_LIMIT, Sink, SinkError, number_u64, write_all};
+use mc_wire::{DIGIT_LIMIT, MAX_VALUE_LIMIT, Sink, SinkError, number_u64};
 use std::alloc::{AllocError, Global};
 use std::marker::Model;
-use std::sync::ArcSlice;
 
-/// The bytes that a client stored: at most `MAX_VALUE_LIMIT`.
+/// The bytes that a client stored: at most `MAX_VALUE_LIMIT`. Values that are cut from the same
+/// block share it.
 pub struct Value {
-    held: Held,
+    held: Bytes,
 }
 
 impl Drop for Value {
@@ -28,58 +26,62 @@ impl Drop for Value {
     }
 }
 
-/// A value takes 16 bytes of its item.
-const _: () = prove!(size_of::<Value>() == 16);
-
 impl Model for Value {
-    ghost use Rattle.std.specs.Prelude.{ℕ, List, ◌≤◌};
-    ghost use Rattle.mc_item.specs.internal.Held.{bytes_of, len_of, room_of};
+    ghost use Rattle.std.specs.Prelude.{ℕ, List, ◌≤◌, length};
+    ghost use Rattle.mc_wire.specs.declared.TheConstants.{MAX_VALUE_LIMIT};
 
     ghost Value = { List ℕ };
 
-    ghost view = { λ value. bytes_of value.held };
+    ghost view = { λ value. value.held };
 
-    ghost invariant = { λ value. len_of value.held ≤ room_of value.held };
+    ghost invariant = { λ value. length value.held ≤ MAX_VALUE_LIMIT };
 }
 
 impl Value {
-    /// The value with these bytes. More than 512 of them are kept without a copy. It takes memory
-    /// for the count of their owners.
+    /// The value with these bytes, without a copy. It takes memory for the count of their owners.
     pub fn new(bytes: Vec<u8>) -> Result<Value, NoMemory>
         requires { length bytes.items ≤ MAX_VALUE_LIMIT }
         ensures { IfOk result (λ value. value ≡ bytes.items) }
     {
-        if bytes.len() <= BLOCK_LIMIT {
-            return Value::of_slice(*bytes.allocator(), bytes.as_slice());
+        match Bytes::from_vec(bytes) {
+            Ok(held) => Ok(Value { held }),
+            Err(_refused) => Err(NoMemory),
         }
-        let shared = ArcSlice::from_vec(bytes)?;
-        Ok(Value {
-            held: Held::Shared(shared),
-        })
     }
 
-    /// The value with a copy of these bytes. A few of them take no memory.
+    /// The value with these bytes, which may be shared. It takes no memory.
+    #[inline(always)]
+    pub fn of_bytes(held: Bytes) -> Value
+        requires { length held ≤ MAX_VALUE_LIMIT }
+        ensures { result ≡ held }
+    {
+        Value { held }
+    }
+
+    /// The bytes of the value, which are no longer its own.
+    #[inline(always)]
+    pub fn into_bytes(self) -> Bytes
+        ensures value { result ≡ self }
+        ensures within { length self ≤ MAX_VALUE_LIMIT }
+    {
+        let Value { held } = self;
+        held
+    }
+
+    /// The value with a copy of these bytes.
     pub fn of_slice(alloc: Global, bytes: &[u8]) -> Result<Value, NoMemory>
         requires { length bytes.now ≤ MAX_VALUE_LIMIT }
         ensures { IfOk result (λ value. value ≡ bytes.now) }
     {
-        if bytes.len() <= BLOCK_LIMIT {
-            let held = Held::of_slice(alloc, bytes)?;
-            return Ok(Value { held });
-        }
-        let shared = ArcSlice::from_slice(alloc, bytes)?;
-        Ok(Value {
-            held: Held::Shared(shared),
-        })
+        let held = Bytes::copy_from_slice(alloc, bytes)?;
+        Ok(Value { held })
     }
 
     /// The value with no bytes. It takes no memory.
     pub fn empty() -> Value
         ensures { result ≡ [] }
     {
-        Value {
-            held: Held::empty(),
-        }
+        Value { held: Bytes::new() }
     }
 
     /// The text of a number: its decimal digits, without padding.
@@ -96,17 +98,14 @@ impl Value {
         ensures value { result.now ≡ self.now }
         ensures within { length self.now ≤ MAX_VALUE_LIMIT }
     {
-        self.held.bytes()
+        self.held.as_slice()
     }
 
     /// Writes the value. A sink that keeps what it is given may share it.
     pub fn put_to<O: Sink>(&self, out: &mut O) -> Result<(), SinkError>
         ensures { Writes self.now result (O.sight out.old) (O.sight out.new) }
     {
-        match &self.held {
-            Held::Shared(block) => out.put_shared(block),
-            _ => write_all(out, self.bytes()),
-        }
+        out.put_shared(&self.held)
     }
 
     /// How many bytes the value has.
@@ -138,33 +137,6 @@ impl Value {
             return None;
         }
         number_u64(&bytes[..space]).ok()
-    }
-
-    /// The value once more, which shares the bytes. Where they can have no further owner, or are a
-    /// copy themselves, it has a copy of them, for which the reserve is used up.
-    pub fn shared(&self, reserve: &mut Option<Reserve>) -> Value
-        requires { IsSome reserve.old }
-        ensures value { result ≡ self.now }
-        ensures reserve { (reserve.new ≡ reserve.old) ⊎ (reserve.new ≡ None) }
-    {
-        match self.held.share() {
-            Ok(held) => Value { held },
-            Err(_refused) => self.copied(reserve),
-        }
-    }
-
-    /// A copy of the value, in the memory of the reserve.
-    #[cold]
-    #[inline(never)]
-    fn copied(&self, reserve: &mut Option<Reserve>) -> Value
-        requires { IsSome reserve.old }
-        ensures value { result ≡ self.now }
-        ensures reserve { reserve.new ≡ None }
-    {
-        let reserve = reserve.take().unwrap();
-        Value {
-            held: Held::Copied(reserve.filled(self.bytes())),
-        }
     }
 
     /// The value with the block after it, as by `append`, or before it, as by `prepend`. Both stay
@@ -199,10 +171,7 @@ impl Clone for Value {
     ghost is_clone = { λ value copy. copy ≡ value };
 
     fn clone(&self) -> Result<Value, AllocError> {
-        let held = match &self.held {
-            Held::Copied(bytes) => Held::Copied(bytes.clone()?),
-            _ => self.held.share()?,
-        };
+        let held = self.held.clone()?;
         Ok(Value { held })
     }
 }

@@ -5,6 +5,7 @@ use Rattle.std.specs.List.{concat}
 use Rattle.mc_item.specs.declared.answer.Answer.{Answer}
 use Rattle.mc_ring.specs.Reply.{Shown}
 use Rattle.mc_reply.specs.declared.pending_reply.PendingReply.{PendingReply}
+use Rattle.mc_join.specs.declared.resting.RestingReplies.{RestingReplies}
 use Rattle.mc_join.specs.Replies.{complete, pending_reply_text, is_answered}
 
 pub record Held : Type 0 where
@@ -20,6 +21,11 @@ pub record Held : Type 0 where
 -- the empty buffer
 abbrev pub nothing_held : ℕ → Held
 nothing_held window = record { window = window; handed = 0; pending_replies = []; gone = false }
+
+-- the contents of a buffer at rest: these numbers, and nothing else
+abbrev pub held_at_rest : RestingReplies → Held
+held_at_rest resting =
+    record { window = resting.window; handed = resting.handed; pending_replies = []; gone = false }
 
 -- the number of pending replies that were opened
 abbrev pub opened_count : Held → ℕ

@@ -5,5 +5,7 @@
 mod length;
 mod queue;
 mod reorder_buffer;
+mod resting;
 
 pub use reorder_buffer::{Full, Gone, ReorderBuffer, UnexpectedReply};
+pub use resting::RestingReplies;

@@ -4,12 +4,13 @@ ghost use Rattle.mc_ring.specs.Reply.{Shown, shown};
 ghost use Rattle.mc_reply.specs.declared.pending_reply.PendingReply.{PendingReply};
 ghost use Rattle.mc_wire.specs.Sink.{Writes};
 ghost use Rattle.mc_join.specs.Expects.{Expects};
-ghost use Rattle.mc_join.specs.Held.{AreNumbered, AwaitsAt, IsAwaited, TakesIn, due_text, nothing_held, opened_count};
+ghost use Rattle.mc_join.specs.Held.{AreNumbered, AwaitsAt, IsAwaited, TakesIn, due_text, held_at_rest, nothing_held, opened_count};
 ghost use Rattle.mc_join.specs.Joined.{IsReorderBuffer, unhanded};
 ghost use Rattle.mc_join.specs.Length.{capped};
 ghost use Rattle.mc_join.specs.Replies.{complete, replies};
 
 use crate::queue::{add, awaits, count_complete, drop_first, fill, put_first, texts_len};
+use crate::resting::RestingReplies;
 use circular_buffer::HeapCircularBuffer;
 use mc_reply::{PendingReply, Ticket};
 use mc_ring::Reply;
@@ -301,6 +302,35 @@ impl ReorderBuffer {
         drop_first(&mut self.pending_replies, count);
         self.handed += count as u128;
         Ok(count as u64)
+    }
+
+    /// The numbers of the buffer, if nothing else is to be kept: no ticket is open, and the sink has
+    /// not failed.
+    #[inline(always)]
+    pub fn at_rest(&self) -> Option<RestingReplies>
+        ensures { IfSome result (λ resting. self.now ≡ held_at_rest resting) }
+    {
+        if !self.pending_replies.is_empty() || self.gone {
+            return None;
+        }
+        Some(RestingReplies {
+            window: self.pending_replies.capacity(),
+            handed: self.handed,
+        })
+    }
+
+    /// Becomes the buffer that rested, and returns whether it did: only if no ticket is open, and
+    /// as many may be. Allocates nothing.
+    #[inline(always)]
+    pub fn resume(&mut self, resting: &RestingReplies) -> bool
+        ensures { IsTrue result → self.new ≡ held_at_rest resting.now }
+    {
+        if !self.pending_replies.is_empty() || self.pending_replies.capacity() != resting.window {
+            return false;
+        }
+        self.handed = resting.handed;
+        self.gone = false;
+        true
     }
 
     /// Resets the buffer for another connection. Allocates nothing.

@@ -60,7 +60,7 @@ impl From<AllocError> for TelemetryError {
 /// A telemetry thread with its stop request.
 #[derive(Drop)]
 struct TelemetryThread {
-    telling: JoinHandle<()>,
+    thread: JoinHandle<()>,
     stop_token: Arc<StopToken, Global>,
 }
 
@@ -200,7 +200,7 @@ impl TelemetryThreads {
             return Ok(Vec::new(rt.alloc()));
         }
         let (all, reports) = reporters(rt.alloc(), seats.saturating_add(1))?;
-        self.tell_reports(rt, reports, prefix)?;
+        self.spawn_reporter(rt, reports, prefix)?;
         Ok(all)
     }
 
@@ -234,30 +234,27 @@ impl TelemetryThreads {
         };
         let counts = Counts::new(rt.alloc(), sizes.shards, sizes.shards)?;
         let pages = Pages::new(rt, rt.alloc(), facts, &counts)?;
-        self.tell_metrics(rt, word, pages)?;
+        self.spawn_metrics(rt, word, pages)?;
         Ok(Some(counts))
     }
 
     /// Starts the thread that logs events to standard error.
-    fn tell_reports<R: Threads + Wait + Eprint + Alloc<A = Global> + Copy + Send + Drop + 'static>(
-        &mut self,
-        rt: &R,
-        reports: Reports,
-        prefix: &'static str,
-    ) -> Result<(), TelemetryError> {
+    fn spawn_reporter<
+        R: Threads + Wait + Eprint + Alloc<A = Global> + Copy + Send + Drop + 'static,
+    >(&mut self, rt: &R, reports: Reports, prefix: &'static str) -> Result<(), TelemetryError> {
         // Reserved first: a thread whose handle can't be stored would never be joined.
         self.telemetry_threads.reserve(1)?;
         let stop_token = StopToken::new(rt.alloc())?;
         let theirs = Arc::try_clone(&stop_token)?;
         let own = *rt;
         match thread::spawn(rt, move || reports.write_all(&own, prefix, &theirs)) {
-            Ok(telling) => self.keep(telling, stop_token),
+            Ok(thread) => self.keep(thread, stop_token),
             Err(_) => Err(TelemetryError::Thread),
         }
     }
 
     /// Starts the thread that serves metrics at this address.
-    fn tell_metrics<
+    fn spawn_metrics<
         R: Threads
             + Wait
             + RandomSource
@@ -279,7 +276,7 @@ impl TelemetryThreads {
         let theirs = Arc::try_clone(&stop_token)?;
         let own = *rt;
         match thread::spawn(rt, move || server.serve(&own, &theirs)) {
-            Ok(telling) => self.keep(telling, stop_token),
+            Ok(thread) => self.keep(thread, stop_token),
             Err(_) => Err(TelemetryError::Thread),
         }
     }
@@ -287,13 +284,13 @@ impl TelemetryThreads {
     /// Stores a thread; the capacity was reserved.
     fn keep(
         &mut self,
-        telling: JoinHandle<()>,
+        thread: JoinHandle<()>,
         stop_token: Arc<StopToken, Global>,
     ) -> Result<(), TelemetryError> {
-        match self.telemetry_threads.push(TelemetryThread {
-            telling,
-            stop_token,
-        }) {
+        match self
+            .telemetry_threads
+            .push(TelemetryThread { thread, stop_token })
+        {
             Ok(()) => Ok(()),
             Err(_) => Err(TelemetryError::Memory),
         }
@@ -307,7 +304,7 @@ impl TelemetryThreads {
         } = self;
         for telemetry_thread in telemetry_threads {
             telemetry_thread.stop_token.dismiss();
-            telemetry_thread.telling.join(rt);
+            telemetry_thread.thread.join(rt);
         }
         match shutdown {
             Some(shutdown) if shutdown.is_cut() => Ended::Cut(requester_of(&shutdown)),

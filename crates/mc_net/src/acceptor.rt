@@ -95,7 +95,7 @@ impl AcceptorHandle {
 
     /// Reports a slot as free. Call it once at first, and again only after the slot was given a
     /// connection.
-    pub(crate) fn tell_free(&self, seat: usize) {
+    pub(crate) fn report_free(&self, seat: usize) {
         self.wakers.call(0, seat);
     }
 

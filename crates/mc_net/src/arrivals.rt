@@ -59,7 +59,7 @@ impl Arrivals for Handoff {
         if is_last {
             return Accept::Over;
         }
-        self.tell_free();
+        self.report_free();
         Accept::NotYet
     }
 
@@ -99,10 +99,10 @@ impl Handoff {
     }
 
     /// Reports the slot as free to the accepting thread, once.
-    fn tell_free(&mut self) {
+    fn report_free(&mut self) {
         if !self.reported_free {
             self.reported_free = true;
-            self.handle.tell_free(self.seat);
+            self.handle.report_free(self.seat);
         }
     }
 }

@@ -2,7 +2,7 @@
 ghost use Rattle.std.specs.Prelude.{◌≤◌, length};
 
 use crate::asserting::{equal, holds};
-use mc_item::{Answer, Expiry, Item, Kind, NoMemory, Op, PackedExpiry, Reserve, Value, expiry};
+use mc_item::{Answer, Expiry, Item, Kind, NoMemory, Op, PackedExpiry, Value, expiry};
 use mc_wire::Key;
 use std::alloc::Global;
 use std::process::Abort;
@@ -44,22 +44,19 @@ fn value_of(alloc: Global, text: &[u8]) -> Result<Value, NoMemory>
     Value::new(bytes)
 }
 
-/// A value that shares its bytes doesn't use the reserve, which is for copies alone.
+/// Each copy of a value has its bytes, whether they are shared or none.
 #[test]
-fn sharing_uses_up_no_reserve(rt: HostRuntime) -> Result<(), Fail> {
+fn copies_have_the_bytes(rt: HostRuntime) -> Result<(), Fail> {
     let a = rt.alloc();
-    let mut reserve = Some(Reserve::new(a)?);
     for text in [b"".as_slice(), b"some bytes".as_slice()] {
         holds(&rt, text.len() <= 100);
         let value = value_of(a, text)?;
-        holds(&rt, reserve.is_some());
-        let shared = value.shared(&mut reserve);
+        let shared = value.clone()?;
         equal(&rt, shared.bytes(), text);
-        holds(&rt, reserve.is_some());
-        let again = shared.shared(&mut reserve);
+        drop(value);
+        let again = shared.clone()?;
         equal(&rt, again.bytes(), text);
     }
-    holds(&rt, reserve.is_some());
     Ok(())
 }
 

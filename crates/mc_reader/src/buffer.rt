@@ -67,6 +67,15 @@ impl Buffer {
         self.unread().len() == self.limit
     }
 
+    /// Whether it is empty, and is for lines of at most `limit` bytes.
+    #[inline(always)]
+    pub(crate) fn is_unused(&self, limit: usize) -> bool
+        ensures bytes { IsTrue result → self.now.bytes ≡ [] }
+        ensures limit { IsTrue result → self.now.limit ≡ limit }
+    {
+        self.limit == limit && self.start == self.bytes.len()
+    }
+
     /// Consumes the first `count` bytes. If none is left, the whole buffer is free again.
     pub(crate) fn consume(&mut self, count: usize)
         requires { count ≤ length self.old.bytes }

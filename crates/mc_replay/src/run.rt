@@ -54,7 +54,7 @@ pub fn replay<R: RandomSource, O: Sink>(
 ) -> Result<(), ReplayError>
     ensures { Replays schedule.now result (O.sight out.old) (O.sight out.new) }
 {
-    let text = tell(rt, alloc, schedule)?;
+    let text = report_of(rt, alloc, schedule)?;
     match write_all(out, &text) {
         Ok(()) => Ok(()),
         Err(_) => Err(ReplayError::Gone),
@@ -62,7 +62,11 @@ pub fn replay<R: RandomSource, O: Sink>(
 }
 
 /// The report of a schedule after its events were run.
-fn tell<R: RandomSource>(rt: &R, alloc: Global, schedule: &Schedule) -> Result<Vec<u8>, ReplayError>
+fn report_of<R: RandomSource>(
+    rt: &R,
+    alloc: Global,
+    schedule: &Schedule,
+) -> Result<Vec<u8>, ReplayError>
     ensures { GivesReport schedule.now result }
 {
     let mut sim = match Sim::new(rt, alloc, schedule.sizes) {

@@ -6,8 +6,8 @@ use mc_item::Value;
 use mc_wire::{Sink, SinkError, put_parts, write_all};
 
 /// Smallest size of a value, in bytes, that a sink may share. A reference to a smaller one would
-/// take more memory than a copy.
-const MIN_SHARED: usize = 1_024;
+/// keep its page of 32 KiB alive for less than an eighth of it.
+const MIN_SHARED: usize = 4_096;
 
 /// Writes the end of the header line, the value and its line end. A sink that stores its bytes
 /// may share a large value instead of copying it.

@@ -33,7 +33,10 @@ use Rattle.mc_ring.proofs.request.Request.TheSendSync as request_sent
 use Rattle.mc_ring.proofs.reply.Reply.TheSendSync as reply_sent
 use Rattle.mc_transport.specs.declared.clerk.Clerk.{Ghosts as ClerkGhosts}
 use Rattle.mc_transport.specs.declared.warrant.Warrant.{Ghosts as WarrantGhosts}
-use Rattle.mc_transport.specs.contracts.buffered_conn.BufferedConn as buffered_conn
+use Rattle.mc_transport.specs.contracts.line_buffers.LineBuffers as line_buffers
+use Rattle.mc_transport.specs.contracts.line_buffers.LineBuffers.TheInside as in_line_buffers
+use Rattle.mc_transport.specs.contracts.line_buffers.Rest as rest
+use Rattle.mc_transport.proofs.buffered_conn.RestingLine.TheSendSync as resting_line_sent
 use Rattle.mc_transport.proofs.buffered_conn.BufferedConn.TheSendSync as buffered_conn_sent
 use Rattle.mc_worker.specs.declared.scribe.Scribe.{Ghosts as ScribeGhosts}
 use Rattle.mc_worker.specs.contracts.worker.Pending as pending
@@ -119,6 +122,16 @@ module _ (T : RattleType) (tokens : TokenGhosts T.Denot) (token : IsSend T) wher
 sizes_send : IsSend sizes.the_row
 sizes_send = search (sendable, crosses) depth 20
 
+rest_send : IsSend rest.the_row
+rest_send = declared_send rest.the_type (resting_line_sent.the_send, (search (sendable, crosses) depth 20, tt))
+
+line_buffers_send : IsSend line_buffers.the_row
+line_buffers_send =
+    view_send _ _ _ _ _ (declared_send in_line_buffers.the_type (
+      search (buffered_conn_sent.the_send, sendable, crosses) depth 20,
+      (option.the_send rest.the_row rest_send, tt),
+    ))
+
 -- What a slot holds can be sent if its tokens and its clerk can.
 module _ (T C : RattleType) (tokens : TokenGhosts T.Denot) (warrants : WarrantGhosts T.Denot)
     (clerk : ClerkGhosts C.Denot T.Denot) (token : IsSend T) (own : IsSend C) where
@@ -139,7 +152,7 @@ module _ (T C : RattleType) (tokens : TokenGhosts T.Denot) (warrants : WarrantGh
   session_send =
       declared_send (session.the_type T C warrants clerk tokens) (
         search (sendable, crosses) depth 20,
-        (shard_link_send, (sizes_send, (option.the_send buffered_conn.the_row buffered_conn_sent.the_send, tt))),
+        (shard_link_send, (sizes_send, (line_buffers_send, tt))),
       )
 
 -- A worker can be sent to another thread if its tokens and its scribe can.

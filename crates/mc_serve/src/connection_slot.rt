@@ -50,6 +50,23 @@ pub enum SlotState<L> {
     Over,
 }
 
+/// Ends the output of a connection for which memory was refused, so that its client doesn't wait. A
+/// later step tries again to serve it.
+#[inline(never)]
+fn give_up<D: ConnectionSource + Drop>(source: &mut D, line: &mut D::Transport) -> Stepped
+    ensures flow { D.flow source.new ≡ D.flow source.old }
+    ensures history { D.history source.new ≡ D.history source.old }
+    ensures sight { D.Transport.sight line.new ≡ D.Transport.sight line.old }
+    ensures place { D.Transport.place line.new ≡ D.Transport.place line.old }
+{
+    let is_reminded = source.give_up(line);
+    if is_reminded {
+        Stepped::Waits
+    } else {
+        Stepped::Did
+    }
+}
+
 /// A slot with its source. The session has the slot's ends of the rings, and the clerk that records
 /// what its connections take.
 pub struct ConnectionSlot<D: ConnectionSource> {
@@ -131,12 +148,15 @@ where
                     line.rouse(ready);
                 }
                 if !*begun {
-                    return self.begin(clock);
+                    return self.begin(clock, pool);
                 }
-                match self.session.step(line, clock, pool) {
+                let Ok(step) = self.session.step(line, clock, pool) else {
+                    return give_up(&mut self.source, line);
+                };
+                match step {
                     LineStep::Did => Stepped::Did,
                     LineStep::Waits => Stepped::Waits,
-                    LineStep::Ended(served) => self.end(served),
+                    LineStep::Ended(served) => self.end(served, pool),
                 }
             }
             SlotState::Free => self.accept(),
@@ -168,7 +188,7 @@ where
     /// Begins to serve the connection that is out. If memory for that is refused, its output is
     /// ended, so that its client doesn't wait, and a later step tries again.
     #[inline(never)]
-    fn begin<K: Clock>(&mut self, clock: &K) -> Stepped
+    fn begin<K: Clock>(&mut self, clock: &K, pool: &mut BufferPool) -> Stepped
         requires { CanBegin (λ line. D.Transport.place line) self.old.slot_state self.old.session }
         ensures { (shards : ℕ) (rules : Rules) (sat : SeatAt) →
             SeatStands (λ line. D.Transport.place line) (λ line. D.Transport.sight line) shards
@@ -181,22 +201,17 @@ where
         let SlotState::Out { line, begun } = &mut self.slot_state else {
             unreachable!()
         };
-        *begun = self.session.begin(line, clock).is_ok();
+        *begun = self.session.begin(line, clock, pool).is_ok();
         if *begun {
             return Stepped::Did;
         }
-        let is_reminded = self.source.give_up(line);
-        if is_reminded {
-            Stepped::Waits
-        } else {
-            Stepped::Did
-        }
+        give_up(&mut self.source, line)
     }
 
     /// Returns the connection that was served to the source, and renews the session for the next
     /// one.
     #[inline(never)]
-    fn end(&mut self, served: Served) -> Stepped
+    fn end(&mut self, served: Served, pool: &mut BufferPool) -> Stepped
         requires { IsOut self.old.slot_state }
         ensures free { self.new.slot_state ≡ slot_state.Free }
         ensures flow { IsReturned (λ line. D.Transport.sight line) self.old.slot_state
@@ -208,7 +223,7 @@ where
         };
         self.source.give_back(line, served.commands, served.broke);
         // All replies have come, each to its piece, so it can be renewed.
-        let _ = self.session.renew();
+        let _ = self.session.renew(pool);
         Stepped::Did
     }
 

@@ -26,7 +26,7 @@ struct ReaperTask {
     count: usize,
     stop_token: Arc<StopToken, Global>,
     /// The last published second.
-    said: u64,
+    published: u64,
     /// When the remaining connections are cut off, as a time since the start of the thread; `None`
     /// before shutdown is requested.
     until: Option<Duration>,
@@ -61,7 +61,7 @@ impl IdleReaper {
             seats: Wakers::of(alloc, pollers)?,
             count: places(pollers),
             stop_token: Arc::try_clone(&stop_token)?,
-            said: 0,
+            published: 0,
             until: None,
         };
         let own = *rt;
@@ -107,7 +107,7 @@ impl ReaperTask {
 
     /// Wakes all slots if a new second has begun or the server shuts down.
     fn look(&mut self, passed: Duration) {
-        let is_second = self.says_second(passed.as_secs());
+        let is_second = self.publish_second(passed.as_secs());
         if self.drains(passed) || is_second {
             for seat in 0..self.count {
                 self.seats.rouse(seat);
@@ -117,15 +117,15 @@ impl ReaperTask {
 
     /// Publishes the time in seconds, if there is an idle timeout and a new second has begun.
     /// Returns whether it did.
-    fn says_second(&mut self, passed: u64) -> bool {
+    fn publish_second(&mut self, passed: u64) -> bool {
         let Some(seconds) = &self.seconds else {
             return false;
         };
-        if passed == self.said {
+        if passed == self.published {
             return false;
         }
-        self.said = passed;
-        seconds.tell(passed);
+        self.published = passed;
+        seconds.set(passed);
         true
     }
 

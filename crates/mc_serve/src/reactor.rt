@@ -109,6 +109,7 @@ where
             } else if self.is_done() {
                 return;
             } else {
+                self.pool.trim();
                 self.poller.wait(rt);
             }
         }

@@ -1,10 +1,10 @@
 //! Replies that a line takes in portions, and sometimes not at all.
 use crate::asserting::{equal, holds};
 use crate::memory_line::MemoryLine;
+use bytes::Bytes;
 use mc_transport::{Transport, TransportError, WriteBuffer};
 use mc_wire::{Sink, SinkError, write_all};
 use std::alloc::{AllocError, Global};
-use std::sync::ArcSlice;
 use std::test::Fail;
 
 /// A line that takes a few bytes at a time, and nothing every other time.
@@ -53,7 +53,7 @@ fn flush_all<L: Transport<Warrant = ()>>(unwritten: &mut WriteBuffer, line: &mut
 /// Writes a reply with a block that has two owners, and another reply after it. Returns whether
 /// memory sufficed.
 fn hand_out(alloc: Global, unwritten: &mut WriteBuffer) -> Result<bool, AllocError> {
-    let block = ArcSlice::from_vec(Vec::from_slice(alloc, b"hello")?)?;
+    let block = Bytes::copy_from_slice(alloc, b"hello")?;
     let line = write_all(unwritten, b"VALUE a 0 5\r\n");
     let value = unwritten.put_shared(&block);
     let end = write_all(unwritten, b"\r\nEND\r\nSTORED\r\n");

@@ -1,6 +1,7 @@
 //! A connection over a stream that moves few bytes at a call, and whose calls a signal interrupts.
 use crate::asserting::{equal, holds};
 use crate::sizes::SMALL;
+use bytes::Bytes;
 use mc_net::{Stream, TcpConnection};
 use mc_server::{FixedClock, open_one, serve_one};
 use mc_sizes::Sizes;
@@ -10,7 +11,6 @@ use mc_wire::{Sink, write_all};
 use std::alloc::Global;
 use std::io;
 use std::io::{ErrorKind, IoSlice, Write};
-use std::sync::ArcSlice;
 use std::test::Fail;
 
 /// The maximum number of bytes that it moves at a call.
@@ -109,7 +109,7 @@ fn pieces_that_wait_go_out_whole_and_once(rt: HostRuntime) -> Result<(), Fail> {
     let mut stream = Slow::new(rt.alloc(), b"");
     let mut line = TcpConnection::new(&mut stream, &());
     let mut waiting = WriteBuffer::new(rt.alloc());
-    let value = ArcSlice::from_slice(rt.alloc(), b"0123456789")?;
+    let value = Bytes::copy_from_slice(rt.alloc(), b"0123456789")?;
     for _ in 0..3 {
         holds(&rt, write_all(&mut waiting, b"VALUE a 0 10\r\n").is_ok());
         holds(&rt, waiting.put_shared(&value).is_ok());

@@ -8,4 +8,5 @@ pub mod Ending
 pub mod Placing
 pub mod Serving
 pub mod Sessions
+pub mod OneLine
 mod RowsCredit

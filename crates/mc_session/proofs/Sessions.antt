@@ -28,7 +28,8 @@ pub some_and : {A : Type 0} (o : Option A) (P : A → Type 0) → IsSomeAnd o P 
 some_and (Some x) P holds = record { some = x; is = refl; holds = holds }
 some_and None P holds = absurd holds
 
-some_so : {A : Type 0} (o : Option A) (x : A) (P : A → Type 0) → o ≡ Some x → P x → IsSomeAnd o P
+-- What holds of a value holds where it is.
+pub some_so : {A : Type 0} (o : Option A) (x : A) (P : A → Type 0) → o ≡ Some x → P x → IsSomeAnd o P
 some_so {A} o x P is holds = let S : Option A → Type 0 = λ it. IsSomeAnd it P in subst S (sym is) holds
 
 -- What holds of the value that is there holds of the value that it is known to be.

@@ -1,6 +1,6 @@
 //! Serves the lines of a seat one after another, step by step.
 ghost use Rattle.mc_command.specs.declared.rules.Rules.{Rules};
-ghost use Rattle.std.specs.Prelude.{◌≡◌, ◌<◌, ◌↔◌, ◌⊎◌, ℕ, Some, IfOk, IsSomeAnd, IsTrue, OnErr, OnOk, length};
+ghost use Rattle.std.specs.Prelude.{◌≡◌, ◌<◌, ◌↔◌, ◌⊎◌, ℕ, Some, IfOk, IfSome, IsSomeAnd, IsTrue, OnErr, OnOk, length};
 ghost use Rattle.std.specs.Bool.{OnFalse, OnTrue};
 ghost use Rattle.mc_sizes.specs.Sizes.{SuitLines, rules_of};
 ghost use Rattle.mc_transport.specs.Place.{unbegun};
@@ -10,19 +10,21 @@ use crate::shard_link::ShardLink;
 use mc_poll::Wakers;
 use mc_ring::SeatEnds;
 use mc_sizes::Sizes;
-use mc_transport::{BufferPool, BufferedConn, Clerk, Clock, LineStep, Transport, Warrant};
+use mc_transport::{
+    BufferPool, BufferedConn, Clerk, Clock, LineBuffers, LineStep, Transport, Warrant, new_buffers,
+};
 use std::alloc::{AllocError, Global};
 
 /// A seat that serves lines one after another. Until the first line comes it has only its ends of
-/// the channels; the buffers of a line are allocated then, and reused for the lines that follow. A
-/// clerk records what the lines' connections take.
+/// the channels. A line at rest may give its buffers to the thread's other lines. A clerk records
+/// what the lines' connections take.
 pub struct Session<T: Warrant = (), C: Clerk<T> = ()> {
     alloc: Global,
     pub(crate) shard_link: ShardLink<T, C>,
     /// By which its buffers are allocated.
     sizes: Sizes,
-    /// The connection and the buffers of the line, once the first has come.
-    buffered_conn: Option<BufferedConn>,
+    /// The connection of the line, once the first has come.
+    buffered_conn: LineBuffers,
     ghost suited: { SuitLines sizes },
     ghost ring: { shard_link.places ≡ sizes.ring },
 }
@@ -46,7 +48,7 @@ impl<T: Warrant + Drop, C: Clerk<T> + Drop> Session<T, C> {
     ghost use Rattle.mc_conn.specs.Conn.{IsConn};
     ghost use Rattle.mc_conn.specs.Flow.{Flow, IsAtRest, IsOver};
     ghost use Rattle.mc_transport.specs.declared.buffered_conn.BufferedConn.{BufferedConn};
-    ghost use Rattle.mc_transport.specs.BufferedConn.{IsNew, WaitsForLine};
+    ghost use Rattle.mc_transport.specs.BufferedConn.{IsNew, Rests, WaitsForLine};
     ghost use Rattle.mc_session.specs.Service.{AwaitsShards};
     ghost use Rattle.mc_session.specs.Ending.{EndsOne, StandsStill};
     ghost use Rattle.mc_session.specs.Serving.{AreCalled, IsIdle};
@@ -77,11 +79,12 @@ impl<T: Warrant + Drop, C: Clerk<T> + Drop> Session<T, C> {
             (λ session. session_history session ≡ (C.route clerk 0).name) }
     {
         let shard_link = ShardLink::new(alloc, ends, clerk, shards, sizes.ring)?;
+        let buffered_conn = LineBuffers::new();
         Ok(Session {
             alloc,
             shard_link,
             sizes,
-            buffered_conn: None,
+            buffered_conn,
         })
     }
 
@@ -92,6 +95,7 @@ impl<T: Warrant + Drop, C: Clerk<T> + Drop> Session<T, C> {
         &mut self,
         line: &mut L,
         clock: &K,
+        pool: &mut BufferPool,
     ) -> Result<(), AllocError>
         requires new { L.place line.old ≡ unbegun (session_history self.old) }
         ensures serving { OnOk result
@@ -108,67 +112,76 @@ impl<T: Warrant + Drop, C: Clerk<T> + Drop> Session<T, C> {
         ensures ends { seat_ends self.new ≡ seat_ends self.old }
         ensures ring { seat_ring self.new ≡ seat_ring self.old }
     {
-        let mut buffered_conn = self.take_buffered_conn()?;
+        let mut buffered_conn = self.take_buffered_conn(pool)?;
         self.shard_link.begin_line(line);
         buffered_conn.take_all(clock);
-        self.buffered_conn = Some(buffered_conn);
+        self.buffered_conn.hold(buffered_conn);
         Ok(())
     }
 
-    /// Takes out the connection and the buffers of the line, which are allocated for the first line.
-    fn take_buffered_conn(&mut self) -> Result<BufferedConn, AllocError>
+    /// Takes out the connection with its buffers, which are allocated for the first line.
+    fn take_buffered_conn(&mut self, pool: &mut BufferPool) -> Result<Box<BufferedConn>, AllocError>
         ensures new { IfOk result (λ buffered_conn.
             (rules : Rules) (window : ℕ) → IsVacant rules window self.old →
-            IsNew (length (seat_ends self.old).channels) rules window buffered_conn) }
+            IsNew (length (seat_ends self.old).channels) rules window buffered_conn.value) }
         ensures refused { OnErr result (self.new ≡ self.old) }
         ensures shard_link { self.new.shard_link ≡ self.old.shard_link }
     {
-        let Some(_) = &self.buffered_conn else {
-            return BufferedConn::new(self.alloc, self.sizes);
-        };
-        let Some(buffered_conn) = self.buffered_conn.take() else {
-            unreachable!()
+        if self.buffered_conn.is_unused() {
+            return new_buffers(self.alloc, self.sizes, pool);
+        }
+        let Some(buffered_conn) = self.buffered_conn.take(self.alloc, self.sizes, pool) else {
+            return Err(AllocError);
         };
         Ok(buffered_conn)
     }
 
     /// Serves the line a step further, as [`ShardLink::step`] does. At each moment at most
-    /// `sizes.ring` of its pieces are under way to each shard.
+    /// `sizes.ring` of its pieces are under way to each shard. A line at rest takes buffers from the
+    /// pool, and one that comes to rest may return them. `AllocError`: memory for them ran out.
+    /// Nothing has changed, and the call may be repeated.
     pub fn step<L: Transport<Warrant = T>, K: Clock>(
         &mut self,
         line: &mut L,
         clock: &K,
         pool: &mut BufferPool,
-    ) -> LineStep
+    ) -> Result<LineStep, AllocError>
         requires { MayStep (K.may_answer clock.now) (L.place line.old) (L.sight line.old) self.old }
-        ensures says { (shards : ℕ) (rules : Rules) (begin : Sight) (before : Ends Near) →
+        ensures says { IfOk result
+            (λ step. (shards : ℕ) (rules : Rules) (begin : Sight) (before : Ends Near) →
             IsServingLine shards rules (K.may_answer clock.now) begin (L.sight line.old) before
             self.old →
-            StepSays result shards rules (K.may_answer clock.now) begin (L.sight line.new) before
-            self.new }
+            StepSays step shards rules (K.may_answer clock.now) begin (L.sight line.new) before
+            self.new) }
         // Where it waits, each shard of which replies are awaited was called after the last piece
         // was sent.
-        ensures called { result ≡ LineStep.Waits →
-            AreCalled self.new.shard_link.shards self.new.shard_link.under_way.items }
+        ensures called { IfOk result (λ step. step ≡ LineStep.Waits →
+            AreCalled self.new.shard_link.shards self.new.shard_link.under_way.items) }
         // It waits for nothing but replies of shards, and once all have come for its line.
-        ensures waits { result ≡ LineStep.Waits →
+        ensures waits { IfOk result (λ step. step ≡ LineStep.Waits →
             IsSomeAnd self.new.buffered_conn (λ buffered_conn.
-            AwaitsShards self.new.shard_link ⊎ WaitsForLine buffered_conn) }
-        ensures ring { seat_ring self.new ≡ seat_ring self.old }
-        ensures line { (rules : Rules) (begin : Sight) →
+            AwaitsShards self.new.shard_link ⊎ WaitsForLine buffered_conn)) }
+        ensures line { IfOk result (λ _. (rules : Rules) (begin : Sight) →
             IsLineAt rules (L.place line.old) begin self.old →
-            IsLineAt rules (L.place line.new) begin self.new }
+            IsLineAt rules (L.place line.new) begin self.new) }
+        // Memory is refused for a line at rest alone.
+        ensures rests { OnErr result (IfSome self.old.buffered_conn (λ line. Rests line)) }
+        ensures refused { OnErr result (self.new ≡ self.old) }
+        ensures untouched { OnErr result (line.new ≡ line.old) }
+        ensures ring { seat_ring self.new ≡ seat_ring self.old }
         ensures history { session_history self.new ≡ session_history self.old }
     {
-        let Some(buffered_conn) = &mut self.buffered_conn else {
-            unreachable!()
+        let Some(mut buffered_conn) = self.buffered_conn.take(self.alloc, self.sizes, pool) else {
+            return Err(AllocError);
         };
-        self.shard_link.step(buffered_conn, line, clock, pool)
+        let step = self.shard_link.step(&mut *buffered_conn, line, clock, pool);
+        self.buffered_conn.put(buffered_conn, pool);
+        Ok(step)
     }
 
     /// Resets it for the next line if the last one has ended and nothing is under way, and returns
-    /// whether it did. The memory is kept.
-    pub fn renew(&mut self) -> bool
+    /// whether it did. Its buffers are given to the pool then.
+    pub fn renew(&mut self, pool: &mut BufferPool) -> bool
         ensures when { (buffered_conn : BufferedConn) (flow : Flow) → self.old.buffered_conn ≡
             Some buffered_conn →
             IsConn buffered_conn.conn flow → IsTrue result ↔ (IsAtRest flow × IsOver flow) }
@@ -182,10 +195,7 @@ impl<T: Warrant + Drop, C: Clerk<T> + Drop> Session<T, C> {
         ensures ring { seat_ring self.new ≡ seat_ring self.old }
         ensures history { session_history self.new ≡ session_history self.old }
     {
-        let Some(buffered_conn) = &mut self.buffered_conn else {
-            return true;
-        };
-        buffered_conn.renew()
+        self.buffered_conn.renew(pool)
     }
 
     /// How many shards there are.

@@ -18,7 +18,7 @@ use mc_command::{
     CommandError, Keys, MetaFetch, MetaFlags, MetaKind, MetaSet, Opaque, Profile, Retrieval,
     Returned, StoreMode, StoreRequest,
 };
-use mc_item::{Kind, NoMemory, Op, Value};
+use mc_item::{Kind, NoMemory, Op};
 use mc_reply::{Fixed, PendingReply, ReplyKind};
 use mc_wire::Key;
 
@@ -156,7 +156,7 @@ impl Planner {
         ensures { SplitsInto self (with_block (command.MetaSet set) block.now) result
             queue.old.items queue.new.items }
     {
-        let value = Value::of_slice(self.alloc, block)?;
+        let value = queue.value_of(self.alloc, block)?;
         self.meta_store(queue, set.flags, asked_with(set.asked, value))
     }
 
@@ -179,7 +179,7 @@ impl Planner {
             queue.old.items queue.new.items }
     {
         let key = Key::from_key_word(self.alloc, key)?;
-        let value = Value::of_slice(self.alloc, block)?;
+        let value = queue.value_of(self.alloc, block)?;
         let shard = key.place(self.shards);
         let op = Op::Store(StoreRequest {
             key,

@@ -72,6 +72,11 @@ count_within [] h = omega arith
 count_within (e ∷ es) h =
     omega (arith, All-head HasKey e es h, count_within es (All-tail HasKey e es h), cost_cons e es)
 
+-- There is always room for one more item.
+pub room_for_one : (es : List ListedItem) (capacity cost budget : ℕ) → IsCounted es capacity cost budget
+    → length es < capacity
+room_for_one es capacity cost budget h = omega (arith, count_within es h.keys, h.counted, h.fits, h.room)
+
 -- What the look-up under a key shows of the list
 
 -- an item is found

@@ -1,10 +1,12 @@
 //! What a reading command makes of the item that it meets.
-ghost use Rattle.std.specs.Prelude.{◌≡◌, ◌≤◌, true};
+ghost use Rattle.std.specs.Prelude.{◌≡◌, ◌≤◌, [], true};
 ghost use Rattle.mc_wire.specs.declared.TheConstants.{LATEST_MOMENT};
 ghost use Rattle.mc_store.specs.Rows.{expiry_from, has_fewer_left, is_won};
 ghost use Rattle.mc_store.specs.internal.Access.{is_sent_after};
+ghost use Rattle.mc_store.specs.internal.Stored.{item_with};
 
-use mc_item::{Item, PackedExpiry};
+use crate::fields::Fields;
+use mc_item::PackedExpiry;
 use mc_wire::LATEST_MOMENT;
 
 /// Which command reads an item.
@@ -58,16 +60,16 @@ fn has_fewer_left(left: Option<u64>, recache: Option<i64>) -> bool
 }
 
 /// `W`: no client is to recompute the item, and it is stale or soon dead.
-pub fn is_won(item: &Item, recache: Option<i64>, time: u64) -> bool
-    ensures { result ≡ is_won item.now recache time }
+pub fn is_won(item: &Fields, recache: Option<i64>, time: u64) -> bool
+    ensures { result ≡ is_won (item_with item.now []) recache time }
 {
     !item.sent && (item.stale || has_fewer_left(item.expiry.seconds_left(time), recache))
 }
 
 impl FetchKind {
     /// Whether a client is to recompute the item, once it was read.
-    fn is_sent_after(self, item: &Item, time: u64) -> bool
-        ensures { result ≡ is_sent_after self item.now time }
+    fn is_sent_after(self, item: &Fields, time: u64) -> bool
+        ensures { result ≡ is_sent_after self (item_with item.now []) time }
     {
         match self {
             FetchKind::Classic => item.sent,
@@ -78,14 +80,14 @@ impl FetchKind {
 
 impl Access {
     /// What the item becomes.
-    pub fn use_of(self, item: &Item) -> Use
+    pub fn use_of(self, item: &Fields) -> Use
         requires { self.time ≤ LATEST_MOMENT }
         ensures { result ≡
             record {
               time = self.time;
               expiry = expiry_from self.touch item.now.expiry self.time;
               fetched = true;
-              sent = is_sent_after self.kind item.now self.time;
+              sent = is_sent_after self.kind (item_with item.now []) self.time;
             } }
     {
         Use {

@@ -1,45 +1,38 @@
 //! The items of a shard, in the order of their last use, and what they cost.
-ghost use Rattle.std.specs.Prelude.{◌≡◌, ◌+◌, ◌≤◌, ◌^◌, [], true, false, length, None, Some, IfOk, OnOk, OnErr, IsOk};
-ghost use Rattle.std.specs.Option.{option_copied, IsSome};
+ghost use Rattle.std.specs.Prelude.{◌≡◌, ◌+◌, ◌<◌, ◌≤◌, ◌^◌, [], true, false, length, Some, IfNone, IfOk, IfSome, OnOk, OnErr, IsOk};
+ghost use Rattle.std.specs.Option.{IsSome, option_map};
 ghost use Rattle.std.specs.Map.{lookup, remove_entry, set_value};
-ghost use Rattle.lru.specs.LruCache.{lru_cache, promoted};
+ghost use Rattle.lru.specs.LruCache.{promoted};
 ghost use Rattle.mc_wire.specs.SameKey.{same_key};
 ghost use Rattle.mc_item.specs.declared.item.Item.{Item as TheItem};
 ghost use Rattle.mc_store.specs.State.{item_overhead, cost};
 ghost use Rattle.mc_store.specs.Step.{is_other};
-ghost use Rattle.mc_store.specs.internal.Access.{met, read_item, read_shelf, seen_shelf};
-ghost use Rattle.mc_store.specs.internal.Listed.{FitsBudget, freed_by, listed_cost, put_in, within};
+ghost use Rattle.mc_store.specs.internal.Access.{met, read_shelf, seen_shelf};
+ghost use Rattle.mc_store.specs.internal.Listed.{FitsBudget, listed_cost, put_in, within};
+ghost use Rattle.mc_store.specs.internal.Stored.{fields_in};
 
 use crate::ITEM_OVERHEAD;
 use crate::access::{Access, Use};
-use crate::hashing::PolynomialState;
-use lru::LruCache;
-use mc_item::{Item, NoMemory, PackedExpiry, Reserve};
+use crate::fields::Fields;
+use crate::item_cache::{ItemCache, Staling};
+use crate::reserve::Reserve;
+use mc_item::{Item, NoMemory, Value};
 use mc_sizes::{MAX_BUDGET, MIN_BUDGET};
 use mc_wire::{KEY_LIMIT, Key, LATEST_MOMENT};
 use std::alloc::{AllocError, Global};
 use std::hash::RandomState;
 use std::marker::Model;
-use std::num::NonZeroUsize;
-
-/// Items by key, the most recently used first.
-type Cache = LruCache<Key, Item, PolynomialState>;
-
-/// No item costs less: its key has a byte.
-const MIN_COST: usize = ITEM_OVERHEAD + 1;
 
 /// The items of a shard, the most recently used first, which cost no more than its budget together.
 #[derive(Drop)]
 pub struct Items {
-    cache: Cache,
+    cache: ItemCache,
     /// What they cost together, in bytes.
     cost: usize,
-    /// What they may cost together, in bytes.
-    budget: usize,
     /// How many were evicted. The count starts again at 0 after 2^64 - 1.
     evicted: u64,
-    /// For a copy of a value that is read, where it can't be shared. None is left once it was used,
-    /// and where no memory was found for it.
+    /// For a value that is read while memory is refused. None is left once it was used, and where
+    /// no memory was found for it.
     reserve: Option<Reserve>,
 }
 
@@ -51,17 +44,14 @@ impl Model for Items {
     ghost Value = { Shelf };
 
     ghost view = { λ items.
-        record { entries = items.cache.entries; budget = items.budget; evicted = items.evicted } };
+        record {
+          entries = items.cache.entries;
+          budget = items.cache.budget;
+          evicted = items.evicted;
+        } };
 
     ghost invariant = { λ items.
-        IsCounted items.cache.entries items.cache.cap items.cost items.budget };
-}
-
-/// What an item becomes when it is marked stale in place.
-#[derive(Clone, Copy)]
-pub struct Staling {
-    pub unique: u64,
-    pub expiry: PackedExpiry,
+        IsCounted items.cache.entries items.cache.cap items.cost items.cache.budget };
 }
 
 /// Whether a unique is asked for that is not this one.
@@ -77,154 +67,57 @@ pub fn is_other(compare: Option<u64>, unique: u64) -> bool
 /// What an item costs with a key of `key_length` bytes and a value of `value_length` bytes, in
 /// bytes.
 pub fn cost_of(key_length: usize, value_length: usize) -> usize
-    requires { key_length + value_length ≤ 2 ^ 32 }
+    requires { key_length + value_length + item_overhead < 2 ^ 64 }
     ensures { result ≡ key_length + value_length + item_overhead }
 {
     key_length + value_length + ITEM_OVERHEAD
 }
 
-/// What an item under a key of `key_length` bytes cost, in bytes; nothing where there was none.
-fn freed_by(old: &Option<Item>, key_length: usize) -> usize
-    requires { key_length ≤ KEY_LIMIT }
-    ensures { result ≡ freed_by old.now key_length }
+/// What an item under a key of `key_length` bytes cost, in bytes, whose value had the length `old`;
+/// nothing where there was none.
+fn freed_by(old: Option<usize>, key_length: usize) -> usize
+    requires { IfSome old (λ length. key_length + length + item_overhead < 2 ^ 64) }
+    ensures some { IfSome old (λ length. result ≡ key_length + length + item_overhead) }
+    ensures none { IfNone old (result ≡ 0) }
 {
     match old {
-        Some(item) => cost_of(key_length, item.value.len()),
+        Some(length) => cost_of(key_length, length),
         None => 0,
     }
 }
 
 /// Evicts the least recently used items, as long as the rest cost more than the budget. Returns
 /// what the rest cost, in bytes.
-fn evict(cache: &mut Cache, cost: usize, budget: usize) -> usize
+fn evict(cache: &mut ItemCache, cost: usize) -> usize
     requires { cost ≡ listed_cost cache.old.entries }
-    ensures left { cache.new ≡ lru_cache (within budget cache.old.entries) cache.old.cap }
-    ensures counted { result ≡ listed_cost (within budget cache.old.entries) }
+    ensures left { cache.new ≡
+        record cache.old { entries = within cache.old.budget cache.old.entries } }
+    ensures counted { result ≡ listed_cost (within cache.old.budget cache.old.entries) }
 {
+    let budget = cache.budget();
     let mut left = cost;
     while left > budget {
-        let Some((key, item)) = cache.pop_lru() else {
+        let Some((key, length)) = cache.pop_lru() else {
             break;
         };
-        left -= cost_of(key.bytes().len(), item.value.len());
+        left -= cost_of(key.bytes().len(), length);
     }
     left
 }
 
-/// Notes in an item that it is made the most recently used one.
-fn note_use(item: &mut Item, new: Use)
-    ensures { item.new ≡
-        record item.old {
-          last_access = new.time;
-          expiry = new.expiry;
-          fetched = new.fetched;
-          sent = new.sent;
-        } }
-{
-    item.last_access = new.time;
-    item.expiry = new.expiry;
-    item.fetched = new.fetched;
-    item.sent = new.sent;
-}
-
-/// Makes the item under the key the most recently used one, and what it becomes by that.
-fn use_item(cache: &mut Cache, key: &Key, new: Use)
-    ensures used { (item : TheItem) → lookup (same_key key.now) cache.old.entries ≡ Some item →
-        cache.new ≡
-        lru_cache
-        (set_value (same_key key.now) (promoted (same_key key.now) cache.old.entries)
-        (record item {
-          last_access = new.time;
-          expiry = new.expiry;
-          fetched = new.fetched;
-          sent = new.sent;
-        })) cache.old.cap }
-    ensures none { lookup (same_key key.now) cache.old.entries ≡ None → cache.new ≡ cache.old }
-{
-    if let Some(item) = cache.get_mut(key) {
-        note_use(item, new);
-    }
-}
-
-/// Returns the item under the key as it is, and makes it the most recently used one and what it
-/// becomes by the access.
-#[inline(always)]
-fn read_item(
-    cache: &mut Cache,
-    key: &Key,
-    access: Access,
-    reserve: &mut Option<Reserve>,
-) -> Option<Item>
-    requires time { access.time ≤ LATEST_MOMENT }
-    requires reserve { IsSome reserve.old }
-    ensures found { result ≡ lookup (same_key key.now) cache.old.entries }
-    ensures read { (item : TheItem) → lookup (same_key key.now) cache.old.entries ≡ Some item →
-        cache.new ≡
-        lru_cache
-        (set_value (same_key key.now) (promoted (same_key key.now) cache.old.entries)
-        (read_item access item)) cache.old.cap }
-    ensures none { lookup (same_key key.now) cache.old.entries ≡ None → cache.new ≡ cache.old }
-{
-    let item = cache.get_mut(key)?;
-    let found = item.shared(reserve);
-    note_use(item, access.use_of(&found));
-    Some(found)
-}
-
-/// Marks the item under the key stale in place.
-fn mark_stale(cache: &mut Cache, key: &Key, new: Staling)
-    ensures marked { (item : TheItem) → lookup (same_key key.now) cache.old.entries ≡ Some item →
-        cache.new ≡
-        lru_cache
-        (set_value (same_key key.now) cache.old.entries
-        (record item {
-          unique = new.unique;
-          expiry = new.expiry;
-          stale = true;
-          sent = false;
-        })) cache.old.cap }
-    ensures none { lookup (same_key key.now) cache.old.entries ≡ None → cache.new ≡ cache.old }
-{
-    if let Some(item) = cache.peek_mut(key) {
-        item.unique = new.unique;
-        item.expiry = new.expiry;
-        item.stale = true;
-        item.sent = false;
-    }
-}
-
-/// Sets another expiry of the item under the key, and notes in it whether a client is to
-/// recompute it. It stays where it is.
-fn mark_seen(cache: &mut Cache, key: &Key, new: Use)
-    ensures marked { (item : TheItem) → lookup (same_key key.now) cache.old.entries ≡ Some item →
-        cache.new ≡
-        lru_cache
-        (set_value (same_key key.now) cache.old.entries
-        (record item { expiry = new.expiry; sent = new.sent })) cache.old.cap }
-    ensures none { lookup (same_key key.now) cache.old.entries ≡ None → cache.new ≡ cache.old }
-{
-    if let Some(seen) = cache.peek_mut(key) {
-        seen.expiry = new.expiry;
-        seen.sent = new.sent;
-    }
-}
-
 impl Items {
-    /// No items, which may cost `budget` bytes together. It takes no room for them before they
-    /// come. They are hashed under words that are drawn from the random state.
+    /// No items, which may cost `budget` bytes together. Before they come they take address space
+    /// alone. They are hashed under words that are drawn from the random state.
     pub fn new(alloc: Global, hasher: RandomState, budget: usize) -> Result<Items, AllocError>
         requires least { MIN_BUDGET ≤ budget }
         requires most { budget ≤ MAX_BUDGET }
         ensures { IfOk result
             (λ items. items ≡ record { entries = []; budget = budget; evicted = 0 }) }
     {
-        let capacity = NonZeroUsize::new(budget / MIN_COST + 1).unwrap();
-        let mut cache = LruCache::unbounded_with_hasher(alloc, PolynomialState::new(hasher))?;
-        cache.resize(capacity);
+        let cache = ItemCache::new(alloc, hasher, budget)?;
         Ok(Items {
             cache,
             cost: 0,
-            budget,
             evicted: 0,
             reserve: Reserve::new(alloc).ok(),
         })
@@ -251,7 +144,7 @@ impl Items {
         ensures least { MIN_BUDGET ≤ result }
         ensures most { result ≤ MAX_BUDGET }
     {
-        self.budget
+        self.cache.budget()
     }
 
     /// How many were evicted.
@@ -268,11 +161,21 @@ impl Items {
         self.evicted = 0;
     }
 
-    /// The item under the key.
-    pub fn peek(&self, key: &Key) -> Option<&Item>
-        ensures { option_copied result ≡ lookup (same_key key.now) self.now.entries }
+    /// The item under the key, without its value.
+    #[inline(always)]
+    pub fn peek(&self, key: &Key) -> Option<Fields>
+        ensures { result ≡ option_map fields_in (lookup (same_key key.now) self.now.entries) }
     {
         self.cache.peek(key)
+    }
+
+    /// The value of the item under the key. Where memory is refused nothing changes either.
+    pub fn value(&mut self, key: &Key) -> Result<Option<Value>, AllocError>
+        ensures value { IfOk result (λ value. value ≡
+            option_map (λ item. item.value) (lookup (same_key key.now) self.old.entries)) }
+        ensures unchanged { self.new ≡ self.old }
+    {
+        self.cache.value(key)
     }
 
     /// Returns the item under the key as it is, unless it is dead, and makes it the most recently
@@ -289,7 +192,7 @@ impl Items {
         if self.reserve.is_none() {
             return self.read_after_copy(key, access);
         }
-        let Some(item) = read_item(&mut self.cache, key, access, &mut self.reserve) else {
+        let Some(item) = self.cache.read_item(key, access, &mut self.reserve) else {
             return Ok(None);
         };
         if item.is_dead(access.time) {
@@ -327,9 +230,11 @@ impl Items {
             self.remove(key);
             return Ok(None);
         }
-        let item = old.clone()?;
-        self.promote(key, access.use_of(&item));
-        Ok(Some(item))
+        let Some(value) = self.value(key)? else {
+            return Ok(None);
+        };
+        self.promote(key, access.use_of(&old));
+        Ok(Some(old.with_value(value)))
     }
 
     /// Returns the item under the key as it is, unless it is dead, and makes it what it becomes by
@@ -349,20 +254,22 @@ impl Items {
             self.remove(key);
             return Ok(None);
         }
-        let item = old.clone()?;
-        self.mark_seen(key, access.use_of(&item));
-        Ok(Some(item))
+        let Some(value) = self.value(key)? else {
+            return Ok(None);
+        };
+        self.mark_seen(key, access.use_of(&old));
+        Ok(Some(old.with_value(value)))
     }
 
-    /// Takes the item under the key out.
-    pub fn remove(&mut self, key: &Key) -> Option<Item>
-        ensures item { result ≡ lookup (same_key key.now) self.old.entries }
+    /// Takes the item under the key out, and returns it without its value.
+    pub fn remove(&mut self, key: &Key) -> Option<Fields>
+        ensures item { result ≡ option_map fields_in (lookup (same_key key.now) self.old.entries) }
         ensures left { self.new ≡
             record self.old { entries = remove_entry (same_key key.now) self.old.entries } }
     {
-        let item = self.cache.pop(key)?;
-        self.cost -= cost_of(key.bytes().len(), item.value.len());
-        Some(item)
+        let (fields, length) = self.cache.pop(key)?;
+        self.cost -= cost_of(key.bytes().len(), length);
+        Some(fields)
     }
 
     /// Takes all items out.
@@ -377,6 +284,7 @@ impl Items {
     /// are evicted, as long as the items cost more than the budget, and counted. If memory is
     /// refused nothing changes; over an item that is there it never is.
     pub fn put(&mut self, key: Key, item: Item) -> Result<(), NoMemory>
+        requires time { item.last_access ≤ LATEST_MOMENT }
         requires fits { FitsBudget self.old.budget key item.value }
         ensures put { OnOk result (self.new ≡ put_in key item self.old) }
         ensures small { OnOk result (cost key item.value ≤ self.old.budget) }
@@ -388,9 +296,9 @@ impl Items {
         let Ok(old) = self.cache.put(key, item) else {
             return Err(NoMemory);
         };
-        let freed = freed_by(&old, key_length);
+        let freed = freed_by(old, key_length);
         let before = self.cache.len();
-        self.cost = evict(&mut self.cache, self.cost + added - freed, self.budget);
+        self.cost = evict(&mut self.cache, self.cost + added - freed);
         let went = before.saturating_sub(self.cache.len());
         self.evicted = self.evicted.wrapping_add(went as u64);
         Ok(())
@@ -398,6 +306,7 @@ impl Items {
 
     /// Makes the item under the key the most recently used one, and what it becomes by that.
     pub fn promote(&mut self, key: &Key, new: Use)
+        requires { new.time ≤ LATEST_MOMENT }
         ensures { (item : TheItem) → lookup (same_key key.now) self.old.entries ≡ Some item →
             self.new ≡
             record self.old {
@@ -411,7 +320,7 @@ impl Items {
                   });
             } }
     {
-        use_item(&mut self.cache, key, new);
+        self.cache.use_item(key, new);
     }
 
     /// Marks the item under the key stale in place.
@@ -428,7 +337,7 @@ impl Items {
                   });
             } }
     {
-        mark_stale(&mut self.cache, key, new);
+        self.cache.mark_stale(key, new);
     }
 
     /// Sets another expiry of the item under the key, and notes in it whether a client is to
@@ -441,6 +350,6 @@ impl Items {
                   (record item { expiry = new.expiry; sent = new.sent });
             } }
     {
-        mark_seen(&mut self.cache, key, new);
+        self.cache.mark_seen(key, new);
     }
 }

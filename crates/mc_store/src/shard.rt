@@ -2,7 +2,7 @@
 ghost use Rattle.std.specs.FinMap;
 ghost use Rattle.std.specs.FinMap.{get};
 ghost use Rattle.std.specs.Prelude.{◌≡◌, ◌+◌, ◌*◌, ◌^◌, ◌<◌, ◌≤◌, ◌⊎◌, ◌||◌, ◌&&◌, ℕ, length, nat_lt, true, false, IfOk, IfErr, None, Some, is_none};
-ghost use Rattle.std.specs.Option.{option_copied, IsSome};
+ghost use Rattle.std.specs.Option.{option_map, IsSome};
 ghost use Rattle.std.specs.Map.{lookup};
 ghost use Rattle.mc_wire.specs.SameKey.{same_key};
 ghost use Rattle.mc_wire.specs.declared.TheConstants.{MAX_VALUE_LIMIT, LATEST_MOMENT};
@@ -11,6 +11,7 @@ ghost use Rattle.mc_item.specs.declared.answer.MetaDone.{MetaDone as TheDone};
 ghost use Rattle.mc_item.specs.Kind.{kind_of, key_of, is_lawful};
 ghost use Rattle.mc_store.specs.internal.Found.{live, unique_for, given_after};
 ghost use Rattle.mc_store.specs.internal.Listed.{FitsBudget};
+ghost use Rattle.mc_store.specs.internal.Stored.{fields_in};
 ghost use Rattle.mc_store.specs.Rows.{expiry_from, done_of};
 
 mod counting;
@@ -22,6 +23,7 @@ mod stats;
 mod storing;
 
 use crate::access;
+use crate::fields::Fields;
 use crate::items::{Items, cost_of};
 use crate::shard::reclaiming::make_turn;
 use mc_item::{Answer, Counting, Item, MetaDone, Op, OpStats, PackedExpiry, Status, Value};
@@ -286,10 +288,11 @@ impl Shard {
         self.flush = None;
     }
 
-    /// The item under the key, unless it is dead.
-    fn find(&self, key: &Key) -> Option<&Item>
-        ensures { option_copied result ≡
-            live self.now.time (lookup (same_key key.now) self.now.items.entries) }
+    /// The item under the key without its value, unless it is dead.
+    fn find(&self, key: &Key) -> Option<Fields>
+        ensures { result ≡
+            option_map fields_in
+            (live self.now.time (lookup (same_key key.now) self.now.items.entries)) }
     {
         let item = self.items.peek(key)?;
         if item.is_dead(self.time) {

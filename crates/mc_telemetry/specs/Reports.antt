@@ -27,10 +27,10 @@ module _ {A P : Type 0} where
     pub one_more : left ≡ min (dropped + 1) (2 ^ 64 - 1)
 
   -- the event was queued, if there is a queue; it was dropped only if the queue was full
-  abbrev pub TellsIn : Option (Producer Record A P) → ℕ → ConnectionEvent → Option (Producer Record A P) → ℕ → Type 0
-  TellsIn None dropped event new left = (new ≡ None) × (left ≡ dropped)
-  TellsIn (Some old) dropped event None left = ⊥
-  TellsIn (Some old) dropped event (Some new) left =
+  abbrev pub ReportedIn : Option (Producer Record A P) → ℕ → ConnectionEvent → Option (Producer Record A P) → ℕ → Type 0
+  ReportedIn None dropped event new left = (new ≡ None) × (left ≡ dropped)
+  ReportedIn (Some old) dropped event None left = ⊥
+  ReportedIn (Some old) dropped event (Some new) left =
       SameProducer old new × (Queues old dropped event new left ⊎ Drops old dropped new left)
 
   -- the queue is empty, belongs to this receiver, and has capacity `room`
@@ -47,8 +47,8 @@ module _ {A P : Type 0} where
   IsHeardIn (Some queue) dropped hears = IsNew queue hears × (dropped ≡ 0)
 
 -- the event was reported
-abbrev pub Tells : Reporter → ConnectionEvent → Reporter → Type 0
-Tells old event new = TellsIn old.queue old.dropped event new.queue new.dropped
+abbrev pub Reported : Reporter → ConnectionEvent → Reporter → Type 0
+Reported old event new = ReportedIn old.queue old.dropped event new.queue new.dropped
 
 -- the events of the reporters are received at these ends, one for each
 abbrev pub AreHeard : List Reporter → List (Consumer Record Global AnyItems) → Type 0

@@ -42,7 +42,7 @@ impl<C: Count> CoarseClock<C> {
     }
 
     /// Sets the clock to `passed` seconds.
-    pub fn tell(&self, passed: u64)
+    pub fn set(&self, passed: u64)
         ensures { C.was_set (clock_of self.now) passed }
     {
         self.passed.set(passed);

@@ -1,7 +1,7 @@
 //! Queues of connection events from the serving threads to the logging thread. A full queue drops
 //! events, so no serving thread waits for standard error (docs/DECISIONS.md, W2).
 ghost use Rattle.std.specs.Prelude.{◌≡◌, None, IfOk, length};
-ghost use Rattle.mc_telemetry.specs.Reports.{AreHeard, Tells};
+ghost use Rattle.mc_telemetry.specs.Reports.{AreHeard, Reported};
 
 use crate::event::ConnectionEvent;
 use crate::stop_token::StopToken;
@@ -76,8 +76,8 @@ impl Reporter {
     }
 
     /// Queues an event, or drops and counts it if the queue is full.
-    pub fn tell(&mut self, event: ConnectionEvent)
-        ensures { Tells self.old event self.new }
+    pub fn report(&mut self, event: ConnectionEvent)
+        ensures { Reported self.old event self.new }
     {
         let Some(queue) = &mut self.queue else {
             return;

@@ -3,7 +3,7 @@ ghost use Rattle.std.specs.Prelude.{◌≡◌, ◌∷◌, ◌++◌, ◌<◌, [],
 ghost use Rattle.mc_telemetry.specs.Closing.{TellsClosed};
 ghost use Rattle.mc_telemetry.specs.Counts.{CountsEnd, CountsUnserved, acceptor_of, shards_of, shared_value, shared_values, thread_of};
 ghost use Rattle.mc_telemetry.specs.IdleTimer.{clock_of, idle_limit_of, idle_timer_of};
-ghost use Rattle.mc_telemetry.specs.Reports.{Tells};
+ghost use Rattle.mc_telemetry.specs.Reports.{Reported};
 ghost use Rattle.mc_telemetry.specs.Shutdown.{drain_stage, stage_of};
 ghost use Rattle.mc_telemetry.specs.declared.event.ConnectionEvent.TheVariants.{NotAccepted, Opened, SeatFree, SeatsTaken};
 
@@ -251,7 +251,8 @@ impl<C: Count> SlotTelemetry<C> {
             (λ idle_timer. idle_timer_of (Some idle_timer) ≡ idle_limit_of self.old.idle_limit) }
         ensures counted { IfSome result.counts
             (λ counts. option_map shared_value self.old.counts ≡ Some (shared_value counts)) }
-        ensures told { Tells self.old.reporter (Opened peer self.old.seat) self.new.reporter }
+        ensures reported { Reported self.old.reporter (Opened peer self.old.seat)
+            self.new.reporter }
         ensures peer { self.new.peer ≡ Some peer }
         ensures seat { self.new.seat ≡ self.old.seat }
         ensures idle_limit { self.new.idle_limit ≡ self.old.idle_limit }
@@ -260,7 +261,7 @@ impl<C: Count> SlotTelemetry<C> {
     {
         let seat = self.seat;
         self.peer = Some(peer);
-        self.reporter.tell(ConnectionEvent::Opened { peer, seat });
+        self.reporter.report(ConnectionEvent::Opened { peer, seat });
         Meter::begin(self.counts(), self.idle_timer(), self.shutdown())
     }
 
@@ -289,7 +290,8 @@ impl<C: Count> SlotTelemetry<C> {
             counts.ended.add(1);
         }
         if let Some(peer) = self.peer.take() {
-            self.reporter.tell(closed(peer, self.seat, commands, meter));
+            self.reporter
+                .report(closed(peer, self.seat, commands, meter));
         }
     }
 
@@ -356,29 +358,29 @@ impl<C: Count> AcceptorTelemetry<C> {
     pub fn failed(&mut self, fault: Option<i32>)
         ensures counted { IfSome self.old.counts
             (λ counts. C.was_added (shared_value counts).failed 1) }
-        ensures told { Tells self.old.reporter (NotAccepted fault) self.new.reporter }
+        ensures reported { Reported self.old.reporter (NotAccepted fault) self.new.reporter }
         ensures counts { self.new.counts ≡ self.old.counts }
     {
         if let Some(counts) = &self.counts {
             counts.failed.add(1);
         }
-        self.reporter.tell(ConnectionEvent::NotAccepted { fault });
+        self.reporter.report(ConnectionEvent::NotAccepted { fault });
     }
 
     /// Records that all slots are in use: further connections wait in the backlog.
     pub fn all_taken(&mut self)
-        ensures told { Tells self.old.reporter SeatsTaken self.new.reporter }
+        ensures reported { Reported self.old.reporter SeatsTaken self.new.reporter }
         ensures counts { self.new.counts ≡ self.old.counts }
     {
-        self.reporter.tell(ConnectionEvent::SeatsTaken);
+        self.reporter.report(ConnectionEvent::SeatsTaken);
     }
 
     /// Records that a slot is free again.
     pub fn one_free(&mut self)
-        ensures told { Tells self.old.reporter SeatFree self.new.reporter }
+        ensures reported { Reported self.old.reporter SeatFree self.new.reporter }
         ensures counts { self.new.counts ≡ self.old.counts }
     {
-        self.reporter.tell(ConnectionEvent::SeatFree);
+        self.reporter.report(ConnectionEvent::SeatFree);
     }
 }
 

@@ -5,6 +5,7 @@ pub mod Along
 pub mod Later
 pub mod Pieces
 pub mod Buffers
+pub mod OneLine
 pub mod Serving
 pub mod More
 pub mod Traces

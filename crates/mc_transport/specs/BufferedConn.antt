@@ -5,9 +5,11 @@ use Rattle.mc_wire.specs.Sink.{Sight, took, with_bytes}
 use Rattle.mc_ring.specs.Reply.{Shown}
 use Rattle.mc_conn.specs.declared.conn.Taken.TheVariants as took
 use Rattle.mc_conn.specs.Conn.{IsConn}
+use Rattle.mc_conn.specs.Conn as conn
 use Rattle.mc_conn.specs.History.{Taken}
 use Rattle.mc_conn.specs.Flow.{Flow, new_flow, waiting_text}
 use Rattle.mc_transport.specs.declared.buffered_conn.BufferedConn.{BufferedConn}
+use Rattle.mc_transport.specs.declared.buffered_conn.RestingLine.{RestingLine}
 use Rattle.mc_transport.specs.declared.buffered_conn.LineStep.{LineStep}
 use Rattle.mc_transport.specs.declared.buffered_conn.LineStep.TheVariants as stepped
 use Rattle.mc_transport.specs.Later.{text_in}
@@ -103,3 +105,24 @@ pub record MayGoOn (may_write : List ℕ → Type 0) (buffered_conn : BufferedCo
   pub conn_is : IsConn buffered_conn.conn flow
   pub unbroken : flow.broken ≡ false
   pub may : may_write (text_in buffered_conn.unwritten ++ waiting_text flow)
+
+-- The line holds nothing but these numbers: all its commands are answered, its replies are written, no byte of it is
+-- unread, and more are needed.
+pub record RestsAs (resting : RestingLine) (buffered_conn : BufferedConn) : Type 0 where
+  pub conn_rests : conn.RestsAs resting.conn buffered_conn.conn
+  pub none_unread : buffered_conn.seat.unread ≡ []
+  pub none_waits : text_in buffered_conn.unwritten ≡ []
+  pub counted : buffered_conn.commands ≡ resting.commands
+  pub stopped : buffered_conn.stop ≡ took.NeedMore
+
+-- The line holds nothing but its numbers.
+abbrev pub Rests : BufferedConn → Type 0
+Rests buffered_conn = (resting : RestingLine) × RestsAs resting buffered_conn
+
+-- These are the same line for all that contracts say, maybe in other memory.
+pub record AreOneLine (was now : BufferedConn) : Type 0 where
+  pub conn_is : (flow : Flow) → IsConn was.conn flow → IsConn now.conn flow
+  pub unread : now.seat.unread ≡ was.seat.unread
+  pub unwritten : text_in now.unwritten ≡ text_in was.unwritten
+  pub counted : now.commands ≡ was.commands
+  pub stopped : now.stop ≡ was.stop

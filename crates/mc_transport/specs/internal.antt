@@ -1,3 +1,4 @@
 pub mod Stands
 pub mod Steps
 pub mod Reading
+pub mod Resting

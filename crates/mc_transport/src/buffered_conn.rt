@@ -1,13 +1,13 @@
 //! Serves one line: once the commands taken are answered, their replies are written, more is read,
 //! and more commands are taken.
-ghost use Rattle.std.specs.Prelude.{◌≡◌, ◌↔◌, IfOk, IsTrue};
+ghost use Rattle.std.specs.Prelude.{◌≡◌, ◌↔◌, IfOk, IfSome, IsTrue};
 ghost use Rattle.mc_sizes.specs.Sizes.{SuitLines, rules_of};
 
 use crate::buffer_pool::BufferPool;
 use crate::read_side::{AfterTurn, ReadSide};
 use crate::transport::{Clock, Taking, Transport};
 use crate::write_buffer::WriteBuffer;
-use mc_conn::{Conn, Taken};
+use mc_conn::{Conn, RestingConn, Taken};
 use mc_sizes::Sizes;
 use std::alloc::{AllocError, Global};
 
@@ -46,6 +46,15 @@ pub struct BufferedConn {
     stop: Taken,
 }
 
+/// The numbers of a line that holds nothing else: all its commands are answered, its replies are
+/// written, and no byte of it is unread. They take no memory.
+#[derive(Drop)]
+pub struct RestingLine {
+    conn: RestingConn,
+    /// Number of commands taken.
+    commands: u64,
+}
+
 impl Drop for BufferedConn {
     /// By hand, so that to drop one is one call for its holder (docs/DECISIONS.md).
     fn drop(self) {
@@ -64,7 +73,7 @@ impl BufferedConn {
     ghost use Rattle.mc_conn.specs.Conn.{IfConn};
     ghost use Rattle.mc_conn.specs.Shutdown.{asks_shutdown};
     ghost use Rattle.mc_conn.specs.Flow.{IsAtRest, IsOver};
-    ghost use Rattle.mc_transport.specs.BufferedConn.{GoOnSays, IsNew, MayGoOn, TakesFor, WaitsForLine};
+    ghost use Rattle.mc_transport.specs.BufferedConn.{GoOnSays, IsNew, MayGoOn, TakesFor, RestsAs, WaitsForLine};
     ghost use Rattle.mc_transport.specs.internal.Reading.{ReadingSays};
 
     /// For a line of which nothing was read. Allocates what the open commands and small replies
@@ -204,6 +213,39 @@ impl BufferedConn {
         self.seat.renew();
         self.unwritten.clear();
         self.commands = 0;
+        self.stop = Taken::NeedMore;
         self.conn.renew()
+    }
+
+    /// The numbers of the line, if nothing else is to be kept, and it waits for bytes.
+    #[inline(always)]
+    pub(crate) fn at_rest(&self) -> Option<RestingLine>
+        ensures rests { IfSome result (λ resting. RestsAs resting self.now) }
+        ensures goes_on { IfSome result (λ _. IfConn self.now.conn (λ flow. ¬ IsOver flow)) }
+    {
+        let Taken::NeedMore = self.stop else {
+            return None;
+        };
+        if !self.seat.is_empty() || !self.unwritten.is_blank() {
+            return None;
+        }
+        Some(RestingLine {
+            conn: self.conn.at_rest()?,
+            commands: self.commands,
+        })
+    }
+
+    /// Becomes the line that rested, and returns whether it did: only if it is at rest itself, and
+    /// is for lines of the same limits.
+    #[inline(always)]
+    pub(crate) fn resume(&mut self, resting: &RestingLine) -> bool
+        ensures { IsTrue result → RestsAs resting.now self.new }
+    {
+        if !self.seat.is_empty() || !self.unwritten.is_blank() || !self.conn.resume(&resting.conn) {
+            return false;
+        }
+        self.commands = resting.commands;
+        self.stop = Taken::NeedMore;
+        true
     }
 }

@@ -1,5 +1,5 @@
 //! How a seat reads its line: once the replies to the commands taken are written.
-ghost use Rattle.std.specs.Prelude.{◌≡◌, []};
+ghost use Rattle.std.specs.Prelude.{◌≡◌, [], IsTrue};
 
 use crate::buffer_pool::BufferPool;
 use crate::read_buffer::{ReadBuffer, Refilled};
@@ -36,6 +36,13 @@ impl ReadSide {
         ReadSide {
             unread: ReadBuffer::new(alloc),
         }
+    }
+
+    /// Whether there are none.
+    pub(crate) fn is_empty(&self) -> bool
+        ensures { IsTrue result → self.now.unread ≡ [] }
+    {
+        self.unread.is_empty()
     }
 
     /// Drops the bytes of the last line.

@@ -1,18 +1,17 @@
 //! Replies that are due and that their line has not taken yet.
-ghost use Rattle.std.specs.Prelude.{◌≡◌, ◌<◌, ◌≤◌, ◌++◌, [], false, IfOk, IsTrue, OnErr, OnOk, drop, length, take};
-ghost use Rattle.std.specs.Arc.{arc_slice_items};
+ghost use Rattle.std.specs.Prelude.{◌≡◌, ◌<◌, ◌≤◌, ◌^◌, ◌++◌, [], false, IfOk, IsTrue, OnErr, OnOk, drop, length, take};
 ghost use Rattle.mc_wire.specs.Sink.{Listed, broke, sight_out, took};
 ghost use Rattle.mc_transport.specs.Lines.{HasGrown, TakesFront};
 ghost use Rattle.mc_transport.specs.Chunks.{bytes_of};
 
 use crate::buffer_pool::BufferPool;
 use crate::transport::Transport;
+use bytes::Bytes;
 use mc_wire::{Sink, SinkError};
 use std::alloc::{AllocError, Global};
 use std::collections::VecDeque;
 use std::io::IoSlice;
 use std::mem;
-use std::sync::ArcSlice;
 
 /// The largest buffer of text that a thread keeps for later replies, in bytes; a larger one is
 /// freed. It holds the replies to a full window of commands, unless these are longer than most.
@@ -31,7 +30,7 @@ pub enum Chunk {
     /// Text that was copied.
     Text(Vec<u8>),
     /// A block that has other owners too.
-    Shared(ArcSlice<u8>),
+    Shared(Bytes),
 }
 
 impl Chunk {
@@ -122,7 +121,8 @@ impl WriteBuffer {
 
     /// What is left of the front.
     fn rest(&self) -> &[u8]
-        ensures { result.now ≡ drop self.now.sent (bytes_of self.now.front) }
+        ensures left { result.now ≡ drop self.now.sent (bytes_of self.now.front) }
+        ensures fits { length (bytes_of self.now.front) < 2 ^ 64 }
     {
         self.front.bytes().split_at(self.sent).1
     }
@@ -136,6 +136,13 @@ impl WriteBuffer {
             return false;
         }
         self.rest().is_empty()
+    }
+
+    /// Whether no reply waits, and none was refused memory.
+    pub(crate) fn is_blank(&self) -> bool
+        ensures { IsTrue result → text_in self.now ≡ [] }
+    {
+        self.at_tail() && self.tail.is_empty() && !self.refused
     }
 
     /// Whether the line has to take some of them at once.
@@ -263,9 +270,9 @@ impl WriteBuffer {
 
     /// The block waits too, behind the rest, and isn't copied. Where memory is refused, the rest
     /// waits as before.
-    fn add_shared(&mut self, block: &ArcSlice<u8>) -> Result<(), AllocError>
+    fn add_shared(&mut self, block: &Bytes) -> Result<(), AllocError>
         ensures ok { OnOk result
-            (text_in self.new ≡ text_in self.old ++ arc_slice_items block.now) }
+            (text_in self.new ≡ text_in self.old ++ block.now) }
         ensures err { OnErr result (text_in self.new ≡ text_in self.old) }
         ensures refused { self.new.refused ≡ self.old.refused }
     {
@@ -346,7 +353,7 @@ impl Sink for WriteBuffer {
         Ok(bytes.len())
     }
 
-    fn put_shared(&mut self, block: &ArcSlice<u8>) -> Result<(), SinkError> {
+    fn put_shared(&mut self, block: &Bytes) -> Result<(), SinkError> {
         if self.refused || self.add_shared(block).is_err() {
             self.refused = true;
             return Err(SinkError);

@@ -1,11 +1,10 @@
 //! Sinks for replies, and writing whole texts to them.
 ghost use Rattle.std.specs.Prelude.{◌≡◌, ◌<◌, ◌≤◌, OnErr, IfOk, length, take};
-ghost use Rattle.std.specs.Arc.{arc_slice_items};
 ghost use Rattle.std.specs.List.{flat_map};
 ghost use Rattle.mc_wire.specs.Sink.{Sight, Writes, broke, took};
 
 use crate::error::SinkError;
-use std::sync::ArcSlice;
+use bytes::Bytes;
 
 /// A sink for replies: a socket, a stream or memory.
 pub trait Sink {
@@ -24,8 +23,8 @@ pub trait Sink {
 
     /// Writes all bytes of a shared block, like `write_all`. A sink that keeps its bytes may keep
     /// a reference to the block instead of a copy.
-    fn put_shared(&mut self, block: &ArcSlice<u8>) -> Result<(), SinkError>
-        ensures { Writes (arc_slice_items block.now) result (sight self.old) (sight self.new) }
+    fn put_shared(&mut self, block: &Bytes) -> Result<(), SinkError>
+        ensures { Writes block.now result (sight self.old) (sight self.new) }
     {
         let mut left = block.as_slice();
         while !left.is_empty() {

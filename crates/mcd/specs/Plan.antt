@@ -13,7 +13,7 @@ memory_of sizes = held (sizes.shards * sizes.bytes)
 
 -- at the start: 4 MiB, and for each seat 2.25 KiB and 6 KiB for each shard
 abbrev pub bytes_at_start : Sizes → ℕ
-bytes_at_start sizes = held (4194304 + held (sizes.seats * held (2304 + held (sizes.shards * 6144))))
+bytes_at_start sizes = held (4194304 + held (sizes.seats * held (2304 + held (sizes.shards * 6912))))
 
 -- with an open connection on each seat: 16 KiB each
 abbrev pub bytes_connected : Sizes → ℕ

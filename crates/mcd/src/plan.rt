@@ -71,7 +71,7 @@ pub fn memory_of(sizes: &Sizes) -> u64
 fn bytes_at_start(sizes: &Sizes) -> u64
     ensures { result ≡ bytes_at_start sizes.now }
 {
-    let channels = (sizes.shards as u64).saturating_mul(6_144);
+    let channels = (sizes.shards as u64).saturating_mul(6_912);
     let seat = 2_304_u64.saturating_add(channels);
     4_194_304_u64.saturating_add((sizes.seats as u64).saturating_mul(seat))
 }

@@ -84,7 +84,10 @@ impl Shard {
         if is_other(asked.compare, item.unique) {
             return Err(Answer::Exists);
         }
-        let Some(number) = item.number() else {
+        let Ok(Some(value)) = self.items.value(&asked.key) else {
+            return Err(Answer::NoMemory);
+        };
+        let Some(number) = value.number() else {
             return Err(Answer::NonNumeric);
         };
         let number = counted(asked.direction, number, asked.amount);

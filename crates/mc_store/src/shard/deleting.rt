@@ -5,7 +5,8 @@ ghost use Rattle.mc_item.specs.Kind.{is_lawful};
 ghost use Rattle.mc_item.specs.declared.op.Op.TheVariants as op;
 ghost use Rattle.mc_store.specs.Step.{coming};
 
-use crate::items::{Staling, is_other};
+use crate::item_cache::Staling;
+use crate::items::is_other;
 use crate::shard::Shard;
 use mc_command::MetaRemoval;
 use mc_item::{Answer, Expiry, Kind, expiry};

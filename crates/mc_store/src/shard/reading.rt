@@ -6,6 +6,7 @@ ghost use Rattle.mc_store.specs.Rows.{hit_of, marks_of};
 ghost use Rattle.mc_wire.specs.declared.TheConstants.{LATEST_MOMENT};
 
 use crate::access::{Access, FetchKind, Use, expiry_from, is_won};
+use crate::fields::Fields;
 use crate::shard::Shard;
 use mc_command::MetaFetch;
 use mc_item::{Answer, Item, Kind, Marks, MetaHit, PackedExpiry, Value};
@@ -16,7 +17,7 @@ fn marks_of(item: &Item, recache: Option<i64>, time: u64) -> Marks
     ensures { result ≡ marks_of item.now recache time }
 {
     Marks {
-        won: is_won(item, recache, time),
+        won: is_won(&Fields::of(item), recache, time),
         stale: item.stale,
         sent: item.sent,
     }

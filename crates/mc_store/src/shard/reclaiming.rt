@@ -6,9 +6,10 @@ ghost use Rattle.mc_item.specs.declared.item.Item.{Item as TheItem};
 ghost use Rattle.mc_item.specs.Expiry.{is_dead};
 ghost use Rattle.mc_store.specs.internal.Found.{turn_of};
 
+use crate::fields::Fields;
 use crate::items::is_other;
 use crate::shard::Shard;
-use mc_item::{Expiry, Item, PackedExpiry};
+use mc_item::{Expiry, PackedExpiry};
 use mc_wire::Key;
 use std::alloc::AllocError;
 use std::collections::VecDeque;
@@ -39,7 +40,7 @@ pub(super) fn make_turn(
 
 /// Whether the item is removed: it is dead, and it isn't the one that enters, which has the unique
 /// `entering`.
-fn is_reclaimed(item: &Item, entering: u64, time: u64) -> bool
+fn is_reclaimed(item: &Fields, entering: u64, time: u64) -> bool
     ensures { result ≡ (is_dead item.now.expiry time && not (item.now.unique == entering)) }
 {
     item.is_dead(time) && item.unique != entering
@@ -97,7 +98,7 @@ impl Shard {
         if is_other(Some(unique), item.unique) {
             return;
         }
-        if is_reclaimed(item, entering, self.time) {
+        if is_reclaimed(&item, entering, self.time) {
             self.op_stats.count_reclaimed(item.fetched);
             self.items.remove(&key);
             return;

@@ -118,11 +118,14 @@ impl Shard {
         let Some(after) = joining(asked.mode) else {
             return self.store_asked(asked);
         };
-        let size = item.value.len() + asked.value.len();
+        let Ok(Some(old)) = self.items.value(&asked.key) else {
+            return Err(Answer::NoMemory);
+        };
+        let size = old.len() + asked.value.len();
         if self.is_too_large(&asked.key, size) {
             return Err(Answer::TooLarge);
         }
-        let Ok(value) = item.joined(alloc, &asked.value, after) else {
+        let Ok(value) = old.joined(alloc, &asked.value, after) else {
             return Err(Answer::NoMemory);
         };
         let joined = fresh_item(value, item.flags, item.expiry);

@@ -58,8 +58,9 @@ returns-in-Ended g c shards rules sat stands =
     c.in-Out.line c.match-ready.line c.in-Out.begun c.in-Out.is place line stands in
     rw c.end.ensures.free
     (serves_another shards rules may_answer sat _ _ _ _ _ _ _ _ c.end.ensures.renewed.0 c.args.self.now.session
-    c.step.new.self c.end.new.self.session tt (λ begin before. c.in-Ended.ensures.says shards rules begin before)
-    c.end.ensures.flow c.end.ensures.renewed.1 c.step.ensures.line c.end.ensures.renewed.1.history
+    c.step.new.self c.end.new.self.session tt
+    (λ begin before. rw c.in-Ended.is at (c.in-Ok.ensures.says shards rules begin before))
+    c.end.ensures.flow c.end.ensures.renewed.1 c.in-Ok.ensures.line c.end.ensures.renewed.1.history
     (rw c.if-not-begun.false at out))
 
 pub returns-in-Did : goal.returns-in-Did
@@ -81,7 +82,7 @@ returns-in-Did g c shards rules sat stands =
     c.in-Out.line c.match-ready.line c.in-Out.begun c.in-Out.is place line stands in
     rw c.if-not-begun.false
     (serves_on shards rules may_answer sat _ _ _ _ _ c.args.self.now.session c.step.new.self
-    (λ begin before. c.in-Did.ensures.says shards rules begin before) c.step.ensures.line
+    (λ begin before. rw c.in-Did.is at (c.in-Ok.ensures.says shards rules begin before)) c.in-Ok.ensures.line
     (rw c.if-not-begun.false at out))
 
 pub returns-in-Waits : goal.returns-in-Waits
@@ -103,5 +104,5 @@ returns-in-Waits g c shards rules sat stands =
     c.in-Out.line c.match-ready.line c.in-Out.begun c.in-Out.is place line stands in
     rw c.if-not-begun.false
     (serves_on shards rules may_answer sat _ _ _ _ _ c.args.self.now.session c.step.new.self
-    (λ begin before. c.in-Waits.ensures.says shards rules begin before) c.step.ensures.line
+    (λ begin before. rw c.in-Waits.is at (c.in-Ok.ensures.says shards rules begin before)) c.in-Ok.ensures.line
     (rw c.if-not-begun.false at out))

@@ -8,7 +8,7 @@ pub returns-clause-vacant : goal.returns-clause-vacant
 returns-clause-vacant g c =
     let made = c.in_ok-shard_link.ensures in
     record {
-      ready = (rw made.ends (sym c.requires.width), refl, refl);
+      ready = rw c.new-buffered_conn.ensures (rw made.ends (sym c.requires.width), refl, refl);
       idle = made.idle;
       recorded = rw (made.clerk, made.ends) c.requires.past;
     }

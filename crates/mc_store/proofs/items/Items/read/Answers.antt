@@ -9,7 +9,7 @@ pub returns-in_default-clause-read : goal.returns-in_default-clause-read
 returns-in_default-clause-read c =
     let shelf : Shelf = record {
       entries = c.self.inside.cache.entries;
-      budget = c.self.inside.budget;
+      budget = c.self.inside.cache.budget;
       evicted = c.self.inside.evicted;
     } in
     rw (c.read_item.ensures.none (sym c.in_default.ensures.found), ← c.self.view_is)
@@ -19,14 +19,14 @@ pub invariant_of-self-then-is_dead : goal.invariant_of-self-then-is_dead
 invariant_of-self-then-is_dead c =
     let found = sym c.in-Some.ensures.found in
     rw (c.read_item.ensures.read c.in-Some.item found)
-    (counted_first c.self.inside.cache.entries c.self.inside.cache.cap c.self.inside.cost c.self.inside.budget
+    (counted_first c.self.inside.cache.entries c.self.inside.cache.cap c.self.inside.cost c.self.inside.cache.budget
     c.args.key.now c.in-Some.item (read_item c.args.access c.in-Some.item) c.self.invariant found refl)
 
 pub returns-then-is_dead-clause-read : goal.returns-then-is_dead-clause-read
 returns-then-is_dead-clause-read c =
     let shelf : Shelf = record {
       entries = c.self.inside.cache.entries;
-      budget = c.self.inside.budget;
+      budget = c.self.inside.cache.budget;
       evicted = c.self.inside.evicted;
     } in
     rw (c.remove_read.ensures, c.read_item.ensures.read c.in-Some.item (sym c.in-Some.ensures.found), ← c.self.view_is)
@@ -37,5 +37,5 @@ pub invariant_of-self-else-is_dead : goal.invariant_of-self-else-is_dead
 invariant_of-self-else-is_dead c =
     let found = sym c.in-Some.ensures.found in
     rw (c.read_item.ensures.read c.in-Some.item found)
-    (counted_first c.self.inside.cache.entries c.self.inside.cache.cap c.self.inside.cost c.self.inside.budget
+    (counted_first c.self.inside.cache.entries c.self.inside.cache.cap c.self.inside.cost c.self.inside.cache.budget
     c.args.key.now c.in-Some.item (read_item c.args.access c.in-Some.item) c.self.invariant found refl)

@@ -10,6 +10,8 @@ use Rattle.mc_store.proofs.Writes.{along}
 use Rattle.mc_store.proofs.Outcomes.{lacks_as}
 use Rattle.mc_store.proofs.Stores.{fresh_of, set_is, store_misses, add_refused, store_exists, replaced_is, joined_large}
 use Rattle.mc_store.proofs.Stores.{joined_as}
+use Rattle.mc_store.specs.internal.Stored.{item_with}
+use Rattle.mc_store.proofs.WithoutValue.{found, live_with, none_found}
 use Rattle.mc_store.proofs.shard.Shard.store.Goals as goal
 
 pub returns-then-is_unconditional-clause-does : goal.returns-then-is_unconditional-clause-does
@@ -28,53 +30,78 @@ returns-in_default-clause-does c = λ reply state h.
     let settled = without_dead state (Some c.args.asked.key) in
     along settled (absent_store settled asked reply asked.mode asked.compare)
     (store_step settled asked reply (get settled.items c.args.asked.key)) (answered reply c.store_absent.result)
-    (held_of c.store_absent.new.self) (store_misses (held_of c.args.self.now) state asked reply h c.in_default.ensures)
+    (held_of c.store_absent.new.self) (store_misses (held_of c.args.self.now) state asked reply h
+    (none_found _ c.in_default.ensures))
     (c.store_absent.ensures.does reply state h)
 
 pub returns-in-Add-clause-does : goal.returns-in-Add-clause-does
 unfolding IsShard
 returns-in-Add-clause-does c = λ reply state h.
-    let there = (live_item c.args.self.now.time _ c.in-Some.item.now c.in-Some.ensures).0 in
-    rw (c.promote.ensures c.in-Some.item.now there)
-    (add_refused (held_of c.args.self.now) state c.in-Some.item.now c.args.asked reply h c.in-Some.ensures c.in-Add.is)
+    let old = found _ c.in-Some.item c.in-Some.ensures in
+    let item = item_with c.in-Some.item old.value in
+    let there = (live_item c.args.self.now.time _ item old.is).0 in
+    rw (c.promote.ensures item there)
+    (add_refused (held_of c.args.self.now) state item c.args.asked reply h old.is c.in-Add.is)
 
 pub returns-then-is_other-clause-does : goal.returns-then-is_other-clause-does
 unfolding IsShard
 returns-then-is_other-clause-does c = λ reply state h.
-    store_exists (held_of c.args.self.now) state c.in-Some.item.now
-    c.args.asked reply h c.in-Some.ensures c.in_default-mode.not-Add (sym c.if-is_other.ensures)
+    let old = found _ c.in-Some.item c.in-Some.ensures in
+    let item = item_with c.in-Some.item old.value in
+    store_exists (held_of c.args.self.now) state item
+    c.args.asked reply h old.is c.in_default-mode.not-Add (sym c.if-is_other.ensures)
 
 pub returns-in_default-joining-clause-does : goal.returns-in_default-joining-clause-does
 unfolding IsShard
 returns-in_default-joining-clause-does c = λ reply state h.
+    let old = found _ c.in-Some.item c.in-Some.ensures in
+    let item = item_with c.in-Some.item old.value in
     let asked = c.args.asked in
     let settled = without_dead state (Some c.args.asked.key) in
     along settled (stores settled asked reply) (store_step settled asked reply (get settled.items c.args.asked.key))
     (answered reply c.store_asked-in_default-joining.result) (held_of c.store_asked-in_default-joining.new.self)
-    (replaced_is (held_of c.args.self.now) state c.in-Some.item.now asked reply h
-    c.in-Some.ensures c.in_default-mode.not-Add c.in_default-joining.ensures (sym c.if-is_other.ensures))
+    (replaced_is (held_of c.args.self.now) state item asked reply h
+    old.is c.in_default-mode.not-Add c.in_default-joining.ensures (sym c.if-is_other.ensures))
     (c.store_asked-in_default-joining.ensures.does reply state h)
+
+pub returns-in_default-value-clause-does : goal.returns-in_default-value-clause-does
+unfolding IsShard
+returns-in_default-value-clause-does c = λ reply state h.
+    let old = found _ c.in-Some.item c.in-Some.ensures in
+    let item = item_with c.in-Some.item old.value in
+    rw c.value.ensures.unchanged
+    (lacks_as (held_of c.args.self.now) state c.args.asked.key item _ h old.is)
 
 pub returns-then-is_too_large-clause-does : goal.returns-then-is_too_large-clause-does
 unfolding IsShard
 returns-then-is_too_large-clause-does c = λ reply state h.
-    joined_large (held_of c.args.self.now) state c.in-Some.item.now
-    c.args.asked reply c.in-Some-joining.after h c.in-Some.ensures c.in-Some-joining.ensures (sym c.if-is_other.ensures)
+    let item = item_with c.in-Some.item c.in-Ok-Some.old in
+    let is = live_with c.args.self.now.time _ c.in-Some.item c.in-Ok-Some.old c.in-Some.ensures
+    (sym c.in-Ok-Some.field-0-is ∙ c.in-Ok-Some.ensures.value) in
+    let test = rw c.value.ensures.unchanged at c.is_too_large.ensures in
+    rw c.value.ensures.unchanged
+    (joined_large (held_of c.args.self.now) state item
+    c.args.asked reply c.in-Some-joining.after h is c.in-Some-joining.ensures (sym c.if-is_other.ensures)
     (c.len.result + c.len-2.result) (rw (c.len.ensures.value, c.len-2.ensures.value))
-    (sym c.is_too_large.ensures ∙ c.if-is_too_large.true)
+    (sym test ∙ c.if-is_too_large.true))
 
 pub returns-in_default-joined-clause-does : goal.returns-in_default-joined-clause-does
 unfolding IsShard
-returns-in_default-joined-clause-does c =
-    λ reply state h. lacks_as (held_of c.args.self.now) state c.args.asked.key c.in-Some.item.now _ h c.in-Some.ensures
+returns-in_default-joined-clause-does c = λ reply state h.
+    let old = found _ c.in-Some.item c.in-Some.ensures in
+    let item = item_with c.in-Some.item old.value in
+    rw c.value.ensures.unchanged
+    (lacks_as (held_of c.args.self.now) state c.args.asked.key item _ h old.is)
 
 pub returns-clause-does : goal.returns-clause-does
 unfolding IsShard
 returns-clause-does c = λ reply state h.
-    let item = c.in-Some.item.now in
+    let item = item_with c.in-Some.item c.in-Ok-Some.old in
+    let is = live_with c.args.self.now.time _ c.in-Some.item c.in-Ok-Some.old c.in-Some.ensures
+    (sym c.in-Ok-Some.field-0-is ∙ c.in-Ok-Some.ensures.value) in
     let made : c.fresh_item-joined.result
     ≡ fresh_of (joined item.value c.args.asked.value c.in-Some-joining.after) item.flags item.expiry =
     rw (← c.in-Ok.ensures) c.fresh_item-joined.ensures in
     joined_as (held_of c.args.self.now) state item c.args.asked reply c.in-Some-joining.after c.fresh_item-joined.result
-    (answered reply c.write_value.result) (held_of c.write_value.new.self) h c.in-Some.ensures c.in-Some-joining.ensures
-    (sym c.if-is_other.ensures) made (c.write_value.ensures.does reply state h)
+    (answered reply c.write_value.result) (held_of c.write_value.new.self) h is c.in-Some-joining.ensures
+    (sym c.if-is_other.ensures) made (c.write_value.ensures.does reply state (rw c.value.ensures.unchanged h))

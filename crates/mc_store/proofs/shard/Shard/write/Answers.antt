@@ -53,7 +53,7 @@ pub returns-in_default-clause-refused : goal.returns-in_default-clause-refused
 returns-in_default-clause-refused c = inl refl
 
 pub put-requires : goal.put-requires
-put-requires c = c.requires
+put-requires c = record { time = c.args.self.now.timely; fits = c.requires.fits }
 
 pub invariant_of-self : goal.invariant_of-self
 invariant_of-self c =

@@ -139,7 +139,7 @@ loop-preserved g c = elim c.if-at_tail.branch [
   | else-at_tail+then-is_empty-2 w ↦
       let rest = drop c.loop.self.sent (bytes_of c.loop.self.front) in
       let now = g.L.Transport.sight c.loop.line in
-      let none : rest ≡ [] = nil_from_length rest (grind (arith, w.if-is_empty-2.ensures, w.rest.ensures)) in
+      let none : rest ≡ [] = nil_from_length rest (grind (arith, w.if-is_empty-2.ensures, w.rest.ensures.left)) in
       let same : text_in w.go_on.new.self ≡ text_in c.loop.self = w.go_on.ensures.text
       ∙ sym (ap (λ xs. xs ++ behind c.loop.self) none) in
       rw (w.self-is, w.line-is) (
@@ -162,7 +162,7 @@ pub returns-in_err-count-clause-some : goal.returns-in_err-count-clause-some
 returns-in_err-count-clause-some g c =
     let waits = c.loop.self in
     at_fault c.from_residual-in_err-count.result _ c.from_residual-in_err-count.ensures.0
-    (some_waits (drop waits.sent (bytes_of waits.front)) _ (behind waits) c.rest.ensures c.if-is_empty-2.ensures)
+    (some_waits (drop waits.sent (bytes_of waits.front)) _ (behind waits) c.rest.ensures.left c.if-is_empty-2.ensures)
 
 pub returns-in_err-wrote-clause-some : goal.returns-in_err-wrote-clause-some
 returns-in_err-wrote-clause-some g c =

@@ -11,7 +11,7 @@ returns-clause-within g c =
     let offered = io_slices_bytes (c.new.result ∷ c.new-2.result ∷ c.new-3.result ∷ c.new-4.result ∷ []) in
     offer_within c.write_vectored_if_ready.result (text_in waits) offered
     (first_offered _ waits.later.items waits.tail.items c.new.result c.new-2.result c.new-3.result c.new-4.result
-    (c.new.ensures ∙ c.rest.ensures) (c.new-2.ensures ∙ c.piece.ensures) (c.new-3.ensures ∙ c.piece-2.ensures)
+    (c.new.ensures ∙ c.rest.ensures.left) (c.new-2.ensures ∙ c.piece.ensures) (c.new-3.ensures ∙ c.piece-2.ensures)
     (c.new-4.ensures ∙ c.piece-3.ensures))
     c.write_vectored_if_ready.ensures.within
 
@@ -22,7 +22,7 @@ returns-clause-ok g c =
     offer_ok c.write_vectored_if_ready.result (text_in waits) offered (g.L.Transport.sight c.args.line.now)
     (g.L.Transport.sight c.write_vectored_if_ready.new.self)
     (first_offered _ waits.later.items waits.tail.items c.new.result c.new-2.result c.new-3.result c.new-4.result
-    (c.new.ensures ∙ c.rest.ensures) (c.new-2.ensures ∙ c.piece.ensures) (c.new-3.ensures ∙ c.piece-2.ensures)
+    (c.new.ensures ∙ c.rest.ensures.left) (c.new-2.ensures ∙ c.piece.ensures) (c.new-3.ensures ∙ c.piece-2.ensures)
     (c.new-4.ensures ∙ c.piece-3.ensures))
     c.write_vectored_if_ready.ensures.within c.write_vectored_if_ready.ensures.ok
 
@@ -33,7 +33,7 @@ write_vectored_if_ready-requires g c =
     let place = g.L.Transport.place c.args.line.now in
     let now = g.L.Transport.sight c.args.line.now in
     let offered = begins_offered _ waits.later.items waits.tail.items c.new.result c.new-2.result c.new-3.result
-    c.new-4.result (c.new.ensures ∙ c.rest.ensures) (c.new-2.ensures ∙ c.piece.ensures)
+    c.new-4.result (c.new.ensures ∙ c.rest.ensures.left) (c.new-2.ensures ∙ c.piece.ensures)
     (c.new-3.ensures ∙ c.piece-2.ensures) (c.new-4.ensures ∙ c.piece-3.ensures) in
     record {
       may = W.front place now _ offered.rest c.args.seen.now

@@ -9,4 +9,4 @@ pub returns : goal.returns
 returns c = λ some.
     let waits = c.args.self.now in
     some_waits (drop waits.sent (bytes_of waits.front)) _ (behind waits)
-    c.rest.ensures (not_empty _ _ c.is_empty.ensures some)
+    c.rest.ensures.left (not_empty _ _ c.is_empty.ensures some)

@@ -1,6 +1,5 @@
 -- Each write takes a further piece of the block.
 use Rattle.std.proofs.Common.{sym, ◌+◌, ◌∙◌, ap, drop, length, arith, length-drop}
-use Rattle.std.specs.Arc.{arc_slice_items}
 use Rattle.std.proofs.lemmas.List.{drop-drop}
 use Rattle.mc_wire.proofs.Sinks.{breaks, took-nil, took_more}
 use Rattle.mc_wire.specs.Sink.{broke}
@@ -9,7 +8,7 @@ use Rattle.mc_wire.proofs.sink.Sink.put_shared.Goals as goal
 pub loop-left-init : goal.loop-left-init
 loop-left-init g c = (
   record { count = 0; within = omega arith; sight = sym (took-nil (g.Self.Sink.sight c.args.self.now)) },
-  c.as_slice-left.ensures.value,
+  c.as_slice-left.ensures,
 )
 
 pub loop-left-preserved : goal.loop-left-preserved
@@ -17,7 +16,7 @@ loop-left-preserved g c =
     let front = c.loop-left.invariant.0 in
     let left = c.loop-left.invariant.1 in
     let count = c.in_ok-count.count in
-    let block = arc_slice_items c.args.block.now in
+    let block = c.args.block.now in
     let within = c.in_ok-count.ensures.within in (
       record {
         count = front.count + count;
