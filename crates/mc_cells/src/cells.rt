@@ -1,15 +1,17 @@
 //! The values of a shard.
 ghost use Rattle.std.specs.Prelude.{◌≡◌, ◌+◌, ◌<◌, ◌≤◌, ◌^◌, List, [], ◌∷◌, ◌++◌, ℕ, length, vec_len, vec_capacity, IsOk, IfOk, OnOk, OnErr};
 ghost use Rattle.std.specs.List.{sum_by};
+ghost use Rattle.mc_cells.specs.declared.TheConstants.{PAGE_BYTES};
 ghost use Rattle.mc_cells.specs.Kept.{KeptValue, cells_of, slots_of};
 ghost use Rattle.mc_cells.specs.Contents.{AreKept, HasRoom, HasValue, value_at, with_room};
 
 use crate::chain::{keep_chain, piece_count, remove_chain};
 use crate::page::{append_short, read_short};
+use crate::pages::ValuePages;
 use crate::place::Place;
 use crate::pool::CellPool;
-use crate::{CELL_BYTES, LONG_VALUE};
-use bytes::{Bytes, BytesMut};
+use crate::{CELL_BYTES, LONG_VALUE, PAGE_BYTES};
+use bytes::Bytes;
 use slab::Slab;
 use std::alloc::{AllocError, Global};
 use std::marker::Model;
@@ -25,23 +27,22 @@ const MAX_LONG: usize = 33_554_432;
 /// A short value is kept in a chain of cells of one size, a long one by itself. A place that is
 /// given back is used again, whatever its value's length was.
 pub struct Cells {
-    alloc: Global,
     /// Pieces of short values.
     cells: CellPool,
     /// Long values.
     long: Slab<Bytes>,
-    /// The bytes of short values that are read are cut off it.
-    page: BytesMut,
+    /// The bytes of short values that are read are cut from them.
+    pages: ValuePages,
+    ghost size: { pages.size ≡ PAGE_BYTES },
 }
 
 impl Drop for Cells {
     /// Written by hand, so that its owners drop it by a single call (docs/DECISIONS.md, F20).
     fn drop(self) {
         let Cells {
-            alloc: _,
             cells: _cells,
             long: _long,
-            page: _page,
+            pages: _pages,
         } = self;
     }
 }
@@ -66,10 +67,9 @@ impl Cells {
         ensures { AreKept result [] }
     {
         Cells {
-            alloc,
             cells: CellPool::new(alloc),
             long: Slab::new(alloc),
-            page: BytesMut::new(alloc),
+            pages: ValuePages::new(alloc, PAGE_BYTES),
         }
     }
 
@@ -140,7 +140,7 @@ impl Cells {
         })
     }
 
-    /// The value at a place. A short one is cut off a page that many values share, a long one is
+    /// The value at a place. A short one is cut from a page that many values share, a long one is
     /// shared, and one without bytes takes no memory. Fails if memory is refused; the values stay
     /// as they are.
     #[inline(always)]
@@ -157,7 +157,7 @@ impl Cells {
         if len >= LONG_VALUE {
             return self.long[place.first as usize].clone();
         }
-        read_short(&self.cells, place.first, len, &mut self.page, self.alloc)
+        read_short(&self.cells, place.first, len, &mut self.pages)
     }
 
     /// Appends the value at a place. If memory is refused, nothing is appended. With room for the

@@ -1,15 +1,13 @@
-//! Reads of short values. Their bytes are cut off a page that many of them share.
-ghost use Rattle.std.specs.Prelude.{◌≡◌, ◌+◌, ◌*◌, ◌<◌, ◌≤◌, [], ◌++◌, length, take, vec_len, vec_capacity, IsOk, IfOk, OnOk, OnErr};
+//! Reads of short values. Their bytes are cut from a page that many of them share.
+ghost use Rattle.std.specs.Prelude.{◌≡◌, ◌+◌, ◌*◌, ◌<◌, ◌≤◌, ◌++◌, length, take, vec_len, vec_capacity, IsOk, IfOk, OnOk, OnErr};
 ghost use Rattle.mc_cells.specs.Chain.{pieces, IsChain, chain_bytes};
 
 use crate::chain::piece_count;
+use crate::pages::ValuePages;
 use crate::pool::CellPool;
-use crate::{CELL_BYTES, LONG_VALUE};
+use crate::{CELL_BYTES, LONG_VALUE, PAGE_BYTES};
 use bytes::{Bytes, BytesMut};
-use std::alloc::{AllocError, Global};
-
-/// Size of a page in bytes.
-const PAGE_BYTES: usize = 32_768;
+use std::alloc::AllocError;
 
 /// Appends the bytes of a chain's cells to a page. Each copy is of one size that is known ahead.
 fn read_chain(cells: &CellPool, first: u32, count: usize, page: &mut BytesMut)
@@ -29,36 +27,24 @@ fn read_chain(cells: &CellPool, first: u32, count: usize, page: &mut BytesMut)
     }
 }
 
-/// Makes a page empty, with room for `len` bytes: it is used again if no value shares it any more,
-/// else another is allocated.
-fn make_room(page: &mut BytesMut, len: usize, alloc: Global) -> Result<(), AllocError>
-    requires { len ≤ PAGE_BYTES }
-    ensures empty { OnOk result (page.new.items ≡ []) }
-    ensures room { OnOk result (len ≤ page.new.spare) }
-{
-    page.clear();
-    if page.capacity() < len && !page.try_reclaim(len) {
-        *page = BytesMut::with_capacity(alloc, PAGE_BYTES)?;
-    }
-    Ok(())
-}
-
 /// The value of a chain of cells, cut off the page. Whole cells are copied, and then what the last
 /// has behind the value is cut off.
 pub(crate) fn read_short(
     cells: &CellPool,
     first: u32,
     len: usize,
-    page: &mut BytesMut,
-    alloc: Global,
+    pages: &mut ValuePages,
 ) -> Result<Bytes, AllocError>
     requires short { len < LONG_VALUE }
+    requires size { pages.old.size ≡ PAGE_BYTES }
     requires chain { IsChain cells.now.slots (pieces len) first }
-    ensures { IfOk result (λ value.
+    ensures value { IfOk result (λ value.
         value ≡ take len (chain_bytes cells.now.slots (pieces len) first)) }
+    ensures size { pages.new.size ≡ PAGE_BYTES }
 {
     let count = piece_count(len);
-    make_room(page, count * CELL_BYTES, alloc)?;
+    pages.make_room(count * CELL_BYTES)?;
+    let page = &mut pages.current;
     read_chain(cells, first, count, page);
     page.truncate(len);
     page.freeze_to(len)

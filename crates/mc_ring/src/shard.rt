@@ -145,6 +145,7 @@ impl<T: Token + Drop> ShardEnds<T> {
 
     /// Takes the request of a seat that has waited longest, if one waits, with the token that
     /// allows it there. Allocates nothing.
+    #[inline(always)]
     pub fn take_with(&mut self, seat: usize) -> Option<(Request, T)>
         requires { seat < length self.old.channels }
         ensures channel { AtChannel (Receives (λ got. got.0) result) seat self.old self.new }

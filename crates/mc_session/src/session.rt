@@ -130,7 +130,7 @@ impl<T: Warrant + Drop, C: Clerk<T> + Drop> Session<T, C> {
         if self.buffered_conn.is_unused() {
             return new_buffers(self.alloc, self.sizes, pool);
         }
-        let Some(buffered_conn) = self.buffered_conn.take(self.alloc, self.sizes, pool) else {
+        let Some(buffered_conn) = self.buffered_conn.take(self.alloc, &self.sizes, pool) else {
             return Err(AllocError);
         };
         Ok(buffered_conn)
@@ -171,7 +171,7 @@ impl<T: Warrant + Drop, C: Clerk<T> + Drop> Session<T, C> {
         ensures ring { seat_ring self.new ≡ seat_ring self.old }
         ensures history { session_history self.new ≡ session_history self.old }
     {
-        let Some(mut buffered_conn) = self.buffered_conn.take(self.alloc, self.sizes, pool) else {
+        let Some(mut buffered_conn) = self.buffered_conn.take(self.alloc, &self.sizes, pool) else {
             return Err(AllocError);
         };
         let step = self.shard_link.step(&mut *buffered_conn, line, clock, pool);

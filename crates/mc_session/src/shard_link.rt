@@ -142,6 +142,7 @@ impl<T: Warrant + Drop, C: Clerk<T> + Drop> ShardLink<T, C> {
     }
 
     /// Sends pieces while there is room, and calls the shards.
+    #[inline(always)]
     fn send_all(&mut self, conn: &mut Conn)
         requires { CanCarry self.old conn.old }
         ensures goes { ShardLinkGoesOn (AllOutWhere (self.new.blocked ≡ false)) self.old conn.old
@@ -179,7 +180,9 @@ impl<T: Warrant + Drop, C: Clerk<T> + Drop> ShardLink<T, C> {
         self.send_piece(conn)
     }
 
-    /// Sends the next piece, as `send_next` does.
+    /// Sends the next piece, as `send_next` does. It is kept out of line: the compiler fills its
+    /// locals with zeros at the beginning of the function that has them.
+    #[inline(never)]
     fn send_piece(&mut self, conn: &mut Conn) -> bool
         requires { CanCarry self.old conn.old }
         ensures goes { ShardLinkGoesOn (AllOutWhere ((result ≡ false) × (self.new.blocked ≡ false)))
@@ -296,7 +299,7 @@ impl<T: Warrant + Drop, C: Clerk<T> + Drop> ShardLink<T, C> {
 
     /// Serves the line a step further: receives the replies that have come, and sends pieces while
     /// there is room. Once every reply has come, it reads and writes as [`BufferedConn::go_on`]
-    /// does. It never blocks. It receives before it sends: where a channel is full then, replies
+    /// does, and sends the pieces of what was taken. It never blocks. It receives before it sends: where a channel is full then, replies
     /// are still to come on it, which end the wait. What was taken is recorded first, and the
     /// replies are written with the clerk's evidence.
     pub(crate) fn step<L: Transport<Warrant = T>, K: Clock>(
@@ -335,7 +338,34 @@ impl<T: Warrant + Drop, C: Clerk<T> + Drop> ShardLink<T, C> {
             return LineStep::Did;
         }
         let seen = self.evidence();
-        buffered_conn.go_on(line, clock, pool, &seen)
+        match buffered_conn.go_on(line, clock, pool, &seen) {
+            LineStep::Did => self.send_taken(buffered_conn),
+            step => step,
+        }
+    }
+
+    /// Records what the connection has taken since, and sends its pieces while there is room.
+    /// It waits where replies are awaited then.
+    #[inline(always)]
+    fn send_taken(&mut self, buffered_conn: &mut BufferedConn) -> LineStep
+        requires { CanRecord self.old buffered_conn.old.conn }
+        ensures says { (shards : ℕ) (rules : Rules) (may_answer : ℕ → Type 0) (begin now : Sight)
+            (before : Ends Near) →
+            IsServedBy shards rules may_answer begin now before self.old buffered_conn.old →
+            LineSays result shards rules may_answer begin now before self.new buffered_conn.new }
+        ensures called { result ≡ LineStep.Waits →
+            AreCalled self.new.shards self.new.under_way.items }
+        ensures waits { result ≡ LineStep.Waits → AwaitsShards self.new }
+        ensures places { self.new.places ≡ self.old.places }
+        ensures kept { KeepsPlace self.old self.new }
+    {
+        self.note_taken(&buffered_conn.conn);
+        self.send_all(&mut buffered_conn.conn);
+        if self.is_idle() {
+            LineStep::Did
+        } else {
+            LineStep::Waits
+        }
     }
 
     /// Returns the clerk, once the seat serves no more lines.

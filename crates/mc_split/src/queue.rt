@@ -2,12 +2,13 @@
 ghost use Rattle.std.specs.Prelude.{◌≡◌, ◌<◌, ◌≤◌, ◌==◌, ◌∷◌, ◌++◌, [], IfNone, IfOk, IfSome, OnOk, OnErr, length};
 ghost use Rattle.mc_wire.specs.declared.TheConstants.{MAX_VALUE_LIMIT};
 ghost use Rattle.std.specs.VecDeque.{deque_len, deque_capacity};
+ghost use Rattle.mc_split.specs.declared.queue.TheConstants.{PAGE_BYTES};
 ghost use Rattle.mc_split.specs.internal.Queue.{IsBegun, begun_left, run_left};
 
 use crate::plan::Piece;
 use crate::planner::Planner;
 use crate::run::Run;
-use bytes::{Bytes, BytesMut};
+use mc_cells::ValuePages;
 use mc_item::{NoMemory, Op, Value};
 use std::alloc::{AllocError, Global};
 use std::collections::VecDeque;
@@ -17,7 +18,7 @@ use std::marker::Model;
 const KEPT_ENTRIES: usize = 32;
 
 /// Size of a page in bytes. The values of short data blocks are cut from it.
-const PAGE_BYTES: usize = 4_096;
+const PAGE_BYTES: usize = 2_048;
 
 /// The longest value that is cut from a page, in bytes.
 const PAGE_LIMIT: usize = 512;
@@ -37,8 +38,9 @@ pub struct PieceQueue {
     /// The pieces that come first: what is left of a command whose first piece was taken.
     begun: Option<Run>,
     entries: VecDeque<Entry>,
-    /// Room that the values of short blocks are cut from.
-    page: BytesMut,
+    /// The values of short blocks are cut from them.
+    pages: ValuePages,
+    ghost size: { pages.size ≡ PAGE_BYTES },
 }
 
 impl Model for PieceQueue {
@@ -83,47 +85,6 @@ fn grow(entries: &mut VecDeque<Entry>) -> Result<(), AllocError>
 #[inline(never)]
 fn drop_refused(_op: Op) {}
 
-/// A copy of the bytes, cut from the page.
-#[inline(always)]
-fn cut_from(page: &mut BytesMut, alloc: Global, bytes: &[u8]) -> Result<Bytes, AllocError>
-    requires { length bytes.now ≤ PAGE_LIMIT }
-    ensures { IfOk result (λ held. held ≡ bytes.now) }
-{
-    make_room_in(page, alloc, bytes.len())?;
-    page.extend_reserved(bytes);
-    page.freeze_to(bytes.len())
-}
-
-/// Makes the page empty, with room for `len` bytes: where it has no room left, it is used again if
-/// no value shares it any more, else another is allocated.
-#[inline(always)]
-fn make_room_in(page: &mut BytesMut, alloc: Global, len: usize) -> Result<(), AllocError>
-    requires { len ≤ PAGE_BYTES }
-    ensures empty { OnOk result (page.new.items ≡ []) }
-    ensures room { OnOk result (len ≤ page.new.spare) }
-{
-    page.clear();
-    if page.capacity() < len {
-        return next_page(page, alloc, len);
-    }
-    Ok(())
-}
-
-/// Makes room in an empty page that has too little.
-#[cold]
-#[inline(never)]
-fn next_page(page: &mut BytesMut, alloc: Global, len: usize) -> Result<(), AllocError>
-    requires empty { page.old.items ≡ [] }
-    requires len { len ≤ PAGE_BYTES }
-    ensures empty { OnOk result (page.new.items ≡ []) }
-    ensures room { OnOk result (len ≤ page.new.spare) }
-{
-    if !page.try_reclaim(len) {
-        *page = BytesMut::with_capacity(alloc, PAGE_BYTES)?;
-    }
-    Ok(())
-}
-
 /// Takes the next piece of the run, and drops the run with its last piece.
 #[inline(never)]
 fn take_next(begun: &mut Option<Run>) -> Option<(usize, Piece)>
@@ -150,7 +111,7 @@ impl PieceQueue {
         PieceQueue {
             begun: None,
             entries: VecDeque::new(alloc),
-            page: BytesMut::new(alloc),
+            pages: ValuePages::new(alloc, PAGE_BYTES),
         }
     }
 
@@ -164,7 +125,7 @@ impl PieceQueue {
         if bytes.len() > PAGE_LIMIT {
             return Value::of_slice(alloc, bytes);
         }
-        let held = cut_from(&mut self.page, alloc, bytes)?;
+        let held = self.pages.copy(bytes)?;
         Ok(Value::of_bytes(held))
     }
 
@@ -238,7 +199,7 @@ impl PieceQueue {
     /// Whether the queue has memory that it wouldn't keep if it were idle.
     #[inline(always)]
     pub fn has_spare(&self) -> bool {
-        self.entries.capacity() > KEPT_ENTRIES || self.page.capacity() > 0
+        self.entries.capacity() > KEPT_ENTRIES
     }
 
     /// Frees memory that no piece needs, but for a little that an idle queue keeps.
@@ -248,6 +209,5 @@ impl PieceQueue {
         ensures { self.new ≡ self.old }
     {
         self.entries.shrink_to(KEPT_ENTRIES);
-        self.page = BytesMut::new(*self.page.allocator());
     }
 }

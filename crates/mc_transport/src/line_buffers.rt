@@ -76,10 +76,10 @@ impl LineBuffers {
     pub fn take(
         &mut self,
         alloc: Global,
-        sizes: Sizes,
+        sizes: &Sizes,
         pool: &mut BufferPool,
     ) -> Option<Box<BufferedConn>>
-        requires { SuitLines sizes }
+        requires { SuitLines sizes.now }
         ensures some { IfSome result
             (λ line. IsSomeAnd self.old (λ was. AreOneLine was line.value)) }
         ensures none { IfNone result (self.new ≡ self.old) }
@@ -92,7 +92,7 @@ impl LineBuffers {
         let Some(rest) = &self.rest else {
             return None;
         };
-        resumed(rest, alloc, sizes, pool)
+        resumed(rest, alloc, *sizes, pool)
     }
 
     /// Puts the line in with its buffers.
