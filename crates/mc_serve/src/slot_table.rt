@@ -101,7 +101,7 @@ where
     }
 
     /// Steps the slot at `place`, if there is one. If the step did something, it steps again: a
-    /// step reads commands, and the next one sends their pieces.
+    /// step reads commands, and the next one writes the replies for which no shard is asked.
     fn step_at<K: Clock>(
         &mut self,
         place: usize,

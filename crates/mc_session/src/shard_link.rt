@@ -338,34 +338,37 @@ impl<T: Warrant + Drop, C: Clerk<T> + Drop> ShardLink<T, C> {
             return LineStep::Did;
         }
         let seen = self.evidence();
-        match buffered_conn.go_on(line, clock, pool, &seen) {
-            LineStep::Did => self.send_taken(buffered_conn),
-            step => step,
+        let step = buffered_conn.go_on(line, clock, pool, &seen);
+        if let LineStep::Did = step {
+            return self.send_taken(buffered_conn, clock);
         }
+        step
     }
 
     /// Records what the connection has taken since, and sends its pieces while there is room.
     /// It waits where replies are awaited then.
     #[inline(always)]
-    fn send_taken(&mut self, buffered_conn: &mut BufferedConn) -> LineStep
+    fn send_taken<K: Clock>(&mut self, buffered_conn: &mut BufferedConn, clock: &K) -> LineStep
         requires { CanRecord self.old buffered_conn.old.conn }
-        ensures says { (shards : ℕ) (rules : Rules) (may_answer : ℕ → Type 0) (begin now : Sight)
-            (before : Ends Near) →
-            IsServedBy shards rules may_answer begin now before self.old buffered_conn.old →
-            LineSays result shards rules may_answer begin now before self.new buffered_conn.new }
+        ensures says { (shards : ℕ) (rules : Rules) (begin now : Sight) (before : Ends Near) →
+            IsServedBy shards rules (K.may_answer clock.now) begin now before
+            self.old buffered_conn.old →
+            LineSays result shards rules (K.may_answer clock.now) begin now before
+            self.new buffered_conn.new }
         ensures called { result ≡ LineStep.Waits →
             AreCalled self.new.shards self.new.under_way.items }
         ensures waits { result ≡ LineStep.Waits → AwaitsShards self.new }
         ensures places { self.new.places ≡ self.old.places }
         ensures kept { KeepsPlace self.old self.new }
     {
+        // Contracts alone need the clock.
+        let _ = clock;
         self.note_taken(&buffered_conn.conn);
         self.send_all(&mut buffered_conn.conn);
-        if self.is_idle() {
-            LineStep::Did
-        } else {
-            LineStep::Waits
+        if !self.is_idle() {
+            return LineStep::Waits;
         }
+        LineStep::Did
     }
 
     /// Returns the clerk, once the seat serves no more lines.

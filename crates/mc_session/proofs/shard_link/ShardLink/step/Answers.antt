@@ -86,6 +86,26 @@ returns-clause-says g c shards rules begin before serves =
     (settled_complete _ _ _ _ _ _ _ _ settled) in
     settled_says c.go_on.result shards rules _ begin _ _ before _ _ c.go_on.new.self settled says
 
+pub send_taken-requires : goal.send_taken-requires
+send_taken-requires g c =
+    let some = c.requires in
+    let noted = c.note_taken.ensures in
+    let recorded = records_line some.shards some.rules _ some.begin _ some.before c.args.self.now
+    c.note_taken.new.self _ noted.ends noted.under_way noted.records some.serves in
+    let received = serves_carried _ some.shards some.rules _ some.begin _ some.before _ c.receive_all.new.self _ _
+    c.receive_all.ensures.goes recorded in
+    let idle = all_zero c.send_all.new.self.under_way.items (sym c.if-not-is_idle.ensures) in
+    let settled = settled_same some.shards some.rules _ some.begin _ some.before c.send_all.new.self
+    c.evidence-seen.new.self _ c.evidence-seen.ensures.ends c.evidence-seen.ensures.under_way
+    c.evidence-seen.ensures.clerk
+    (settles _ some.shards some.rules _ some.begin _ some.before _ c.send_all.new.self _ _ c.send_all.ensures.goes
+    c.if-self.false idle received) in
+    let says = c.go_on-step.ensures.says settled.serves.received some.begin settled.serves.flow settled.serves.stopped
+    (settled_complete _ _ _ _ _ _ _ _ settled) in
+    can_record _ _ _ _ _ _ _ _ (rw c.if-step.true at
+    (settled_says c.go_on-step.result some.shards some.rules _ some.begin _ _ some.before _ _ c.go_on-step.new.self
+    settled says))
+
 pub returns-clause-called : goal.returns-clause-called
 returns-clause-called g c waits =
     c.evidence-seen.new.self.all_called (c.evidence-seen.ensures.called ∙ c.send_all.ensures.called)
