@@ -7,7 +7,6 @@ abbrev pub invariant-loop-left : goal.invariant-loop-left
 invariant-loop-left l =
     IsChain l.cells.slots l.left l.at ×
     (l.left * 60 ≤ l.page.spare) ×
-    (length l.page.items + l.left * 60 ≡ length l.fn.page.items + l.fn.count * 60) ×
     (l.page.items ++ chain_bytes l.cells.slots l.left l.at
     ≡ l.fn.page.items ++ chain_bytes l.cells.slots l.fn.count l.fn.first)
 
