@@ -1,12 +1,18 @@
 -- How many slots are in use.
-use Rattle.std.proofs.Common.{◌≡◌, ◌≢◌, ℕ, zero, suc, ◌+◌, cond, List, [], ◌∷◌, drop, Option, Some, None}
+use Rattle.std.proofs.Common.{◌≡◌, ◌≢◌, ◌≤◌, ℕ, zero, suc, ◌+◌, cond, List, [], ◌∷◌, drop, Option, Some, None}
 use Rattle.std.proofs.Common.{is_some, count_by, get_or, refl, sym, ap, ◌∙◌, arith}
 use Rattle.std.proofs.lemmas.List.Sums.{sum_by-cons}
 use Rattle.mc_cells.specs.Kept.{used}
 
+-- how many are in use, by the first
 pub count_cons : {T : Type 0} (x : Option T) (xs : List (Option T))
     → count_by is_some (x ∷ xs) ≡ cond (is_some x) 1 0 + count_by is_some xs
 count_cons {T} x xs = sum_by-cons (λ (slot : Option T). cond (is_some slot) 1 0) x xs
+
+-- a slot is in use at most once
+pub used_once : {T : Type 0} (slot : Option T) → used slot ≤ 1
+used_once None = omega arith
+used_once (Some value) = omega arith
 
 -- lists with the same in each place have as many in use, whatever their lengths are
 same_count : {T : Type 0} (old new : List (Option T)) → ((n : ℕ) → get_or new n None ≡ get_or old n None)

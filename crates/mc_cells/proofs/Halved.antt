@@ -1,17 +1,17 @@
 -- The pieces in cells.
-use Rattle.std.proofs.Common.{◌≡◌, ◌≢◌, ℕ, zero, suc, ◌+◌, ◌-◌, ◌*◌, ◌/◌, ◌%◌, ◌<◌, ◌≤◌, Bool, false, cond, eqb, inl, inr, List}
-use Rattle.std.proofs.Common.{[], ◌∷◌, ◌++◌, length, Option, Some, None, is_some, count_by, refl, sym, ap, ◌∙◌, arith}
-use Rattle.std.proofs.Common.{eq-eqb, ne_eqb}
+use Rattle.std.proofs.Common.{◌≡◌, ◌≢◌, ℕ, zero, suc, ◌+◌, ◌-◌, ◌*◌, ◌/◌}
+use Rattle.std.proofs.Common.{◌%◌, ◌<◌, ◌≤◌, false, cond, eqb, inl, inr, List}
+use Rattle.std.proofs.Common.{[], ◌∷◌, Option, Some, None, is_some, count_by, refl, sym, ap, ◌∙◌, arith}
+use Rattle.std.proofs.Common.{ne_eqb}
 use Rattle.std.proofs.lemmas.Bool.{cases_eq, cases_lt, lt-ltb, le-ltb}
-use Rattle.std.proofs.lemmas.List.Sums.{sum_by-cons}
 use Rattle.std.specs.List.{slice_get}
 use Rattle.mc_cells.specs.declared.TheConstants.{SPLIT}
 use Rattle.mc_cells.specs.declared.cell.Cell.{Cell}
-use Rattle.mc_cells.specs.Chain.{Slots, cell_at, cell_of, next_in}
+use Rattle.mc_cells.specs.Chain.{Slots, cell_at, cell_of}
 use Rattle.mc_cells.specs.Pool.{IsAdded}
 use Rattle.mc_cells.specs.Kept.{used}
 use Rattle.mc_cells.specs.Halves.{is_number, half_of, piece_in, pieces_from, pieces_in, AreLinked, ArePieces}
-use Rattle.mc_cells.proofs.Counted.{one_more, count_cons}
+use Rattle.mc_cells.proofs.Counted.{one_more, count_cons, used_once}
 
 from_at : (halves : List ℕ) (base : ℕ) (slots : Slots) (n : ℕ)
     → cell_at (pieces_from halves base slots) n ≡ piece_in halves (base + n) (cell_at slots (n / 2))
@@ -43,7 +43,7 @@ pieces_added old_halves old new_halves new number piece vacant here others =
     let before = piece_at old_halves old number ∙ vacant in
     let after = piece_at new_halves new number ∙ here in
     let same = λ (other : ℕ) (apart : other ≢ number).
-        piece_at new_halves new other ∙ others other apart ∙ sym (piece_at old_halves old other) in
+    piece_at new_halves new other ∙ others other apart ∙ sym (piece_at old_halves old other) in
     record {
       vacant = before;
       here = after;
@@ -59,14 +59,11 @@ one_used number first second None = omega arith
 one_used number first second (Some other) =
     elim (cases_eq other number) [
       | inl same ↦
-          let test : eqb other (number + 1) ≡ false = ne_eqb other (number + 1) (λ e. absurd (omega (arith, e, same))) in
+          let test : eqb other (number + 1) ≡ false
+          = ne_eqb other (number + 1) (λ e. absurd (omega (arith, e, same))) in
           rw test (omega arith)
       | inr apart ↦ rw (ne_eqb other number apart) (omega arith)
     ]
-
-used_most : {T : Type 0} (slot : Option T) → used slot ≤ 1
-used_most None = omega arith
-used_most (Some value) = omega arith
 
 record AreOneOrTwo (halves : List ℕ) (number : ℕ) (slot : Option Cell) : Type 0 where
   least : used slot ≤ used (piece_in halves number slot) + used (piece_in halves (number + 1) slot)
@@ -86,7 +83,7 @@ one_or_two halves number (Some cell) even =
             (one_used number (cell_of 0 (half_of number cell.bytes)) (cell_of 0 (half_of (number + 1) cell.bytes))
             (slice_get halves (cell.next - SPLIT)))
       ];
-      most = omega (arith, used_most first, used_most second);
+      most = omega (arith, used_once first, used_once second);
     }
 
 counted : (halves : List ℕ) (number : ℕ) (slots : Slots) → number % 2 ≡ 0

@@ -1,5 +1,5 @@
 -- Values more and less, short ones and long ones.
-use Rattle.std.proofs.Common.{◌≡◌, ℕ, zero, suc, ap, take, ◌+◌, ◌<◌, ◌≤◌, cond, eqb, List, [], ◌∷◌, length}
+use Rattle.std.proofs.Common.{◌≡◌, ℕ, ap, length-take, ◌+◌, ◌<◌, ◌≤◌, cond, eqb, List, [], ◌∷◌, length}
 use Rattle.std.proofs.Common.{◌++◌, inl, inr, Some, None, refl, sym, ◌∙◌, arith, eq-eqb}
 use Rattle.std.specs.Prelude.{slice_index_or}
 use Rattle.std.specs.List.{sum_by, AllByRecursion}
@@ -175,11 +175,6 @@ kept_front contents before value after kept =
       };
     }
 
-take_shorter : (n : ℕ) (xs : List ℕ) → length (take n xs) ≤ length xs
-take_shorter zero xs = omega arith
-take_shorter (suc n) [] = omega arith
-take_shorter (suc n) (x ∷ xs) = omega (arith, take_shorter n xs)
-
 -- A kept value is at its place.
 pub kept_is_there : KeptIsThere
 kept_is_there contents before place value after kept =
@@ -193,7 +188,7 @@ kept_is_there contents before place value after kept =
           arith,
           spelled.len,
           ap (λ xs. length xs) (spelled.bytes short),
-          take_shorter place.len (chain_bytes contents.slots (cells_of place.len) place.first),
+          length-take place.len (chain_bytes contents.slots (cells_of place.len) place.first),
         );
         long = λ large. rw (whole large) refl;
       };

@@ -1,5 +1,6 @@
 -- Halves that are put in use and made vacant.
-use Rattle.std.proofs.Common.{◌≡◌, ◌≢◌, ℕ, zero, suc, ◌+◌, ◌-◌, ◌*◌, ◌/◌, ◌%◌, ◌<◌, ◌≤◌, Bool, true, false, cond, eqb, inl, inr, List}
+use Rattle.std.proofs.Common.{◌≡◌, ◌≢◌, ℕ, zero, suc, ◌+◌, ◌-◌, ◌*◌, ◌/◌}
+use Rattle.std.proofs.Common.{◌%◌, ◌<◌, ◌≤◌, Bool, true, false, cond, inl, inr, List}
 use Rattle.std.proofs.Common.{[], ◌∷◌, ◌++◌, length, set, Option, Some, None, IsSome, refl, sym, ap, ◌∙◌, arith}
 use Rattle.std.proofs.Common.{eq-eqb, ne_eqb, true≢false, length-append, length-set}
 use Rattle.std.proofs.lemmas.Bool.{cases_eq, lt-ltb, le-ltb}
@@ -10,7 +11,8 @@ use Rattle.mc_cells.specs.declared.TheConstants.{SPLIT}
 use Rattle.mc_cells.specs.declared.cell.Cell.{Cell}
 use Rattle.mc_cells.specs.Chain.{Slots, cell_at, cell_of, next_in, bytes_in}
 use Rattle.mc_cells.specs.Pool.{IsAdded}
-use Rattle.mc_cells.specs.Halves.{is_number, half_of, half_beside, piece_in, pieces_in, AreLinked, IsHalfAdded, IsHalfRemoved}
+use Rattle.mc_cells.specs.Halves.{is_number, half_of, half_beside, piece_in}
+use Rattle.mc_cells.specs.Halves.{pieces_in, AreLinked, IsHalfAdded, IsHalfRemoved}
 use Rattle.mc_cells.proofs.Vacant.{within}
 use Rattle.mc_cells.proofs.Listed.{get_last, get_front, get_either, get_set_same, get_set_other, get_inside}
 use Rattle.mc_cells.proofs.Listed.{test_last, test_set, halves_few}
@@ -25,12 +27,14 @@ piece_split halves n at slot cell found is link get =
     let place : cell.next - SPLIT ≡ at = omega (arith, link) in
     rw (is, test, place, get) refl
 
+-- a vacant half has no piece
 pub piece_vacant : (halves : List ℕ) (n at : ℕ) (slot : Option Cell) (cell : Cell)
     → slot ≡ Some cell → cell.next ≡ SPLIT + at → slice_get halves at ≡ Some n → piece_in halves n slot ≡ None
 piece_vacant halves n at slot cell is link get =
     piece_split halves n at slot cell (Some n) is link get
     ∙ ap (λ (b : Bool). cond b None (Some (cell_of 0 (half_of n cell.bytes)))) (eq-eqb n n refl)
 
+-- a half in use is a piece
 pub piece_used : (halves : List ℕ) (n at : ℕ) (slot : Option Cell) (cell : Cell)
     → slot ≡ Some cell → cell.next ≡ SPLIT + at → is_number n (slice_get halves at) ≡ false
     → piece_in halves n slot ≡ Some (cell_of 0 (half_of n cell.bytes))
@@ -288,6 +292,7 @@ pub linked_some : (slot : Option Cell) (at : ℕ) → next_in slot ≡ SPLIT + a
 linked_some None at link = absurd (omega (arith, link))
 linked_some (Some cell) at link = refl
 
+-- a cell in use stays one where one is changed
 pub some_set : (slots : Slots) (place n : ℕ) (cell : Cell) → IsSome (cell_at slots n)
     → IsSome (cell_at (set slots place (Some cell)) n)
 some_set slots place n cell some =
@@ -336,12 +341,13 @@ pub piece_whole : (halves : List ℕ) (n : ℕ) (slot : Option Cell) (cell : Cel
     → n % 2 ≡ 0 → piece_in halves n slot ≡ Some cell
 piece_whole halves n slot cell is whole even = rw (is, lt-ltb cell.next SPLIT whole, even) refl
 
--- what a half that is made vacant beside one in use leaves, and that there is room for it among the vacant ones
+-- what is left once a half is made vacant beside one in use, and that the vacant ones are few
 pub record IsVacatedHalf (halves : List ℕ) (number : ℕ) (old : Slots) : Type 0 where
   pub room : length halves + 1 ≤ length old
   pub removed : IsHalfRemoved halves old (halves ++ number ∷ [])
       (set old (number / 2) (Some (cell_of (SPLIT + length halves) (bytes_in (cell_at old (number / 2)))))) number
 
+-- A half is made vacant beside one in use, and there is room for it.
 pub vacated_from : (halves : List ℕ) (number at : ℕ) (old : Slots) → AreLinked halves old
     → next_in (cell_at old (number / 2)) ≡ SPLIT + at → is_number number (slice_get halves at) ≡ false
     → is_number (half_beside number) (slice_get halves at) ≡ false → IsVacatedHalf halves number old

@@ -1,7 +1,7 @@
 -- The vacant halves.
-use Rattle.std.proofs.Common.{◌≡◌, ◌≢◌, ℕ, zero, suc, ◌+◌, ◌<◌, ◌≤◌, Bool, true, false, cond, eqb, nat_lt, inl, inr, List}
+use Rattle.std.proofs.Common.{◌≡◌, ◌≢◌, ℕ, zero, suc, ◌+◌, ◌<◌, ◌≤◌, cond, nat_lt, inl, inr, List}
 use Rattle.std.proofs.Common.{[], ◌∷◌, ◌/◌}
-use Rattle.std.proofs.Common.{◌++◌, ◌⊎◌, length, set, Option, Some, None, refl, sym, ap, ◌∙◌, arith, ne_eqb, get_or}
+use Rattle.std.proofs.Common.{◌++◌, ◌⊎◌, length, set, Some, refl, sym, ap, ◌∙◌, arith, ne_eqb, get_or}
 use Rattle.std.proofs.lemmas.Bool.{cases_lt, lt-ltb, le-ltb}
 use Rattle.std.proofs.lemmas.Option.{none-some, same_Some}
 use Rattle.std.specs.List.{slice_get}
@@ -10,15 +10,18 @@ use Rattle.mc_cells.specs.declared.TheConstants.{SPLIT}
 use Rattle.mc_cells.specs.Chain.{Slots, cell_at, next_in}
 use Rattle.mc_cells.specs.Halves.{is_number, AreLinked}
 
+-- what is put behind all is there
 pub get_last : (xs : List ℕ) (last : ℕ) → slice_get (xs ++ last ∷ []) (length xs) ≡ Some last
 get_last [] last = refl
 get_last (x ∷ xs) last = get_last xs last
 
+-- what is in front stays where it was
 pub get_front : (xs ys : List ℕ) (at n : ℕ) → slice_get xs at ≡ Some n → slice_get (xs ++ ys) at ≡ Some n
 get_front [] ys at n here = absurd (none-some n here)
 get_front (x ∷ xs) ys zero n here = here
 get_front (x ∷ xs) ys (suc at) n here = get_front xs ys at n here
 
+-- what is found is in front, or is the last
 pub get_either : (xs : List ℕ) (last at n : ℕ) → slice_get (xs ++ last ∷ []) at ≡ Some n
     → (slice_get xs at ≡ Some n) ⊎ ((at ≡ length xs) × (n ≡ last))
 get_either [] last zero n here = inr (refl, sym (same_Some last n here))
@@ -30,11 +33,13 @@ get_either (x ∷ xs) last (suc at) n here =
       | inr end ↦ inr (ap suc end.0, end.1)
     ]
 
+-- what is written is there
 pub get_set_same : (xs : List ℕ) (at m : ℕ) → at < length xs → slice_get (set xs at m) at ≡ Some m
 get_set_same [] at m within = absurd (omega (arith, within))
 get_set_same (x ∷ xs) zero m within = refl
 get_set_same (x ∷ xs) (suc at) m within = get_set_same xs at m (omega (arith, within))
 
+-- the others stay where one is written
 pub get_set_other : (xs : List ℕ) (at m place : ℕ) → place ≢ at → slice_get (set xs at m) place ≡ slice_get xs place
 get_set_other [] at m place apart = refl
 get_set_other (x ∷ xs) zero m zero apart = absurd (apart refl)
@@ -42,6 +47,7 @@ get_set_other (x ∷ xs) zero m (suc place) apart = refl
 get_set_other (x ∷ xs) (suc at) m zero apart = refl
 get_set_other (x ∷ xs) (suc at) m (suc place) apart = get_set_other xs at m place (λ e. apart (ap suc e))
 
+-- what is found is within the list
 pub get_inside : (xs : List ℕ) (at n : ℕ) → slice_get xs at ≡ Some n → at < length xs
 get_inside [] at n here = absurd (none-some n here)
 get_inside (x ∷ xs) zero n here = omega arith

@@ -1,6 +1,6 @@
 -- The first cell of a chain less.
 use Rattle.std.proofs.Common.{◌≡◌, ℕ, zero, suc, ◌+◌, ◌-◌, ◌<◌, cond, eqb, List}
-use Rattle.std.proofs.Common.{◌++◌, Some, refl, sym, arith, eq-eqb}
+use Rattle.std.proofs.Common.{◌++◌, refl, sym, arith, eq-eqb}
 use Rattle.mc_cells.specs.declared.cell.Cell.{Cell}
 use Rattle.mc_cells.specs.Pool.{IsAdded}
 use Rattle.mc_cells.specs.Chain.{Slots, cell_at, next_in, bytes_in, passes, IsChain, chain_bytes}

@@ -1,5 +1,6 @@
 -- What the cells of a shard contain, and which values they hold.
-use Rattle.std.specs.Prelude.{ℕ, ◌+◌, ◌<◌, ◌≤◌, ◌^◌, List, [], length, take, Option, Some, None, is_some, IsSome, count_by}
+use Rattle.std.specs.Prelude.{ℕ, ◌+◌, ◌<◌, ◌≤◌, ◌^◌, List, []}
+use Rattle.std.specs.Prelude.{length, take, Option, Some, None, is_some, IsSome, count_by}
 use Rattle.std.specs.Prelude.{if◌then◌else◌, nat_lt, slice_index_or}
 use Rattle.mc_cells.specs.declared.place.Place.{Place}
 use Rattle.mc_cells.specs.declared.TheConstants.{LONG_VALUE, MAX_CELLS}
@@ -19,7 +20,7 @@ pub record Contents : Type 0 where
   -- how many long values there is memory for
   pub long_room : ℕ
 
--- These values are kept, each at its own place, and no piece is in use for anything else. The order does not matter.
+-- These values are kept, each at its own place, and no piece is in use for anything else. Their order does not matter.
 pub record AreKept (contents : Contents) (kept : List KeptValue) : Type 0 where
   pub cells : CellsHold contents.slots kept
   pub few : ArePieces contents.used contents.slots

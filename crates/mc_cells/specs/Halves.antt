@@ -23,8 +23,8 @@ piece_in halves number None = None
 piece_in halves number (Some cell) =
     if nat_lt cell.next SPLIT then (if number % 2 == 0 then Some cell else None)
     else (
-      if is_number number (slice_get halves (cell.next - SPLIT)) then None
-      else Some (cell_of 0 (half_of number cell.bytes))
+    if is_number number (slice_get halves (cell.next - SPLIT)) then None
+    else Some (cell_of 0 (half_of number cell.bytes))
     )
 
 -- the pieces in cells, of which the first half of the first has this number
@@ -64,8 +64,8 @@ pub record ArePieces (used : ℕ) (slots : Slots) : Type 0 where
   pub most : count_by is_some slots ≤ 2 * used
 
 -- A half is put in use. The vacant halves and the cells are others then.
-pub record IsHalfAdded (old_halves : List ℕ) (old : Slots) (new_halves : List ℕ) (new : Slots) (number : ℕ) (piece : Cell)
-    : Type 0 where
+pub record IsHalfAdded (old_halves : List ℕ) (old : Slots) (new_halves : List ℕ) (new : Slots) (number : ℕ)
+    (piece : Cell) : Type 0 where
   pub added : IsAdded (pieces_in old_halves old) (pieces_in new_halves new) number piece
   pub linked : AreLinked new_halves new
 

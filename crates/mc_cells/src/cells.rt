@@ -6,8 +6,8 @@ ghost use Rattle.mc_cells.specs.Contents.{AreKept, HasRoom, HasValue, value_at, 
 
 use crate::chain::{keep_chain, piece_count, remove_chain};
 use crate::page::{append_short, read_short};
-use crate::place::Place;
 use crate::piece_pool::PiecePool;
+use crate::place::Place;
 use crate::{CELL_BYTES, LONG_VALUE, MAX_CELLS};
 use bytes::{Bytes, BytesMut};
 use slab::Slab;

@@ -146,7 +146,8 @@ impl PiecePool {
         requires in_use { IsSome (cell_at self.now.slots number) }
         requires room { CELL_BYTES ≤ page.old.spare }
         ensures next { result ≡ next_in (cell_at self.now.slots number) }
-        ensures bytes { page.new.items ≡ page.old.items ++ bytes_in (cell_at self.now.slots number) }
+        ensures bytes { page.new.items ≡
+            page.old.items ++ bytes_in (cell_at self.now.slots number) }
         ensures spare { page.old.spare ≤ page.new.spare + CELL_BYTES }
     {
         let cell = self.cells.get(number / 2);
@@ -195,8 +196,8 @@ fn split(cells: &mut CellPool, halves: &mut Vec<u32>, bytes: [u8; HALF_BYTES]) -
     requires few { count_by is_some cells.old.slots + 1 ≤ MAX_CELLS }
     requires within { length cells.old.slots ≤ MAX_CELLS }
     requires fits { 0 < vec_capacity halves.old }
-    ensures added { IsHalfAdded halves.old.items cells.old.slots halves.new.items cells.new.slots
-        result (cell_of 0 bytes) }
+    ensures added { IsHalfAdded halves.old.items cells.old.slots
+        halves.new.items cells.new.slots result (cell_of 0 bytes) }
     ensures used { count_by is_some cells.new.slots ≡ count_by is_some cells.old.slots + 1 }
     ensures length { (n : ℕ) → length cells.old.slots ≤ n → count_by is_some cells.old.slots + 1 ≤ n
         → length cells.new.slots ≤ n }
@@ -215,8 +216,8 @@ fn fill(cells: &mut CellPool, halves: &mut Vec<u32>, bytes: [u8; HALF_BYTES]) ->
     requires some { 0 < vec_len halves.old }
     requires linked { AreLinked halves.old.items cells.old.slots }
     requires within { length cells.old.slots ≤ MAX_CELLS }
-    ensures added { IsHalfAdded halves.old.items cells.old.slots halves.new.items cells.new.slots
-        result (cell_of 0 bytes) }
+    ensures added { IsHalfAdded halves.old.items cells.old.slots
+        halves.new.items cells.new.slots result (cell_of 0 bytes) }
     ensures used { count_by is_some cells.new.slots ≡ count_by is_some cells.old.slots }
     ensures length { length cells.new.slots ≡ length cells.old.slots }
     ensures below { result < SPLIT }
@@ -236,8 +237,8 @@ fn remove_half(cells: &mut CellPool, halves: &mut Vec<u32>, number: u32, at: usi
     requires in_use { IsSome (cell_at (pieces_in halves.old.items cells.old.slots) number) }
     requires few { length cells.old.slots ≤ MAX_CELLS }
     requires fits { length cells.old.slots ≤ vec_capacity halves.old }
-    ensures removed { IsHalfRemoved halves.old.items cells.old.slots halves.new.items cells.new.slots
-        number }
+    ensures removed { IsHalfRemoved halves.old.items cells.old.slots
+        halves.new.items cells.new.slots number }
     ensures length { length cells.new.slots ≡ length cells.old.slots }
     ensures capacity { cells.new.capacity ≡ cells.old.capacity }
     ensures halves { vec_capacity halves.new ≡ vec_capacity halves.old }
@@ -264,8 +265,8 @@ fn join(cells: &mut CellPool, halves: &mut Vec<u32>, number: u32, at: usize)
     requires linked { AreLinked halves.old.items cells.old.slots }
     requires beside { slice_get halves.old.items at ≡ Some (half_beside number) }
     requires few { length cells.old.slots ≤ MAX_CELLS }
-    ensures removed { IsHalfRemoved halves.old.items cells.old.slots halves.new.items cells.new.slots
-        number }
+    ensures removed { IsHalfRemoved halves.old.items cells.old.slots
+        halves.new.items cells.new.slots number }
     ensures length { length cells.new.slots ≡ length cells.old.slots }
     ensures capacity { cells.new.capacity ≡ cells.old.capacity }
     ensures halves { vec_capacity halves.new ≡ vec_capacity halves.old }
@@ -292,8 +293,8 @@ fn vacate_half(cells: &mut CellPool, halves: &mut Vec<u32>, number: u32)
         ≡ false }
     requires few { length cells.old.slots ≤ MAX_CELLS }
     requires fits { length cells.old.slots ≤ vec_capacity halves.old }
-    ensures removed { IsHalfRemoved halves.old.items cells.old.slots halves.new.items cells.new.slots
-        number }
+    ensures removed { IsHalfRemoved halves.old.items cells.old.slots
+        halves.new.items cells.new.slots number }
     ensures length { length cells.new.slots ≡ length cells.old.slots }
     ensures capacity { cells.new.capacity ≡ cells.old.capacity }
     ensures halves { vec_capacity halves.new ≡ vec_capacity halves.old }

@@ -1,4 +1,4 @@
-use Rattle.std.proofs.Common.{◌-◌, ◌+◌, ◌≡◌, length, rules, arith, ◌∙◌}
+use Rattle.std.proofs.Common.{◌-◌, ◌+◌, ◌≡◌, rules, ◌∙◌}
 use Rattle.std.proofs.lemmas.Slice.{overwrites}
 use Rattle.mc_cells.proofs.Pieces.{middle_written}
 use Rattle.mc_cells.proofs.cell.with_bytes.Goals as goal

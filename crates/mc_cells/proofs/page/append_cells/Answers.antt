@@ -1,4 +1,4 @@
-use Rattle.std.proofs.Common.{◌≡◌, ◌-◌, ◌++◌, ◌∙◌, ap, sym, arith, append_assoc}
+use Rattle.std.proofs.Common.{◌-◌, ◌++◌, ◌∙◌, ap, sym, arith, append_assoc}
 use Rattle.mc_cells.specs.Chain.{cell_at, chain_bytes, bytes_in, next_in}
 use Rattle.mc_cells.proofs.Taken.{bytes_behind, rest_is_chain}
 use Rattle.mc_cells.proofs.page.append_cells.Goals as goal

@@ -1,5 +1,5 @@
 -- The page has the bytes of the cells passed, and room for those that are left.
-use Rattle.std.proofs.Common.{◌≡◌, ◌+◌, ◌*◌, ◌≤◌, ◌++◌, length}
+use Rattle.std.proofs.Common.{◌≡◌, ◌*◌, ◌≤◌, ◌++◌}
 use Rattle.mc_cells.specs.Chain.{IsChain, chain_bytes}
 use Rattle.mc_cells.proofs.page.read_chain.Given as goal
 

@@ -1,4 +1,4 @@
-use Rattle.std.proofs.Common.{◌≡◌, ◌/◌, ◌++◌, [], ◌∷◌, length, arith}
+use Rattle.std.proofs.Common.{◌≡◌, ◌/◌, ◌++◌, [], ◌∷◌, length}
 use Rattle.mc_cells.proofs.Joined.{filled, linked_some}
 use Rattle.mc_cells.proofs.Listed.{get_last}
 use Rattle.mc_cells.specs.Chain.{cell_at}

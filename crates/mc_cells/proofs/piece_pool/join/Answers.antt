@@ -1,8 +1,6 @@
-use Rattle.std.proofs.Common.{◌≡◌, ◌<◌, ◌+◌, ◌/◌, ◌∙◌, ◌++◌, [], ◌∷◌, length, inl, inr, Some, List, ℕ, arith, ap, sym, set, length-append}
-use Rattle.std.specs.List.{slice_get}
-use Rattle.mc_cells.specs.declared.TheConstants.{SPLIT}
-use Rattle.mc_cells.specs.Chain.{cell_at, cell_of, next_in}
-use Rattle.mc_cells.specs.Halves.{half_beside, AreLinked}
+use Rattle.std.proofs.Common.{◌≡◌, ◌/◌, ◌++◌, [], ◌∷◌, length, arith, ap, length-append}
+use Rattle.mc_cells.specs.Chain.{cell_at}
+use Rattle.mc_cells.specs.Halves.{half_beside}
 use Rattle.mc_cells.proofs.Joined.{the_other_some, joined_end, joined_from, some_set, linked_some}
 use Rattle.mc_cells.proofs.Listed.{get_last, get_inside, halves_few}
 use Rattle.mc_cells.proofs.piece_pool.join.Goals as goal

@@ -1,4 +1,4 @@
-use Rattle.std.proofs.Common.{◌≡◌, ◌+◌, ◌*◌, ◌<◌, ◌∙◌, [], ◌∷◌, arith, ap, sym}
+use Rattle.std.proofs.Common.{◌≡◌, ◌+◌, ◌*◌, ◌∙◌, [], ◌∷◌, arith, ap}
 use Rattle.mc_cells.specs.declared.TheConstants.{MAX_CELLS, SPLIT}
 use Rattle.mc_cells.specs.declared.cell.Cell.{Cell}
 use Rattle.mc_cells.specs.Halves.{IsHalfAdded}

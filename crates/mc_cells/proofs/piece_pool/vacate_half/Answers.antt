@@ -1,5 +1,4 @@
 use Rattle.std.proofs.Common.{◌≡◌, ◌+◌, ◌-◌, ◌/◌, length, arith}
-use Rattle.std.specs.Prelude.{vec_len}
 use Rattle.mc_cells.specs.declared.TheConstants.{SPLIT}
 use Rattle.mc_cells.specs.Chain.{cell_at, next_in}
 use Rattle.mc_cells.proofs.Joined.{vacated_from}

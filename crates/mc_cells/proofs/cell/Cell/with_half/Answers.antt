@@ -1,6 +1,5 @@
-use Rattle.std.proofs.Common.{◌≡◌, ◌*◌, ◌%◌, inl, inr, ap, take, drop, List, ℕ, arith, ◌∙◌, refl}
+use Rattle.std.proofs.Common.{◌≡◌, ◌%◌, inl, inr, ap, take, arith}
 use Rattle.std.proofs.lemmas.Bool.{cases_eq}
-use Rattle.mc_cells.specs.declared.cell.Cell.{Cell}
 use Rattle.mc_cells.proofs.cell.Cell.with_half.Goals as goal
 
 pub returns-clause-here : goal.returns-clause-here

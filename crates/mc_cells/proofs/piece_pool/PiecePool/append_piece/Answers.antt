@@ -1,6 +1,5 @@
-use Rattle.std.proofs.Common.{◌≡◌, ◌≤◌, ◌<◌, ◌++◌, length, arith, ap, ◌∙◌, refl, rules}
+use Rattle.std.proofs.Common.{◌≡◌, ◌++◌, arith, refl}
 use Rattle.std.specs.Prelude.{IsOk}
-use Rattle.mc_cells.specs.declared.TheConstants.{SPLIT}
 use Rattle.mc_cells.proofs.Joined.{piece_some, found_whole, found_half}
 use Rattle.mc_cells.proofs.piece_pool.PiecePool.append_piece.Goals as goal
 

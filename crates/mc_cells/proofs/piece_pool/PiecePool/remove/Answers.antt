@@ -1,4 +1,4 @@
-use Rattle.std.proofs.Common.{◌≡◌, ◌<◌, ◌≤◌, ◌/◌, ◌*◌, ◌%◌, ◌∙◌, arith, ap, sym, refl}
+use Rattle.std.proofs.Common.{◌≡◌, ◌<◌, ◌/◌, ◌*◌, ◌∙◌, arith, ap, sym, refl}
 use Rattle.std.proofs.lemmas.Option.{same_Some}
 use Rattle.mc_cells.specs.declared.TheConstants.{SPLIT}
 use Rattle.mc_cells.specs.declared.cell.Cell.{Cell}
@@ -42,12 +42,13 @@ returns-then-next-lt-SPLIT-clause-removed c =
     let even = whole_even fields.halves.items c.args.number (cell_at fields.cells.slots (c.args.number / 2)) gone.cell
     gone.removed.here whole (rw (piece_at fields.halves.items fields.cells.slots c.args.number) at some) in
     let twice : c.args.number / 2 * 2 ≡ c.args.number = omega (arith, even) in
+    let new = c.remove.new.self.slots in
+    let added =
+    whole_added fields.halves.items new fields.cells.slots (c.args.number / 2) gone.cell whole gone.removed in
     record {
       cell = gone.cell;
       next_is = gone.next_is;
-      removed = rw (← c.self.view_is) (rw twice at
-          (whole_added fields.halves.items c.remove.new.self.slots fields.cells.slots (c.args.number / 2) gone.cell whole
-          gone.removed));
+      removed = rw (← c.self.view_is) (rw twice at added);
     }
 
 pub returns-then-next-lt-SPLIT-clause-pieces : goal.returns-then-next-lt-SPLIT-clause-pieces

@@ -1,4 +1,4 @@
-use Rattle.std.proofs.Common.{◌<◌, ◌-◌, Some, map, set, length, arith, length-set}
+use Rattle.std.proofs.Common.{◌<◌, ◌-◌, Some, map, set, arith, length-set}
 use Rattle.std.proofs.lemmas.List.{map-set}
 use Rattle.mc_cells.specs.declared.cell.Cell.{Cell}
 use Rattle.mc_cells.proofs.Vacant.{pool_count, reused, read_is, first_in_vector, vacate_map}

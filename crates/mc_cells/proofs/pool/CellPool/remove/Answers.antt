@@ -1,7 +1,6 @@
-use Rattle.std.proofs.Common.{◌∙◌, ap, sym, length, arith, refl, length-set, ◌+◌}
+use Rattle.std.proofs.Common.{arith, refl, length-set, ◌+◌}
 use Rattle.std.specs.Prelude.{slice_set}
 use Rattle.mc_cells.specs.Chain.{cell_of}
-use Rattle.mc_cells.specs.Pool.{Pool}
 use Rattle.mc_cells.proofs.Vacant.{pool_count, in_vector, read_in_use, vacated_in, vacate_map}
 use Rattle.mc_cells.proofs.pool.CellPool.remove.Goals as goal
 

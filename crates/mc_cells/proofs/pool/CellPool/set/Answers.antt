@@ -1,6 +1,4 @@
-use Rattle.std.proofs.Common.{◌∙◌, ap, arith}
-use Rattle.std.specs.Prelude.{slice_set, Some}
-use Rattle.mc_cells.specs.Chain.{Slots}
+use Rattle.std.proofs.Common.{arith}
 use Rattle.mc_cells.proofs.Vacant.{in_vector, changed_in}
 use Rattle.mc_cells.proofs.pool.CellPool.set.Goals as goal
 
