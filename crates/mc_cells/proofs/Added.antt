@@ -140,11 +140,11 @@ piece_before old new number cell text kept added whole short hold =
 
 -- The last piece of a value is kept.
 pub last_piece : (old new : Slots) (number : ℕ) (cell : Cell) (len : ℕ) (kept : List KeptValue)
-    → IsAdded old new number cell → length cell.bytes ≡ 60 → 0 < len → len ≤ 60 → CellsHold old kept
+    → IsAdded old new number cell → len ≤ length cell.bytes → 0 < len → len ≤ 60 → CellsHold old kept
     → CellsHold new ((place_at number len, take len cell.bytes) ∷ kept)
 last_piece old new number cell len kept added whole some one hold =
     let count : cells_of len ≡ 1 = short_cells len (omega (arith, one)) ∙ piece_alone len some one in
     let before = cell_before old new number cell 0 kept added (beside_none old cell.next kept hold) in
     kept_from_beside new number len (take len cell.bytes) kept (rw count before.beside)
-    (length-take-le len cell.bytes (omega (arith, one, whole)))
+    (length-take-le len cell.bytes whole)
     (λ _. rw (count, before.bytes_are) (ap (λ xs. take len xs) (search rules)))

@@ -1,5 +1,5 @@
 -- Values more and less, short ones and long ones.
-use Rattle.std.proofs.Common.{◌≡◌, ℕ, ◌+◌, ◌<◌, ◌≤◌, cond, eqb, List, [], ◌∷◌, length}
+use Rattle.std.proofs.Common.{◌≡◌, ℕ, ap, length-take, ◌+◌, ◌<◌, ◌≤◌, cond, eqb, List, [], ◌∷◌, length}
 use Rattle.std.proofs.Common.{◌++◌, inl, inr, Some, None, refl, sym, ◌∙◌, arith, eq-eqb}
 use Rattle.std.specs.Prelude.{slice_index_or}
 use Rattle.std.specs.List.{sum_by, AllByRecursion}
@@ -7,7 +7,7 @@ use Rattle.std.proofs.lemmas.Bool.{lt-ltb, le-ltb, cases_lt}
 use Rattle.std.proofs.lemmas.List.Sums.{sum_by-cons, sum_by-append}
 use Rattle.mc_cells.specs.declared.TheConstants.{LONG_VALUE}
 use Rattle.mc_cells.specs.Pool.{IsAdded}
-use Rattle.mc_cells.specs.Chain.{Slots}
+use Rattle.mc_cells.specs.Chain.{Slots, chain_bytes}
 use Rattle.mc_cells.specs.Kept.{KeptValue, LongSlots, place_at, used, cells_of, slots_of}
 use Rattle.mc_cells.specs.Kept.{takes, IsSpelled, CellsHold, SlotsHold}
 use Rattle.mc_cells.specs.Laws.{KeptIsThere, OrderIsFree}
@@ -167,6 +167,7 @@ kept_front contents before value after kept =
         once = λ number. sum_front _ before value after ∙ kept.cells.once number;
         counted = kept.cells.counted ∙ sym (sum_front _ before value after);
       };
+      few = kept.few;
       long = record {
         whole = all_front _ before value after kept.long.whole;
         once = λ number. sum_front _ before value after ∙ kept.long.once number;
@@ -181,7 +182,16 @@ kept_is_there contents before place value after kept =
     let spelled = front.cells.spelled.0 in
     let whole = front.long.whole.0 in
     record {
-      has = record { chain = spelled.chain; long = λ large. rw (whole large) refl };
+      has = record {
+        chain = spelled.chain;
+        whole = λ short. omega (
+          arith,
+          spelled.len,
+          ap (λ xs. length xs) (spelled.bytes short),
+          length-take place.len (chain_bytes contents.slots (cells_of place.len) place.first),
+        );
+        long = λ large. rw (whole large) refl;
+      };
       here = elim (cases_lt place.len LONG_VALUE) [
         | inl short ↦
             let test = lt-ltb place.len LONG_VALUE short in

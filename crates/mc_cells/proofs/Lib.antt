@@ -5,5 +5,9 @@ pub mod Held
 pub mod Pieces
 pub mod Places
 pub mod Vacant
+pub mod Counted
+pub mod Listed
+pub mod Halved
+pub mod Joined
 pub mod Rows
 pub mod Numbers

@@ -1,6 +1,6 @@
 -- Kept values with bytes are at different places.
 use Rattle.std.proofs.Common.{◌≡◌, ℕ, zero, suc, ◌+◌, ◌<◌, ◌≤◌, cond, eqb, inl, inr, List}
-use Rattle.std.proofs.Common.{[], ◌∷◌, ◌++◌, Option, Some, None}
+use Rattle.std.proofs.Common.{[], ◌∷◌, ◌++◌, None}
 use Rattle.std.proofs.Common.{refl, sym, ap, arith, eq-eqb}
 use Rattle.std.specs.Prelude.{slice_index_or}
 use Rattle.std.specs.List.{sum_by}
@@ -9,9 +9,10 @@ use Rattle.std.proofs.lemmas.List.Sums.{sum_by-cons, sum_by-append}
 use Rattle.mc_cells.specs.declared.TheConstants.{LONG_VALUE}
 use Rattle.mc_cells.specs.declared.place.Place.{Place}
 use Rattle.mc_cells.specs.Chain.{Slots, cell_at, passes}
-use Rattle.mc_cells.specs.Kept.{KeptValue, used, cells_of, takes}
+use Rattle.mc_cells.specs.Kept.{KeptValue, cells_of, takes}
 use Rattle.mc_cells.specs.Laws.{PlacesDiffer}
 use Rattle.mc_cells.proofs.Chains.{short_cells}
+use Rattle.mc_cells.proofs.Counted.{used_once}
 
 -- a chain of some cells passes its first
 passes_first : (slots : Slots) (at count : ℕ) → 0 < count → 1 ≤ passes slots at count at
@@ -19,10 +20,6 @@ passes_first slots at zero some = absurd (omega (arith, some))
 passes_first slots at (suc count) some =
     let itself : ◌≡◌ {A = ℕ} (cond (eqb at at) 1 0) 1 = rw (eq-eqb at at refl) refl in
     omega (arith, itself)
-
-used_once : {T : Type 0} (slot : Option T) → used slot ≤ 1
-used_once None = omega arith
-used_once (Some value) = omega arith
 
 two_of_sum : (f : KeptValue → ℕ) (first : KeptValue) (before : List KeptValue) (second : KeptValue)
     (after : List KeptValue) → f first + f second ≤ sum_by f (first ∷ (before ++ second ∷ after))

@@ -1,9 +1,9 @@
 -- The first cell of a chain less.
 use Rattle.std.proofs.Common.{◌≡◌, ℕ, zero, suc, ◌+◌, ◌-◌, ◌<◌, cond, eqb, List}
-use Rattle.std.proofs.Common.{◌++◌, Some, refl, sym, arith, eq-eqb}
+use Rattle.std.proofs.Common.{◌++◌, refl, sym, arith, eq-eqb}
 use Rattle.mc_cells.specs.declared.cell.Cell.{Cell}
 use Rattle.mc_cells.specs.Pool.{IsAdded}
-use Rattle.mc_cells.specs.Chain.{Slots, cell_at, passes, IsChain, chain_bytes}
+use Rattle.mc_cells.specs.Chain.{Slots, cell_at, next_in, bytes_in, passes, IsChain, chain_bytes}
 use Rattle.mc_cells.specs.Kept.{KeptValue, used, all_passes, IsBeside}
 use Rattle.mc_cells.proofs.Chains.{SameBut, chain_unchanged, kept_unchanged}
 use Rattle.mc_cells.proofs.Added.{used_added}
@@ -50,18 +50,18 @@ beside_behind old new first cell (suc count) kept taken some beside =
     })
 
 -- the bytes of a chain are those of its first cell, and those behind it
-pub bytes_behind : (slots : Slots) (first count : ℕ) (cell : Cell) → 0 < count → cell_at slots first ≡ Some cell
-    → chain_bytes slots count first ≡ cell.bytes ++ chain_bytes slots (count - 1) cell.next
-bytes_behind slots first zero cell some here = absurd (omega (arith, some))
-bytes_behind slots first (suc count) cell some here =
+pub bytes_behind : (slots : Slots) (first count : ℕ) → 0 < count
+    → chain_bytes slots count first
+    ≡ bytes_in (cell_at slots first) ++ chain_bytes slots (count - 1) (next_in (cell_at slots first))
+bytes_behind slots first zero some = absurd (omega (arith, some))
+bytes_behind slots first (suc count) some =
     let less : suc count - 1 ≡ count = omega arith in
-    rw (less, here) refl
+    rw less refl
 
 -- the rest of a chain is one
-pub rest_is_chain : (slots : Slots) (first count : ℕ) (cell : Cell) → 0 < count → cell_at slots first ≡ Some cell
-    → IsChain slots count first → IsChain slots (count - 1) cell.next
-rest_is_chain slots first zero cell some here chain = absurd (omega (arith, some))
-rest_is_chain slots first (suc count) cell some here chain =
+pub rest_is_chain : (slots : Slots) (first count : ℕ) → 0 < count
+    → IsChain slots count first → IsChain slots (count - 1) (next_in (cell_at slots first))
+rest_is_chain slots first zero some chain = absurd (omega (arith, some))
+rest_is_chain slots first (suc count) some chain =
     let less : suc count - 1 ≡ count = omega arith in
-    let behind = rw here at chain in
-    rw less behind.2
+    rw less chain.2

@@ -43,7 +43,7 @@ apart_in_use all number (suc count) at none =
     ∙ apart_in_use all number count next (omega (arith, none))
 
 -- the vector's length
-vacate_length : (all : Slots) (count at : ℕ) → length (vacate all count at) ≡ length all
+pub vacate_length : (all : Slots) (count at : ℕ) → length (vacate all count at) ≡ length all
 vacate_length all zero at = refl
 vacate_length all (suc count) at =
     let next = next_in (cell_at all at) in
@@ -94,7 +94,7 @@ pub pool_count : (cells : List Cell) (vacant free : ℕ) → IsChain (map Some c
 pool_count cells vacant free chain = vacate_count (map Some cells) vacant free chain ∙ all_count cells
 
 -- a cell that there is has a number within the vector
-within : (slots : Slots) (number : ℕ) (cell : Cell) → cell_at slots number ≡ Some cell → number < length slots
+pub within : (slots : Slots) (number : ℕ) (cell : Cell) → cell_at slots number ≡ Some cell → number < length slots
 within slots number cell here = grind (arith, get_or_past, here)
 
 -- the vacant cells but the first, and what is in use then
@@ -199,3 +199,28 @@ first_in_vector cells zero free some chain = absurd (omega (arith, some))
 first_in_vector cells (suc count) free some chain =
     let inside : free < length (map (λ (cell : Cell). Some cell) cells) = grind (arith, get_or_past, chain.0) in
     omega (arith, inside, length-map cells (λ (cell : Cell). Some cell))
+
+-- a cell in use is another one
+pub record IsChanged (cells new : List Cell) (vacant free number : ℕ) (changed : Cell) : Type 0 where
+  pub chain : IsChain (map Some new) vacant free
+  pub slots : vacate (map Some new) vacant free ≡ set (vacate (map Some cells) vacant free) number (Some changed)
+
+-- A cell of a vector that is in use is changed.
+pub changed_in : (cells : List Cell) (vacant free number : ℕ) (changed : Cell) → IsChain (map Some cells) vacant free
+    → IsSome (cell_at (vacate (map Some cells) vacant free) number)
+    → IsChanged cells (set cells number changed) vacant free number changed
+changed_in cells vacant free number changed chain some =
+    let all = map (λ (cell : Cell). Some cell) cells in
+    let none = in_use_apart all number vacant free some in
+    let unchanged = chain_unchanged all (set all number (Some changed)) number vacant free
+    (λ other apart. get_or-set_other all number other (Some changed) None apart) none in
+    let is = map-set (λ (cell : Cell). Some cell) cells number changed in
+    record {
+      chain = rw is (unchanged.chain chain);
+      slots = rw is (vacate_set all number vacant free (Some changed) none);
+    }
+
+-- how many cells of a vector are in use or vacant
+pub vacate_map : (cells : List Cell) (vacant free : ℕ) → length (vacate (map Some cells) vacant free) ≡ length cells
+vacate_map cells vacant free =
+    vacate_length (map Some cells) vacant free ∙ length-map cells (λ (cell : Cell). Some cell)

@@ -1,5 +1,5 @@
 //! The values of a shard.
-ghost use Rattle.std.specs.Prelude.{◌≡◌, ◌+◌, ◌<◌, ◌≤◌, ◌^◌, List, [], ◌∷◌, ◌++◌, ℕ, length, vec_len, vec_capacity, IsOk, IfOk, OnOk, OnErr};
+ghost use Rattle.std.specs.Prelude.{◌≡◌, ◌+◌, ◌*◌, ◌<◌, ◌≤◌, ◌^◌, List, [], ◌∷◌, ◌++◌, ℕ, length, vec_len, vec_capacity, IsOk, IfOk, OnOk, OnErr};
 ghost use Rattle.std.specs.List.{sum_by};
 ghost use Rattle.mc_cells.specs.declared.TheConstants.{PAGE_BYTES};
 ghost use Rattle.mc_cells.specs.Kept.{KeptValue, cells_of, slots_of};
@@ -8,16 +8,13 @@ ghost use Rattle.mc_cells.specs.Contents.{AreKept, HasRoom, HasValue, value_at, 
 use crate::chain::{keep_chain, piece_count, remove_chain};
 use crate::page::{append_short, read_short};
 use crate::pages::ValuePages;
+use crate::piece_pool::PiecePool;
 use crate::place::Place;
-use crate::pool::CellPool;
-use crate::{CELL_BYTES, LONG_VALUE, PAGE_BYTES};
+use crate::{CELL_BYTES, LONG_VALUE, MAX_CELLS, PAGE_BYTES};
 use bytes::Bytes;
 use slab::Slab;
 use std::alloc::{AllocError, Global};
 use std::marker::Model;
-
-/// More cells than this have no numbers of 32 bits.
-const MAX_CELLS: usize = 4_294_967_296;
 
 /// More long values than this have no places: the number of a place would exceed 50 bits.
 const MAX_LONG: usize = 33_554_432;
@@ -28,7 +25,7 @@ const MAX_LONG: usize = 33_554_432;
 /// given back is used again, whatever its value's length was.
 pub struct Cells {
     /// Pieces of short values.
-    cells: CellPool,
+    cells: PiecePool,
     /// Long values.
     long: Slab<Bytes>,
     /// The bytes of short values that are read are cut from them.
@@ -55,6 +52,7 @@ impl Model for Cells {
     ghost view = { λ cells.
         record {
           slots = cells.cells.slots;
+          used = cells.cells.used;
           cell_room = cells.cells.capacity;
           long = cells.long.slots;
           long_room = cells.long.capacity;
@@ -67,7 +65,7 @@ impl Cells {
         ensures { AreKept result [] }
     {
         Cells {
-            cells: CellPool::new(alloc),
+            cells: PiecePool::new(alloc),
             long: Slab::new(alloc),
             pages: ValuePages::new(alloc, PAGE_BYTES),
         }
@@ -75,7 +73,7 @@ impl Cells {
 
     /// Allocates memory for `cells` more cells and `long` more long values. With that room `keep`
     /// succeeds.
-    /// Fails if memory is refused, or if there would be more than 2^32 cells or 2^25 long values.
+    /// Fails if memory is refused, or if there would be more than `MAX_CELLS` cells or 2^25 long values.
     pub fn reserve(&mut self, cells: usize, long: usize) -> Result<(), AllocError>
         ensures room { OnOk result (HasRoom self.new cells long) }
         ensures succeeds { HasRoom self.old cells long → IsOk result }
@@ -202,11 +200,14 @@ impl Cells {
         self.long.clear();
     }
 
-    /// How many cells are in use: each short value takes one for every 60 bytes of it, and one for
-    /// the rest.
+    /// How many cells are in use. Each short value takes one for every 60 bytes of it, and one for
+    /// the rest, which it shares with another one's if neither is longer than 30 bytes.
     pub fn cells_used(&self) -> usize
-        ensures used { (kept : List KeptValue) → AreKept self.now kept →
-            result ≡ sum_by (λ (value : KeptValue). cells_of value.0.len) kept }
+        ensures most { (kept : List KeptValue) → AreKept self.now kept →
+            result ≤ sum_by (λ (value : KeptValue). cells_of value.0.len) kept }
+        ensures least { (kept : List KeptValue) → AreKept self.now kept →
+            sum_by (λ (value : KeptValue). cells_of value.0.len) kept ≤ 2 * result }
+        ensures used { result ≡ self.now.used }
     {
         self.cells.len()
     }

@@ -1,12 +1,11 @@
 //! Chains of cells.
-ghost use Rattle.std.specs.Prelude.{◌≡◌, ◌+◌, ◌-◌, ◌*◌, ◌<◌, ◌≤◌, ◌^◌, ℕ, List, ◌∷◌, ◌++◌, length, take, drop, is_some, IsSome, count_by};
+ghost use Rattle.std.specs.Prelude.{◌≡◌, ◌+◌, ◌-◌, ◌*◌, ◌<◌, ◌≤◌, ℕ, List, ◌∷◌, ◌++◌, length, take, drop, IsSome};
 ghost use Rattle.mc_cells.specs.Chain.{cell_at, pieces, IsChain};
-ghost use Rattle.mc_cells.specs.Pool.{HasRoomFor};
+ghost use Rattle.mc_cells.specs.Halves.{ArePieces, HasRoomIn};
 ghost use Rattle.mc_cells.specs.Kept.{CellsHold, IsBeside, KeptValue, place_at};
 
-use crate::cell::Cell;
-use crate::pool::CellPool;
-use crate::{CELL_BYTES, LONG_VALUE};
+use crate::piece_pool::PiecePool;
+use crate::{CELL_BYTES, HALF_BYTES, LONG_VALUE, MAX_CELLS, SPLIT};
 
 /// How many cells a short value of this many bytes takes.
 pub(crate) fn piece_count(len: usize) -> usize
@@ -17,31 +16,32 @@ pub(crate) fn piece_count(len: usize) -> usize
 }
 
 /// Puts a piece before the chain that begins at `next`, and returns its cell's number.
-fn add_cell(cells: &mut CellPool, next: u32, bytes: [u8; CELL_BYTES]) -> u32
-    requires room { HasRoomFor cells.old 1 }
-    requires few { cells.old.capacity ≤ 2 ^ 32 }
+fn add_cell(cells: &mut PiecePool, next: u32, bytes: [u8; CELL_BYTES]) -> u32
+    requires room { HasRoomIn cells.old 1 }
+    requires few { cells.old.capacity ≤ MAX_CELLS }
+    requires link { next < SPLIT }
     ensures before { (text : List ℕ) (kept : List KeptValue) →
         length text + CELL_BYTES < LONG_VALUE →
         CellsHold cells.old.slots ((place_at next (length text), text) ∷ kept) →
         CellsHold cells.new.slots
         ((place_at result (length text + CELL_BYTES), bytes ++ text) ∷ kept) }
-    ensures last { (len : ℕ) (kept : List KeptValue) → 0 < len → len ≤ CELL_BYTES →
-        CellsHold cells.old.slots kept →
-        CellsHold cells.new.slots ((place_at result len, take len bytes) ∷ kept) }
-    ensures len { count_by is_some cells.new.slots ≡ count_by is_some cells.old.slots + 1 }
+    ensures used { cells.new.used ≤ cells.old.used + 1 }
+    ensures pieces { ArePieces cells.new.used cells.new.slots }
+    ensures below { result < SPLIT }
     ensures capacity { cells.new.capacity ≡ cells.old.capacity }
 {
-    cells.insert_reserved(Cell::new(next, bytes))
+    cells.insert_whole(next, bytes)
 }
 
 /// Removes the first cell of a chain, and returns the number of the next.
-fn take_cell(cells: &mut CellPool, first: u32) -> u32
+fn take_cell(cells: &mut PiecePool, first: u32) -> u32
     requires { IsSome (cell_at cells.old.slots first) }
     ensures chain { (count : ℕ) → 0 < count → IsChain cells.old.slots count first →
         IsChain cells.new.slots (count - 1) result }
     ensures beside { (count : ℕ) (kept : List KeptValue) → 0 < count →
         IsBeside cells.old.slots count first kept →
         IsBeside cells.new.slots (count - 1) result kept }
+    ensures pieces { ArePieces cells.new.used cells.new.slots }
     ensures capacity { cells.new.capacity ≡ cells.old.capacity }
 {
     cells.remove(first)
@@ -67,33 +67,50 @@ fn last_piece(bytes: &[u8]) -> [u8; CELL_BYTES]
     piece
 }
 
+/// The last piece of a value that fits half a cell, filled up with zeros.
+fn last_half(bytes: &[u8]) -> [u8; HALF_BYTES]
+    requires { length bytes.now ≤ HALF_BYTES }
+    ensures { take (length bytes.now) result ≡ bytes.now }
+{
+    let mut piece = [0; HALF_BYTES];
+    piece[..bytes.len()].copy_from_slice(bytes);
+    piece
+}
+
 /// Keeps the last piece of a value, if it isn't whole. Returns its cell's number.
-fn keep_last(cells: &mut CellPool, bytes: &[u8]) -> u32
+fn keep_last(cells: &mut PiecePool, bytes: &[u8]) -> u32
     requires short { length bytes.now ≤ CELL_BYTES }
-    requires room { HasRoomFor cells.old (pieces (length bytes.now)) }
-    requires few { cells.old.capacity ≤ 2 ^ 32 }
+    requires room { HasRoomIn cells.old (pieces (length bytes.now)) }
+    requires few { cells.old.capacity ≤ MAX_CELLS }
     ensures kept { (kept : List KeptValue) → CellsHold cells.old.slots kept →
         CellsHold cells.new.slots
         ((place_at result (length bytes.now), bytes.now) ∷ kept) }
-    ensures len { count_by is_some cells.new.slots ≡
-        count_by is_some cells.old.slots + pieces (length bytes.now) }
+    ensures used { cells.new.used ≤ cells.old.used + pieces (length bytes.now) }
+    ensures dense { ArePieces cells.old.used cells.old.slots →
+        ArePieces cells.new.used cells.new.slots }
+    ensures below { result < SPLIT }
     ensures capacity { cells.new.capacity ≡ cells.old.capacity }
 {
     if bytes.is_empty() {
         return 0;
     }
-    add_cell(cells, 0, last_piece(bytes))
+    if bytes.len() <= HALF_BYTES {
+        return cells.insert_half(last_half(bytes));
+    }
+    cells.insert_whole(0, last_piece(bytes))
 }
 
 /// Keeps a value in a chain of cells, and returns the number of the first. The chain is made from
 /// its last cell to its first, so that each is written once.
-pub(crate) fn keep_chain(cells: &mut CellPool, bytes: &[u8]) -> u32
+pub(crate) fn keep_chain(cells: &mut PiecePool, bytes: &[u8]) -> u32
     requires short { length bytes.now < LONG_VALUE }
-    requires room { HasRoomFor cells.old (pieces (length bytes.now)) }
-    requires few { cells.old.capacity ≤ 2 ^ 32 }
+    requires room { HasRoomIn cells.old (pieces (length bytes.now)) }
+    requires few { cells.old.capacity ≤ MAX_CELLS }
     ensures kept { (kept : List KeptValue) → CellsHold cells.old.slots kept →
         CellsHold cells.new.slots
         ((place_at result (length bytes.now), bytes.now) ∷ kept) }
+    ensures dense { ArePieces cells.old.used cells.old.slots →
+        ArePieces cells.new.used cells.new.slots }
     ensures capacity { cells.new.capacity ≡ cells.old.capacity }
 {
     let mut full = bytes.len() / CELL_BYTES;
@@ -107,10 +124,12 @@ pub(crate) fn keep_chain(cells: &mut CellPool, bytes: &[u8]) -> u32
 }
 
 /// Removes the cells of a chain.
-pub(crate) fn remove_chain(cells: &mut CellPool, first: u32, count: usize)
+pub(crate) fn remove_chain(cells: &mut PiecePool, first: u32, count: usize)
     requires { IsChain cells.old.slots count first }
     ensures removed { (kept : List KeptValue) → IsBeside cells.old.slots count first kept →
         CellsHold cells.new.slots kept }
+    ensures dense { ArePieces cells.old.used cells.old.slots →
+        ArePieces cells.new.used cells.new.slots }
     ensures capacity { cells.new.capacity ≡ cells.old.capacity }
 {
     let mut at = first;

@@ -4,25 +4,22 @@ ghost use Rattle.mc_cells.specs.Chain.{pieces, IsChain, chain_bytes};
 
 use crate::chain::piece_count;
 use crate::pages::ValuePages;
-use crate::pool::CellPool;
+use crate::piece_pool::PiecePool;
 use crate::{CELL_BYTES, LONG_VALUE, PAGE_BYTES};
 use bytes::{Bytes, BytesMut};
 use std::alloc::AllocError;
 
 /// Appends the bytes of a chain's cells to a page. Each copy is of one size that is known ahead.
-fn read_chain(cells: &CellPool, first: u32, count: usize, page: &mut BytesMut)
+fn read_chain(cells: &PiecePool, first: u32, count: usize, page: &mut BytesMut)
     requires chain { IsChain cells.now.slots count first }
     requires room { count * CELL_BYTES ≤ page.old.spare }
     ensures bytes { page.new.items ≡
         page.old.items ++ chain_bytes cells.now.slots count first }
-    ensures len { length page.new.items ≡ length page.old.items + count * CELL_BYTES }
 {
     let mut at = first;
     let mut left = count;
     while left > 0 {
-        let cell = cells.get(at);
-        page.extend_reserved(cell.bytes());
-        at = cell.next;
+        at = cells.read_piece(at, page);
         left -= 1;
     }
 }
@@ -30,7 +27,7 @@ fn read_chain(cells: &CellPool, first: u32, count: usize, page: &mut BytesMut)
 /// The value of a chain of cells, cut off the page. Whole cells are copied, and then what the last
 /// has behind the value is cut off.
 pub(crate) fn read_short(
-    cells: &CellPool,
+    cells: &PiecePool,
     first: u32,
     len: usize,
     pages: &mut ValuePages,
@@ -38,6 +35,7 @@ pub(crate) fn read_short(
     requires short { len < LONG_VALUE }
     requires size { pages.old.size ≡ PAGE_BYTES }
     requires chain { IsChain cells.now.slots (pieces len) first }
+    requires whole { len ≤ length (chain_bytes cells.now.slots (pieces len) first) }
     ensures value { IfOk result (λ value.
         value ≡ take len (chain_bytes cells.now.slots (pieces len) first)) }
     ensures size { pages.new.size ≡ PAGE_BYTES }
@@ -51,7 +49,7 @@ pub(crate) fn read_short(
 }
 
 /// Appends the bytes of a chain's cells. There is room for them.
-fn append_cells(cells: &CellPool, first: u32, count: usize, out: &mut Vec<u8>)
+fn append_cells(cells: &PiecePool, first: u32, count: usize, out: &mut Vec<u8>)
     requires chain { IsChain cells.now.slots count first }
     requires room { vec_len out.old + count * CELL_BYTES ≤ vec_capacity out.old }
     ensures { out.new.items ≡ out.old.items ++ chain_bytes cells.now.slots count first }
@@ -59,17 +57,14 @@ fn append_cells(cells: &CellPool, first: u32, count: usize, out: &mut Vec<u8>)
     let mut at = first;
     let mut left = count;
     while left > 0 {
-        let cell = cells.get(at);
-        // It never fails, since there is room.
-        let _ = out.extend_from_slice(cell.bytes());
-        at = cell.next;
+        at = cells.append_piece(at, out);
         left -= 1;
     }
 }
 
 /// Appends the value of a chain of cells. If memory is refused, nothing is appended.
 pub(crate) fn append_short(
-    cells: &CellPool,
+    cells: &PiecePool,
     first: u32,
     len: usize,
     out: &mut Vec<u8>,

@@ -1,5 +1,5 @@
 //! The cells of a shard, whether in use or vacant.
-ghost use Rattle.std.specs.Prelude.{◌≡◌, ◌+◌, ◌≤◌, ◌^◌, [], Some, IsSome, IsOk, OnOk, is_some, count_by};
+ghost use Rattle.std.specs.Prelude.{◌≡◌, ◌+◌, ◌<◌, ◌≤◌, ◌^◌, ℕ, [], Some, IsSome, IsOk, OnOk, is_some, count_by, length, slice_set};
 ghost use Rattle.mc_cells.specs.Chain.{cell_at};
 ghost use Rattle.mc_cells.specs.Pool.{HasRoomFor, IsAdded, IsRemoved};
 
@@ -85,8 +85,10 @@ impl CellPool {
     /// Puts a cell in use, and returns its number.
     pub(crate) fn insert_reserved(&mut self, cell: Cell) -> u32
         requires room { HasRoomFor self.old 1 }
-        requires few { self.old.capacity ≤ 2 ^ 32 }
+        requires few { count_by is_some self.old.slots < 2 ^ 32 }
         ensures added { IsAdded self.old.slots self.new.slots result cell }
+        ensures length { (n : ℕ) → length self.old.slots ≤ n →
+            count_by is_some self.old.slots + 1 ≤ n → length self.new.slots ≤ n }
         ensures capacity { self.new.capacity ≡ self.old.capacity }
     {
         if self.vacant == 0 {
@@ -105,6 +107,7 @@ impl CellPool {
     pub(crate) fn remove(&mut self, number: u32) -> u32
         requires { IsSome (cell_at self.old.slots number) }
         ensures removed { IsRemoved self.old.slots self.new.slots number result }
+        ensures length { length self.new.slots ≡ length self.old.slots }
         ensures capacity { self.new.capacity ≡ self.old.capacity }
     {
         let next = self.cells[number as usize].next;
@@ -120,6 +123,15 @@ impl CellPool {
         ensures { cell_at self.now.slots number ≡ Some result.now }
     {
         &self.cells[number as usize]
+    }
+
+    /// Changes a cell in use.
+    pub(crate) fn set(&mut self, number: u32, cell: Cell)
+        requires { IsSome (cell_at self.old.slots number) }
+        ensures slots { self.new.slots ≡ slice_set self.old.slots number (Some cell) }
+        ensures capacity { self.new.capacity ≡ self.old.capacity }
+    {
+        self.cells[number as usize] = cell;
     }
 
     /// Makes all cells vacant.

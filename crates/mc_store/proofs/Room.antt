@@ -83,7 +83,15 @@ pub room_for_one : (contents : Contents) (budget : ℕ) (es : List StoredEntry) 
 room_for_one contents budget es len cached fits =
     let cover = covered contents es cached.kept.cells.spelled in
     record {
-      cells = omega (arith, cover.cells, fits, cached.kept.cells.counted, cached.room.cells, cells_few len);
+      cells = omega (
+        arith,
+        cover.cells,
+        fits,
+        cached.kept.cells.counted,
+        cached.kept.few.least,
+        cached.room.cells,
+        cells_few len,
+      );
       long = omega (arith, cover.long, fits, cached.kept.long.counted, cached.room.long, slots_few len);
       few_cells = cached.room.few_cells;
       few_long = cached.room.few_long;

@@ -3,7 +3,7 @@ use Rattle.std.specs.Prelude.{ℕ, ◌+◌, ◌/◌, ◌≤◌, ◌^◌, List, m
 use Rattle.std.specs.List.{AllByRecursion}
 use Rattle.mc_cells.specs.Contents.{Contents, AreKept, value_at}
 use Rattle.mc_cells.specs.Kept.{KeptValue}
-use Rattle.mc_cells.specs.declared.TheConstants.{CELL_BYTES, LONG_VALUE}
+use Rattle.mc_cells.specs.declared.TheConstants.{CELL_BYTES, LONG_VALUE, MAX_CELLS}
 use Rattle.mc_wire.specs.declared.TheConstants.{MAX_VALUE_LIMIT}
 use Rattle.mc_store.specs.declared.stored.Stored.{Stored}
 use Rattle.mc_store.specs.internal.Listed.{ListedItem}
@@ -38,7 +38,7 @@ kept_value contents entry = (place_in entry.1, value_at contents (place_in entry
 pub record HasRoomForAll (contents : Contents) (budget : ℕ) : Type 0 where
   pub cells : budget / CELL_BYTES + LONG_VALUE / CELL_BYTES + 2 ≤ contents.cell_room
   pub long : budget / LONG_VALUE + 1 ≤ contents.long_room
-  pub few_cells : contents.cell_room ≤ 2 ^ 32
+  pub few_cells : contents.cell_room ≤ MAX_CELLS
   pub few_long : contents.long_room ≤ 2 ^ 25
 
 -- The value is no longer than a client's may be.

@@ -17,7 +17,7 @@ loop-full-preserved c =
     let short : length (drop (full * 60) bytes) + 60 < LONG_VALUE
     = omega (arith, size, length-drop ((full - 1) * 60) bytes, c.requires.short) in (
       omega (arith, before.0, some),
-      omega (arith, added.len, added.capacity, before.1, some),
+      omega (arith, added.used, added.capacity, before.1, some),
       added.capacity ∙ before.2,
       λ kept hold.
           let step : CellsHold c.add_cell-first.new.cells.slots
@@ -27,4 +27,6 @@ loop-full-preserved c =
           ) ∷ kept)
           = added.before (drop (full * 60) bytes) kept short (before.3 kept hold) in
           rw (piece, size, piece_joined bytes ((full - 1) * 60) (full * 60) sum) at step,
+      added.below,
+      λ _. added.pieces,
     )

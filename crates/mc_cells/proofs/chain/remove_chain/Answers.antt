@@ -9,4 +9,5 @@ loop-left-preserved c =
       taken.chain c.loop-left.left some before.0,
       taken.capacity ∙ before.1,
       λ kept beside. taken.beside c.loop-left.left kept some (before.2 kept beside),
+      λ _. taken.pieces,
     )

@@ -1,6 +1,5 @@
-use Rattle.std.proofs.Common.{◌≡◌, ◌+◌, ◌-◌, ◌++◌, Some, ◌∙◌, ap, sym, arith, append_assoc, length}
-use Rattle.std.specs.Prelude.{vec_len, IsOk}
-use Rattle.mc_cells.specs.Chain.{cell_at, chain_bytes}
+use Rattle.std.proofs.Common.{◌-◌, ◌++◌, ◌∙◌, ap, sym, arith, append_assoc}
+use Rattle.mc_cells.specs.Chain.{cell_at, chain_bytes, bytes_in, next_in}
 use Rattle.mc_cells.proofs.Taken.{bytes_behind, rest_is_chain}
 use Rattle.mc_cells.proofs.page.append_cells.Goals as goal
 
@@ -9,19 +8,14 @@ loop-left-preserved c =
     let before = c.loop-left.invariant in
     let some = c.loop-left-test.true in
     let slots = c.args.cells.now.slots in
-    let cell = c.get-cell.result.now in
-    let here : cell_at slots c.loop-left.at ≡ Some cell = c.get-cell.ensures in
-    let src = c.bytes.result.now in
-    let whole : length src ≡ 60 = c.bytes.ensures.whole in
-    let same : src ≡ cell.bytes = c.bytes.ensures.bytes in
-    let written = c.extend_from_slice.ensures in
-    let fits : IsOk c.extend_from_slice.result = written.succeeds (omega (arith, before.1, some, whole)) in
-    let items : c.extend_from_slice.new.self.items ≡ c.loop-left.out.items ++ src = rw fits at written.items in
-    let len : vec_len c.extend_from_slice.new.self ≡ vec_len c.loop-left.out + length src = rw fits at written.len in
-    let behind = bytes_behind slots c.loop-left.at c.loop-left.left cell some here in (
-      rest_is_chain slots c.loop-left.at c.loop-left.left cell some here before.0,
-      omega (arith, len, written.capacity, before.1, some, whole),
-      rw (items, same)
-          (append_assoc c.loop-left.out.items cell.bytes (chain_bytes slots (c.loop-left.left - 1) cell.next)
+    let at = c.loop-left.at in
+    let left = c.loop-left.left in
+    let by = c.append_piece-at.ensures in
+    let behind = bytes_behind slots at left some in (
+      rw by.next (rest_is_chain slots at left some before.0),
+      omega (arith, by.len, by.capacity, before.1, some),
+      rw (by.bytes, by.next)
+          (append_assoc c.loop-left.out.items (bytes_in (cell_at slots at))
+          (chain_bytes slots (left - 1) (next_in (cell_at slots at)))
           ∙ ap (λ xs. c.loop-left.out.items ++ xs) (sym behind) ∙ before.2),
     )

@@ -1,6 +1,5 @@
-use Rattle.std.proofs.Common.{◌≡◌, ◌-◌, ◌++◌, Some, ◌∙◌, ap, sym}
-use Rattle.std.proofs.Common.{arith, append_assoc, length, length-append}
-use Rattle.mc_cells.specs.Chain.{cell_at, chain_bytes}
+use Rattle.std.proofs.Common.{◌-◌, ◌++◌, ◌∙◌, ap, sym, arith, append_assoc}
+use Rattle.mc_cells.specs.Chain.{cell_at, chain_bytes, bytes_in, next_in}
 use Rattle.mc_cells.proofs.Taken.{bytes_behind, rest_is_chain}
 use Rattle.mc_cells.proofs.page.read_chain.Goals as goal
 
@@ -9,24 +8,14 @@ loop-left-preserved c =
     let before = c.loop-left.invariant in
     let some = c.loop-left-test.true in
     let slots = c.args.cells.now.slots in
-    let cell = c.get-cell.result.now in
-    let here : cell_at slots c.loop-left.at ≡ Some cell = c.get-cell.ensures in
-    let src = c.bytes.result.now in
-    let whole : length src ≡ 60 = c.bytes.ensures.whole in
-    let same : src ≡ cell.bytes = c.bytes.ensures.bytes in
-    let written = c.extend_reserved.ensures in
-    let behind = bytes_behind slots c.loop-left.at c.loop-left.left cell some here in (
-      rest_is_chain slots c.loop-left.at c.loop-left.left cell some here before.0,
-      omega (arith, written.spare, before.1, some, whole),
-      omega (
-        arith,
-        length-append c.loop-left.page.items src,
-        ap (λ xs. length xs) written.items,
-        before.2,
-        some,
-        whole,
-      ),
-      rw (written.items, same)
-          (append_assoc c.loop-left.page.items cell.bytes (chain_bytes slots (c.loop-left.left - 1) cell.next)
-          ∙ ap (λ xs. c.loop-left.page.items ++ xs) (sym behind) ∙ before.3),
+    let at = c.loop-left.at in
+    let left = c.loop-left.left in
+    let by = c.read_piece-at.ensures in
+    let behind = bytes_behind slots at left some in (
+      rw by.next (rest_is_chain slots at left some before.0),
+      omega (arith, by.spare, before.1, some),
+      rw (by.bytes, by.next)
+          (append_assoc c.loop-left.page.items (bytes_in (cell_at slots at))
+          (chain_bytes slots (left - 1) (next_in (cell_at slots at)))
+          ∙ ap (λ xs. c.loop-left.page.items ++ xs) (sym behind) ∙ before.2),
     )

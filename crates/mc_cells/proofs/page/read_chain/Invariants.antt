@@ -1,5 +1,5 @@
 -- The page has the bytes of the cells passed, and room for those that are left.
-use Rattle.std.proofs.Common.{◌≡◌, ◌+◌, ◌*◌, ◌≤◌, ◌++◌, length}
+use Rattle.std.proofs.Common.{◌≡◌, ◌*◌, ◌≤◌, ◌++◌}
 use Rattle.mc_cells.specs.Chain.{IsChain, chain_bytes}
 use Rattle.mc_cells.proofs.page.read_chain.Given as goal
 
@@ -7,7 +7,6 @@ abbrev pub invariant-loop-left : goal.invariant-loop-left
 invariant-loop-left l =
     IsChain l.cells.slots l.left l.at ×
     (l.left * 60 ≤ l.page.spare) ×
-    (length l.page.items + l.left * 60 ≡ length l.fn.page.items + l.fn.count * 60) ×
     (l.page.items ++ chain_bytes l.cells.slots l.left l.at
     ≡ l.fn.page.items ++ chain_bytes l.cells.slots l.fn.count l.fn.first)
 

@@ -14,6 +14,8 @@ returns-clause-kept c =
     let number = c.insert_reserved.result in
     let slots_are : c.self.inside.cells.slots ≡ old.slots
     = ap (λ (x : Contents). x.slots) c.self.view_is ∙ ap (λ (x : Contents). x.slots) c.reserve.ensures.kept in
+    let used_are : c.self.inside.cells.used ≡ old.used
+    = ap (λ (x : Contents). x.used) c.self.view_is ∙ ap (λ (x : Contents). x.used) c.reserve.ensures.kept in
     let long_are : c.self.inside.long.slots ≡ old.long
     = ap (λ (x : Contents). x.long) c.self.view_is ∙ ap (λ (x : Contents). x.long) c.reserve.ensures.kept in
     let by = c.insert_reserved.ensures in
@@ -25,5 +27,6 @@ returns-clause-kept c =
     record {
       cells = rw slots_are
           (cells_with_long old.slots number c.len-len.result value kept (rw len c.requires.long) (sym len) hold.cells);
+      few = rw (slots_are, used_are) hold.few;
       long = more;
     }

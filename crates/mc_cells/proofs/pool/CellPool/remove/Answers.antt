@@ -1,6 +1,7 @@
-use Rattle.std.proofs.Common.{arith, refl}
+use Rattle.std.proofs.Common.{arith, refl, length-set, ◌+◌}
+use Rattle.std.specs.Prelude.{slice_set}
 use Rattle.mc_cells.specs.Chain.{cell_of}
-use Rattle.mc_cells.proofs.Vacant.{pool_count, in_vector, read_in_use, vacated_in}
+use Rattle.mc_cells.proofs.Vacant.{pool_count, in_vector, read_in_use, vacated_in, vacate_map}
 use Rattle.mc_cells.proofs.pool.CellPool.remove.Goals as goal
 
 pub index-requires : goal.index-requires
@@ -47,3 +48,15 @@ returns-clause-removed c =
       removed = rw (← c.self.view_is)
           ((vacated_in cells fields.vacant fields.free c.args.number was changed c.self.invariant here refl).removed);
     }
+
+pub returns-clause-length : goal.returns-clause-length
+returns-clause-length c =
+    let fields = c.self.inside in
+    let cells = fields.cells.items in
+    let changed = cell_of fields.free c.index_mut.result.now.bytes in
+    rw (← c.self.view_is) (omega (
+      arith,
+      vacate_map (slice_set cells c.args.number changed) (fields.vacant + 1) c.args.number,
+      length-set cells c.args.number changed,
+      vacate_map cells fields.vacant fields.free,
+    ))
