@@ -144,6 +144,15 @@ turn_waits held state token key own item unique h is same = by (is_none token &&
       rw e (assumption)
   by false e made = absurd cc
 
+-- Where there is none, as many wait as before.
+pub no_turn_waits : (held : ShardContents) (state : State) (token : Option ℕ) (key : List ℕ) (item : Item)
+    → Keeps held state → None ≡ turn_of token key item.expiry → Keeps held (with_turn state token key item)
+no_turn_waits held state token key item h is = by (is_none token && expires item.expiry) refl is where
+  by : (b : Bool) → (is_none token && expires item.expiry) ≡ b → None ≡ (if b then Some key else None)
+      → Keeps held (with_turn state token key item)
+  by true e made = absurd cc
+  by false e made = rw e (assumption)
+
 -- What a look does to an item
 
 -- The item under a key is as it was, or it was dead and is gone.

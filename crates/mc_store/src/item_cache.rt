@@ -15,6 +15,7 @@ ghost use Rattle.mc_store.specs.internal.Stored.{fields_in, fields_of, place_in}
 use crate::ITEM_OVERHEAD;
 use crate::access::{Access, Use};
 use crate::fields::Fields;
+use crate::flushed::{Flushed, ItemMap};
 use crate::hashing::PolynomialState;
 use crate::reserve::Reserve;
 use crate::stored::Stored;
@@ -32,6 +33,10 @@ use std::num::NonZeroUsize;
 /// No item costs less: its key has a byte.
 const MIN_COST: usize = ITEM_OVERHEAD + 1;
 
+/// How many flushed items a store frees. With 4 their table is there for so long that memory passes
+/// what it was before the flush by 7 %, and with 8 by 4 %.
+const FREED_ITEMS: usize = 8;
+
 /// What an item becomes when it is marked stale in place.
 #[derive(Clone, Copy)]
 pub struct Staling {
@@ -44,10 +49,14 @@ pub struct Staling {
 /// The map has what is known of each item besides its value, and the place of that. There is always
 /// memory for the values of as many items as fit the budget, and for one value more.
 pub struct ItemCache {
-    cache: LruCache<Key, Stored, PolynomialState>,
+    cache: ItemMap,
     cells: Cells,
     /// What the items may cost together, in bytes.
     budget: usize,
+    /// How keys are hashed.
+    hashing: PolynomialState,
+    /// The maps of flushed items.
+    flushed: Flushed<ItemMap>,
 }
 
 impl Drop for ItemCache {
@@ -57,6 +66,8 @@ impl Drop for ItemCache {
             cache: _cache,
             cells: _cells,
             budget: _,
+            hashing: _,
+            flushed: _flushed,
         } = self;
     }
 }
@@ -91,13 +102,11 @@ fn note_use(stored: &mut Stored, new: Use)
 {
     let old = stored.fields();
     stored.set_fields(&Fields {
-        flags: old.flags,
         fetched: new.fetched,
-        stale: old.stale,
         sent: new.sent,
         expiry: new.expiry,
-        unique: old.unique,
         last_access: new.time,
+        ..old
     });
 }
 
@@ -114,13 +123,11 @@ fn note_stale(stored: &mut Stored, new: Staling)
 {
     let old = stored.fields();
     stored.set_fields(&Fields {
-        flags: old.flags,
-        fetched: old.fetched,
         stale: true,
         sent: false,
         expiry: new.expiry,
         unique: new.unique,
-        last_access: old.last_access,
+        ..old
     });
 }
 
@@ -132,13 +139,9 @@ fn note_seen(stored: &mut Stored, new: Use)
 {
     let old = stored.fields();
     stored.set_fields(&Fields {
-        flags: old.flags,
-        fetched: old.fetched,
-        stale: old.stale,
         sent: new.sent,
         expiry: new.expiry,
-        unique: old.unique,
-        last_access: old.last_access,
+        ..old
     });
 }
 
@@ -158,6 +161,25 @@ fn read_value(cells: &mut Cells, place: Place, reserve: &mut Option<Reserve>) ->
     }
 }
 
+/// Takes all items out of the map, to be freed later. Where memory is refused nothing changes.
+fn set_aside(
+    flushed: &mut Flushed<ItemMap>,
+    map: &mut ItemMap,
+    hashing: PolynomialState,
+) -> Result<(), AllocError>
+    ensures taken { OnOk result (flushed.new ≡ flushed.old + length map.old.entries) }
+    ensures left { OnOk result (map.new ≡ lru_cache [] map.old.cap) }
+    ensures err { OnErr result (flushed.new ≡ flushed.old) }
+    ensures unchanged { OnErr result (map.new ≡ map.old) }
+{
+    if map.is_empty() {
+        return Ok(());
+    }
+    let mut empty = LruCache::unbounded_with_hasher(*map.allocator(), hashing)?;
+    empty.resize(map.cap());
+    flushed.take(map, empty)
+}
+
 impl ItemCache {
     /// No items, which may cost `budget` bytes together. Before they come they take address space
     /// alone. They are hashed under words that are drawn from the random state.
@@ -168,7 +190,8 @@ impl ItemCache {
             record { entries = []; cap = budget / (item_overhead + 1) + 1; budget = budget }) }
     {
         let capacity = NonZeroUsize::new(budget / MIN_COST + 1).unwrap();
-        let mut cache = LruCache::unbounded_with_hasher(alloc, PolynomialState::new(hasher))?;
+        let hashing = PolynomialState::new(hasher);
+        let mut cache = LruCache::unbounded_with_hasher(alloc, hashing)?;
         cache.resize(capacity);
         let mut cells = Cells::new(alloc);
         cells.reserve(
@@ -179,6 +202,8 @@ impl ItemCache {
             cache,
             cells,
             budget,
+            hashing,
+            flushed: Flushed::new(alloc),
         })
     }
 
@@ -316,7 +341,7 @@ impl ItemCache {
 
     /// Puts the item under the key as the most recently used one, and returns the length of the
     /// value that was there. If memory is refused nothing changes; over an item that is there it
-    /// never is.
+    /// never is. First some flushed items are freed.
     pub fn put(&mut self, key: Key, item: Item) -> Result<Option<usize>, NoMemory>
         requires time { item.last_access ≤ LATEST_MOMENT }
         requires fits { listed_cost self.old.entries ≤ self.old.budget }
@@ -331,6 +356,7 @@ impl ItemCache {
         ensures succeeds { IsSome (lookup (same_key key) self.old.entries) → IsOk result }
     {
         every_kept();
+        self.flushed.free_some(FREED_ITEMS);
         let fields = Fields::of(&item);
         let place = self.cells.keep(item.value.into_bytes())?;
         match self.cache.put(key, Stored::new(&fields, place)) {
@@ -378,11 +404,14 @@ impl ItemCache {
         Some((key, place.len()))
     }
 
-    /// Takes all items out.
+    /// Takes all items out. The stores that follow free them. If memory is refused for that, they are
+    /// freed at once.
     pub fn clear(&mut self)
         ensures { self.new ≡ record self.old { entries = [] } }
     {
-        self.cache.clear();
+        if set_aside(&mut self.flushed, &mut self.cache, self.hashing).is_err() {
+            self.cache.clear();
+        }
         self.cells.clear();
     }
 }

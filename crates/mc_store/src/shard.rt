@@ -24,8 +24,9 @@ mod storing;
 
 use crate::access;
 use crate::fields::Fields;
+use crate::flushed::{Flushed, Turns};
 use crate::items::{Items, cost_of};
-use crate::shard::reclaiming::make_turn;
+use crate::shard::reclaiming::{clear_turns, make_turn};
 use mc_item::{Answer, Counting, Item, MetaDone, Op, OpStats, PackedExpiry, Status, Value};
 use mc_sizes::{MAX_BUDGET, MIN_BUDGET};
 use mc_wire::{Key, LATEST_MOMENT, MAX_VALUE_LIMIT};
@@ -55,9 +56,10 @@ impl From<AllocError> for StoreError {
 /// One shard: items by key, in the order of their last use.
 pub struct Shard {
     items: Items,
-    /// The turns of items with an expiry, the next one first: the key of each, and the unique that
-    /// its item had then.
-    turns: VecDeque<(Key, u64)>,
+    /// The turns of items with an expiry.
+    turns: Turns,
+    /// The queues of flushed turns.
+    flushed_turns: Flushed<Turns>,
     /// A value has at most this many bytes.
     limit: usize,
     /// The greatest moment so far.
@@ -81,6 +83,7 @@ impl Drop for Shard {
         let Shard {
             items: _items,
             turns: _turns,
+            flushed_turns: _flushed_turns,
             limit: _limit,
             time: _time,
             flush: _flush,
@@ -121,6 +124,7 @@ impl Shard {
         Ok(Shard {
             items,
             turns: VecDeque::new(alloc),
+            flushed_turns: Flushed::new(alloc),
             limit,
             time: 0,
             flush: None,
@@ -284,7 +288,7 @@ impl Shard {
         ensures { (state : State) → IsShard self.old state → IsShard self.new (flushed state) }
     {
         self.items.clear();
-        self.turns.clear();
+        clear_turns(&mut self.turns, &mut self.flushed_turns);
         self.flush = None;
     }
 

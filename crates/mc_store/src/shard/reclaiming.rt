@@ -1,5 +1,5 @@
 //! Removal of dead items: an item with an expiry waits for its turn to be looked at.
-ghost use Rattle.std.specs.Prelude.{◌≡◌, ◌<◌, ◌≤◌, ◌&&◌, ◌==◌, not, ℕ, List, Option, IfOk};
+ghost use Rattle.std.specs.Prelude.{◌≡◌, ◌<◌, ◌≤◌, ◌&&◌, ◌==◌, [], not, ℕ, List, Option, IfOk};
 ghost use Rattle.std.specs.Option.{IsSome};
 ghost use Rattle.std.specs.VecDeque.{deque_len, deque_capacity};
 ghost use Rattle.mc_item.specs.declared.item.Item.{Item as TheItem};
@@ -7,6 +7,7 @@ ghost use Rattle.mc_item.specs.Expiry.{is_dead};
 ghost use Rattle.mc_store.specs.internal.Found.{turn_of};
 
 use crate::fields::Fields;
+use crate::flushed::{Flushed, Turns};
 use crate::items::is_other;
 use crate::shard::Shard;
 use mc_item::{Expiry, PackedExpiry};
@@ -14,10 +15,14 @@ use mc_wire::Key;
 use std::alloc::AllocError;
 use std::collections::VecDeque;
 
+/// How many flushed turns a store frees. It is more than of items, so that no store frees both the
+/// queue of the turns and the table of the items, where there were as many.
+const FREED_TURNS: usize = 16;
+
 /// Makes room for a turn of the item that is to enter under the key, and copies the key for it. An
 /// item without an expiry gets none, and neither does one whose unique is a client's token.
 pub(super) fn make_turn(
-    turns: &mut VecDeque<(Key, u64)>,
+    turns: &mut Turns,
     token: Option<u64>,
     key: &Key,
     expiry: PackedExpiry,
@@ -38,6 +43,20 @@ pub(super) fn make_turn(
     Ok(Some(copy))
 }
 
+/// Removes all turns. The stores that follow free them. If memory is refused for that, they are freed
+/// at once.
+pub(super) fn clear_turns(turns: &mut Turns, flushed: &mut Flushed<Turns>)
+    ensures { turns.new.items ≡ [] }
+{
+    if turns.is_empty() {
+        return;
+    }
+    let empty = VecDeque::new(*turns.allocator());
+    if flushed.take(turns, empty).is_err() {
+        turns.clear();
+    }
+}
+
 /// Whether the item is removed: it is dead, and it isn't the one that enters, which has the unique
 /// `entering`.
 fn is_reclaimed(item: &Fields, entering: u64, time: u64) -> bool
@@ -51,13 +70,14 @@ impl Shard {
     ghost use Rattle.mc_store.specs.Shard.{IsShard};
 
     /// Looks at the next two turns, for the item of this unique, which entered. Then it gets the
-    /// turn that was made for it.
+    /// turn that was made for it. First some flushed turns are freed.
     pub(super) fn take_turns(&mut self, turn: Option<Key>, unique: u64)
         requires { IsSome turn → deque_len self.old.turns < deque_capacity self.old.turns }
         ensures { (state : State) (token : Option ℕ) (key : List ℕ) (item : TheItem) →
             IsShard self.old state → turn ≡ turn_of token key item.expiry → item.unique ≡ unique →
             IsShard self.new (with_turn (looked unique (looked unique state)) token key item) }
     {
+        self.flushed_turns.free_some(FREED_TURNS);
         self.look_twice(unique);
         if let Some(own) = turn {
             self.turns.push_back_reserved((own, unique));

@@ -4,4 +4,4 @@ use Rattle.mc_store.proofs.shard.Shard.remove_all.Goals as goal
 
 pub returns : goal.returns
 unfolding IsShard
-returns c = λ state h. rw (c.clear.ensures, c.clear-2.ensures.items) (flush_all (held_of c.args.self.now) state h)
+returns c = λ state h. rw (c.clear.ensures, c.clear_turns.ensures) (flush_all (held_of c.args.self.now) state h)
