@@ -1,5 +1,5 @@
 //! Pages of memory that values are cut from.
-ghost use Rattle.std.specs.Prelude.{◌≡◌, ◌≤◌, [], length, IfOk, OnOk, OnErr};
+ghost use Rattle.std.specs.Prelude.{◌≡◌, ◌≤◌, [], length, IfOk, OnOk};
 
 use bytes::{Bytes, BytesMut};
 use std::alloc::{AllocError, Global};

@@ -363,12 +363,13 @@ impl<T: Warrant + Drop, C: Clerk<T> + Drop> ShardLink<T, C> {
     {
         // Contracts alone need the clock.
         let _ = clock;
-        self.note_taken(&buffered_conn.conn);
+        let taken = &buffered_conn.conn;
+        self.note_taken(taken);
         self.send_all(&mut buffered_conn.conn);
-        if !self.is_idle() {
-            return LineStep::Waits;
+        if self.is_idle() {
+            return LineStep::Did;
         }
-        LineStep::Did
+        LineStep::Waits
     }
 
     /// Returns the clerk, once the seat serves no more lines.

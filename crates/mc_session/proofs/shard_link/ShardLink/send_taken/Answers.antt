@@ -12,8 +12,8 @@ send_all-requires g c =
     may_carry c.args.self.now c.note_taken.new.self _ c.note_taken.ensures.ends c.note_taken.ensures.under_way
     c.note_taken.ensures.records c.requires
 
-pub returns-then-not-is_idle-clause-says : goal.returns-then-not-is_idle-clause-says
-returns-then-not-is_idle-clause-says g c shards rules begin now before serves =
+pub returns-then-is_idle-clause-says : goal.returns-then-is_idle-clause-says
+returns-then-is_idle-clause-says g c shards rules begin now before serves =
     let noted = c.note_taken.ensures in
     let recorded = records_line shards rules _ begin now before c.args.self.now c.note_taken.new.self _
     noted.ends noted.under_way noted.records serves in
@@ -26,14 +26,14 @@ returns-clause-says g c shards rules begin now before serves =
     noted.ends noted.under_way noted.records serves in
     (serves_carried _ shards rules _ begin _ before _ c.send_all.new.self _ _ c.send_all.ensures.goes recorded).serves
 
-pub returns-then-not-is_idle-clause-called : goal.returns-then-not-is_idle-clause-called
-returns-then-not-is_idle-clause-called g c waits = c.send_all.new.self.all_called c.send_all.ensures.called
+pub returns-clause-called : goal.returns-clause-called
+returns-clause-called g c waits = c.send_all.new.self.all_called c.send_all.ensures.called
 
-pub returns-then-not-is_idle-clause-waits : goal.returns-then-not-is_idle-clause-waits
-returns-then-not-is_idle-clause-waits g c waits = sym c.if-not-is_idle.ensures
+pub returns-clause-waits : goal.returns-clause-waits
+returns-clause-waits g c waits = sym c.if-is_idle.ensures
 
-pub returns-then-not-is_idle-clause-kept : goal.returns-then-not-is_idle-clause-kept
-returns-then-not-is_idle-clause-kept g c = kept_then _ _ _ c.note_taken.ensures.kept c.send_all.ensures.kept
+pub returns-then-is_idle-clause-kept : goal.returns-then-is_idle-clause-kept
+returns-then-is_idle-clause-kept g c = kept_then _ _ _ c.note_taken.ensures.kept c.send_all.ensures.kept
 
 pub returns-clause-kept : goal.returns-clause-kept
 returns-clause-kept g c = kept_then _ _ _ c.note_taken.ensures.kept c.send_all.ensures.kept
