@@ -11,7 +11,7 @@ use std::alloc::{AllocError, Global};
 /// Size of a page in bytes.
 const PAGE_BYTES: usize = 32_768;
 
-/// Appends the bytes of a chain's cells to a page. Each copy is of one size that is known ahead.
+/// Appends the bytes of a chain's pieces to a page.
 fn read_chain(cells: &PiecePool, first: u32, count: usize, page: &mut BytesMut)
     requires chain { IsChain cells.now.slots count first }
     requires room { count * CELL_BYTES ≤ page.old.spare }
