@@ -5,8 +5,8 @@ ghost use Rattle.mc_cells.specs.Halves.{half_of};
 
 use crate::{CELL_BYTES, HALF_BYTES};
 
-/// A piece of a value, and the number of the cell with the next piece. A vacant cell has the
-/// number of the next vacant one.
+/// A piece of a value, and the number of the next piece; or two halves, each the last piece of a
+/// value, and where the vacant one is noted. A vacant cell has the number of the next vacant one.
 #[derive(Clone, Copy)]
 pub(crate) struct Cell {
     pub(crate) next: u32,

@@ -15,7 +15,7 @@ pub(crate) fn piece_count(len: usize) -> usize
     (len + CELL_BYTES - 1) / CELL_BYTES
 }
 
-/// Puts a piece before the chain that begins at `next`, and returns its cell's number.
+/// Puts a piece before the chain that begins at `next`, and returns its number.
 fn add_cell(cells: &mut PiecePool, next: u32, bytes: [u8; CELL_BYTES]) -> u32
     requires room { HasRoomIn cells.old 1 }
     requires few { cells.old.capacity ≤ MAX_CELLS }
@@ -33,7 +33,7 @@ fn add_cell(cells: &mut PiecePool, next: u32, bytes: [u8; CELL_BYTES]) -> u32
     cells.insert_whole(next, bytes)
 }
 
-/// Removes the first cell of a chain, and returns the number of the next.
+/// Removes the first piece of a chain, and returns the number of the next.
 fn take_cell(cells: &mut PiecePool, first: u32) -> u32
     requires { IsSome (cell_at cells.old.slots first) }
     ensures chain { (count : ℕ) → 0 < count → IsChain cells.old.slots count first →
@@ -77,7 +77,8 @@ fn last_half(bytes: &[u8]) -> [u8; HALF_BYTES]
     piece
 }
 
-/// Keeps the last piece of a value, if it isn't whole. Returns its cell's number.
+/// Keeps the last piece of a value, if it isn't whole, in half a cell where it fits. Returns its
+/// number.
 fn keep_last(cells: &mut PiecePool, bytes: &[u8]) -> u32
     requires short { length bytes.now ≤ CELL_BYTES }
     requires room { HasRoomIn cells.old (pieces (length bytes.now)) }

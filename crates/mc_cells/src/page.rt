@@ -9,7 +9,7 @@ use crate::{CELL_BYTES, LONG_VALUE, PAGE_BYTES};
 use bytes::{Bytes, BytesMut};
 use std::alloc::AllocError;
 
-/// Appends the bytes of a chain's cells to a page. Each copy is of one size that is known ahead.
+/// Appends the bytes of a chain's pieces to a page.
 fn read_chain(cells: &PiecePool, first: u32, count: usize, page: &mut BytesMut)
     requires chain { IsChain cells.now.slots count first }
     requires room { count * CELL_BYTES ≤ page.old.spare }

@@ -8,7 +8,7 @@ use crate::LONG_VALUE;
 /// Where a value is kept. A value without bytes takes no cell.
 #[derive(Clone, Copy, Debug, PartialEq, Eq)]
 pub struct Place {
-    /// The number of its first cell, or of the slot of a long value.
+    /// The number of its first piece, or of the slot of a long value.
     pub(crate) first: u32,
     /// Its length in bytes.
     pub(crate) len: u32,
