@@ -45,8 +45,8 @@ returns-then-self-clause-says g c shards rules begin before serves =
     c.receive_all.ensures.goes recorded in
     (serves_carried _ shards rules _ begin _ before _ c.send_all.new.self _ _ c.send_all.ensures.goes received).serves
 
-pub go_on-requires : goal.go_on-requires
-go_on-requires g c =
+pub go_on-step-requires : goal.go_on-step-requires
+go_on-step-requires g c =
     let some = c.requires in
     let noted = c.note_taken.ensures in
     let recorded = records_line some.shards some.rules _ some.begin _ some.before c.args.self.now
@@ -82,9 +82,9 @@ returns-clause-says g c shards rules begin before serves =
     c.evidence-seen.ensures.ends c.evidence-seen.ensures.under_way c.evidence-seen.ensures.clerk
     (settles _ shards rules _ begin _ before _ c.send_all.new.self _ _ c.send_all.ensures.goes c.if-self.false idle
     received) in
-    let says = c.go_on.ensures.says settled.serves.received begin settled.serves.flow settled.serves.stopped
+    let says = c.go_on-step.ensures.says settled.serves.received begin settled.serves.flow settled.serves.stopped
     (settled_complete _ _ _ _ _ _ _ _ settled) in
-    settled_says c.go_on.result shards rules _ begin _ _ before _ _ c.go_on.new.self settled says
+    settled_says c.go_on-step.result shards rules _ begin _ _ before _ _ c.go_on-step.new.self settled says
 
 pub send_taken-requires : goal.send_taken-requires
 send_taken-requires g c =
@@ -102,7 +102,7 @@ send_taken-requires g c =
     c.if-self.false idle received) in
     let says = c.go_on-step.ensures.says settled.serves.received some.begin settled.serves.flow settled.serves.stopped
     (settled_complete _ _ _ _ _ _ _ _ settled) in
-    can_record _ _ _ _ _ _ _ _ (rw c.if-step.true at
+    can_record _ _ _ _ _ _ _ _ (rw c.in-Did.is at
     (settled_says c.go_on-step.result some.shards some.rules _ some.begin _ _ some.before _ _ c.go_on-step.new.self
     settled says))
 
@@ -111,7 +111,7 @@ returns-clause-called g c waits =
     c.evidence-seen.new.self.all_called (c.evidence-seen.ensures.called ∙ c.send_all.ensures.called)
 
 pub returns-clause-waits : goal.returns-clause-waits
-returns-clause-waits g c waits = inr (c.go_on.ensures.waits waits)
+returns-clause-waits g c waits = inr (c.go_on-step.ensures.waits waits)
 
 pub returns-then-not-is_idle-clause-kept : goal.returns-then-not-is_idle-clause-kept
 returns-then-not-is_idle-clause-kept g c =
@@ -125,3 +125,33 @@ pub returns-clause-kept : goal.returns-clause-kept
 returns-clause-kept g c =
     kept_then _ _ _ c.note_taken.ensures.kept (kept_then _ _ _ c.receive_all.ensures.kept
     (kept_then _ _ _ c.send_all.ensures.kept (kept_same _ _ c.evidence-seen.ensures.clerk)))
+
+pub returns-in-Did-clause-says : goal.returns-in-Did-clause-says
+returns-in-Did-clause-says g c shards rules begin before serves =
+    let noted = c.note_taken.ensures in
+    let recorded = records_line shards rules _ begin _ before c.args.self.now c.note_taken.new.self _ noted.ends
+    noted.under_way noted.records serves in
+    let received = serves_carried _ shards rules _ begin _ before _ c.receive_all.new.self _ _
+    c.receive_all.ensures.goes recorded in
+    let idle = all_zero c.send_all.new.self.under_way.items (sym c.if-not-is_idle.ensures) in
+    let settled = settled_same shards rules _ begin _ before c.send_all.new.self c.evidence-seen.new.self _
+    c.evidence-seen.ensures.ends c.evidence-seen.ensures.under_way c.evidence-seen.ensures.clerk
+    (settles _ shards rules _ begin _ before _ c.send_all.new.self _ _ c.send_all.ensures.goes c.if-self.false idle
+    received) in
+    let says = c.go_on-step.ensures.says settled.serves.received begin settled.serves.flow settled.serves.stopped
+    (settled_complete _ _ _ _ _ _ _ _ settled) in
+    c.send_taken.ensures.says shards rules begin _ before
+    (rw c.in-Did.is at
+    (settled_says c.go_on-step.result shards rules _ begin _ _ before _ _ c.go_on-step.new.self settled says))
+
+pub returns-in-Did-clause-called : goal.returns-in-Did-clause-called
+returns-in-Did-clause-called g c waits = c.send_taken.ensures.called waits
+
+pub returns-in-Did-clause-waits : goal.returns-in-Did-clause-waits
+returns-in-Did-clause-waits g c waits = inl (c.send_taken.ensures.waits waits)
+
+pub returns-in-Did-clause-kept : goal.returns-in-Did-clause-kept
+returns-in-Did-clause-kept g c =
+    kept_then _ _ _ c.note_taken.ensures.kept (kept_then _ _ _ c.receive_all.ensures.kept
+    (kept_then _ _ _ c.send_all.ensures.kept
+    (kept_then _ _ _ (kept_same _ _ c.evidence-seen.ensures.clerk) c.send_taken.ensures.kept)))
