@@ -3,6 +3,7 @@
 What is expected is counted here from what the clients send and get. The text of the metrics is read by promtool, of Debian's
 prometheus, too if it is installed.
 """
+import contextlib
 import multiprocessing
 import os
 import pathlib
@@ -852,6 +853,35 @@ def test_the_systems_tables_are_read_once_a_second():
         line.sendall(asked)
         next_answer(line)
         assert bytes_read(server) > before
+
+
+def seconds_of_answers(server, line, count=300):
+    """The processor time of the server for so many answers of one connection."""
+    before = server.cpu_seconds()
+    for _ in range(count):
+        line.sendall(b"GET /metrics HTTP/1.1\r\nHost: x\r\n\r\n")
+        next_answer(line)
+    return server.cpu_seconds() - before
+
+
+def seconds_by_sockets(_server, _line):
+    """What would be if each answer read the system's tables."""
+    return len(pathlib.Path("/proc/net/tcp").read_text()) / MIB
+
+
+@fails_with(("seconds_of_answers", "seconds_by_sockets"))
+def test_long_tables_make_no_answer_slow():
+    """Only listening sockets are kept of the tables, and looked at for each answer: 8,000 sockets of others cost nothing more."""
+    with Watched() as server, socket.create_connection(("127.0.0.1", server.metrics_port), timeout=30) as line, contextlib.ExitStack() as kept:
+        alone = seconds_of_answers(server, line)
+        listener = kept.enter_context(socket.create_server(("127.0.0.1", 0), backlog=128))
+        for _ in range(4_000):
+            kept.enter_context(socket.create_connection(listener.getsockname()))
+            kept.enter_context(listener.accept()[0])
+        time.sleep(1.1)
+        beside = seconds_of_answers(server, line)
+    print(f"{alone:.2f} s of processor time for 300 answers, {beside:.2f} s beside 8,000 sockets")
+    assert beside <= alone + 0.15
 
 
 @fails_with("is another process")
