@@ -551,7 +551,7 @@ def test_few_open_files_are_reported():
     """Where fewer may be open than all seats need, the program says so and goes on."""
     with running(limited("-n 20", "--seats", "30"), stderr=subprocess.PIPE) as process:
         port = int(process.stderr.readline().rpartition(b":")[2])
-        assert process.stderr.readline() == b"mcd: warning: --seats 30 needs 45 open files, but only 20 are allowed (ulimit -n)\n"
+        assert process.stderr.readline() == b"mcd: warning: --seats 30 needs 46 open files, but only 20 are allowed (ulimit -n)\n"
         with Line(port) as line:
             line.ask(b"mn\r\n", b"MN\r\n")
 

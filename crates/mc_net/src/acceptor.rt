@@ -164,10 +164,10 @@ pub struct Acceptor {
     first: usize,
     /// Number of connections still to accept, if it is limited.
     left: Option<u64>,
-    /// Whether a connection is refused while all slots are in use, or no more files may be open, as
-    /// by memcached's rules.
+    /// Whether a connection is refused while all slots are in use, or no file but the last may be
+    /// open, as by memcached's rules.
     refuses: bool,
-    /// A descriptor that is closed to refuse a connection if no more files may be open. See
+    /// A descriptor that is closed to refuse a connection if no file but the last may be open. See
     /// docs/DECISIONS.md, N2.
     spare: Option<OwnedFd>,
     /// Number of times that a slot was reported as free; it saturates.
@@ -320,7 +320,7 @@ impl Acceptor {
         if is_full && !(self.is_full && self.refuses) {
             return Ok(false);
         }
-        match self.look() {
+        match self.look_and_leave_one() {
             Found::Connection(connection) => {
                 if is_full {
                     self.telemetry.rejected();
@@ -333,6 +333,26 @@ impl Acceptor {
             Found::Nothing => Ok(false),
             Found::Fault(fault) => self.wait_out(rt, fault),
         }
+    }
+
+    /// Accepts the next connection, if one is pending and one more file may be open besides it. So
+    /// the last file is always left to the metrics' thread, which closes its own for a moment when
+    /// it accepts.
+    fn look_and_leave_one(&mut self) -> Found {
+        match self.last_file() {
+            Ok(_left) => self.look(),
+            Err(fault) => Found::Fault(fault),
+        }
+    }
+
+    /// Holds one file, if two more may be open. Fails if only one may.
+    fn last_file(&self) -> io::Result<Option<OwnedFd>> {
+        let Some(listener) = self.listeners.first() else {
+            return Ok(None);
+        };
+        let left = listener.descriptor()?;
+        let _free = listener.descriptor()?;
+        Ok(Some(left))
     }
 
     /// Tries each listener until one has a connection.
@@ -354,8 +374,8 @@ impl Acceptor {
     }
 
     /// Pauses after a transient error of `accept`, such as too many open files or a peer that
-    /// disconnected; returns any other error. If it refuses, and no more files may be open, the
-    /// next connection is refused.
+    /// disconnected; returns any other error. If it refuses, and no file but the last may be open,
+    /// the next connection is refused.
     fn wait_out<R: time::Clock>(&mut self, rt: &R, fault: io::Error) -> io::Result<bool> {
         self.telemetry.failed(fault.raw_os_error());
         if is_one_of(&fault, &LASTING_FAULTS) {
