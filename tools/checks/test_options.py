@@ -526,7 +526,7 @@ def test_what_cannot_be_written_is_reported():
     with tempfile.NamedTemporaryFile("w", suffix=".schedule") as file, open("/dev/full", "wb") as full:
         file.write("sim 1 1 1024 1\nopen 0\n")
         file.flush()
-        for words in (["--replay", file.name], ["--version"]):
+        for words in (["--replay", file.name], ["--version"], ["--help"]):
             assert ended(*words, stdout=full) == (1, "", "mcd: cannot write\n"), words[0]
         ran = subprocess.run(mcd("--stdio"), input=b"mn\r\n", stdout=full, stderr=subprocess.PIPE, timeout=30)
         assert (ran.returncode, ran.stderr) == (1, b"mcd: cannot write\n")
