@@ -526,7 +526,7 @@ def test_what_cannot_be_written_is_reported():
     with tempfile.NamedTemporaryFile("w", suffix=".schedule") as file, open("/dev/full", "wb") as full:
         file.write("sim 1 1 1024 1\nopen 0\n")
         file.flush()
-        for words in (["--replay", file.name], ["--version"]):
+        for words in (["--replay", file.name], ["--version"], ["--help"]):
             assert ended(*words, stdout=full) == (1, "", "mcd: cannot write\n"), words[0]
         ran = subprocess.run(mcd("--stdio"), input=b"mn\r\n", stdout=full, stderr=subprocess.PIPE, timeout=30)
         assert (ran.returncode, ran.stderr) == (1, b"mcd: cannot write\n")
@@ -551,7 +551,7 @@ def test_few_open_files_are_reported():
     """Where fewer may be open than all seats need, the program says so and goes on."""
     with running(limited("-n 20", "--seats", "30"), stderr=subprocess.PIPE) as process:
         port = int(process.stderr.readline().rpartition(b":")[2])
-        assert process.stderr.readline() == b"mcd: warning: --seats 30 needs 45 open files, but only 20 are allowed (ulimit -n)\n"
+        assert process.stderr.readline() == b"mcd: warning: --seats 30 needs 46 open files, but only 20 are allowed (ulimit -n)\n"
         with Line(port) as line:
             line.ask(b"mn\r\n", b"MN\r\n")
 

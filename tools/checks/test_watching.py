@@ -3,6 +3,7 @@
 What is expected is counted here from what the clients send and get. The text of the metrics is read by promtool, of Debian's
 prometheus, too if it is installed.
 """
+import contextlib
 import multiprocessing
 import os
 import pathlib
@@ -854,6 +855,35 @@ def test_the_systems_tables_are_read_once_a_second():
         assert bytes_read(server) > before
 
 
+def seconds_of_answers(server, line, count=300):
+    """The processor time of the server for so many answers of one connection."""
+    before = server.cpu_seconds()
+    for _ in range(count):
+        line.sendall(b"GET /metrics HTTP/1.1\r\nHost: x\r\n\r\n")
+        next_answer(line)
+    return server.cpu_seconds() - before
+
+
+def seconds_by_sockets(_server, _line):
+    """What would be if each answer read the system's tables."""
+    return len(pathlib.Path("/proc/net/tcp").read_text()) / MIB
+
+
+@fails_with(("seconds_of_answers", "seconds_by_sockets"))
+def test_long_tables_make_no_answer_slow():
+    """Only listening sockets are kept of the tables, and looked at for each answer: 8,000 sockets of others cost nothing more."""
+    with Watched() as server, socket.create_connection(("127.0.0.1", server.metrics_port), timeout=30) as line, contextlib.ExitStack() as kept:
+        alone = seconds_of_answers(server, line)
+        listener = kept.enter_context(socket.create_server(("127.0.0.1", 0), backlog=128))
+        for _ in range(4_000):
+            kept.enter_context(socket.create_connection(listener.getsockname()))
+            kept.enter_context(listener.accept()[0])
+        time.sleep(1.1)
+        beside = seconds_of_answers(server, line)
+    print(f"{alone:.2f} s of processor time for 300 answers, {beside:.2f} s beside 8,000 sockets")
+    assert beside <= alone + 0.15
+
+
 @fails_with("is another process")
 def test_metrics_are_served_where_no_file_is_left():
     """One client at a time finds a file, though the cache's clients hold all and more wait. A silent one is replaced by the next."""
@@ -861,17 +891,58 @@ def test_metrics_are_served_where_no_file_is_left():
         lines = [Line(server.port)]
         try:
             lines[0].ask(NO_OP, NO_OP_REPLY)
-            most = len(os.listdir(f"/proc/{server.process.pid}/fd")) + 1
+            most = len(os.listdir(f"/proc/{server.process.pid}/fd")) + 2
             resource.prlimit(server.process.pid, resource.RLIMIT_NOFILE, (most, most))
             lines += [Line(server.port) for _ in range(8)]
             lines[1].ask(NO_OP, NO_OP_REPLY)
             for _ in range(4):
                 assert server.get("/healthz")[0] == 200
             values = server.values()
-            assert values["process_open_fds"] == most and values["mcd_accepts_failed_total"] > 0
+            assert values["process_open_fds"] == most - 1 and values["mcd_accepts_failed_total"] > 0
             with socket.create_connection(("127.0.0.1", server.metrics_port)):
                 time.sleep(0.5)
                 assert server.get("/healthz")[0] == 200
         finally:
             for line in lines:
                 line.close()
+
+
+def connects_and_leaves(port, sent, stop):
+    """Connects again and again, and leaves at once."""
+    while not stop.is_set():
+        with contextlib.suppress(OSError), socket.create_connection(("127.0.0.1", port), timeout=1) as line:
+            line.sendall(sent)
+        time.sleep(0.002)
+
+
+def probed(server):
+    """Whether a probe that comes now is answered soon."""
+    with contextlib.suppress(OSError), socket.create_connection(("127.0.0.1", server.metrics_port), timeout=5) as line:
+        line.sendall(b"GET /healthz HTTP/1.1\r\nHost: x\r\n\r\n")
+        return line.recv(100).startswith(b"HTTP/1.1 200 OK")
+    return False
+
+
+@pytest.mark.parametrize("rules", [(), ("--drop-in",)])
+@fails_with("answers late")
+def test_a_crowd_keeps_no_probe_out_where_no_file_is_left(rules):
+    """The cache's clients hold all files and more wait, while others connect and leave at both ports: a file for metrics remains."""
+    with Watched("--seats", 64, *rules) as server, contextlib.ExitStack() as kept:
+        kept.enter_context(Line(server.port)).ask(NO_OP, NO_OP_REPLY)
+        most = len(os.listdir(f"/proc/{server.process.pid}/fd")) + 2
+        resource.prlimit(server.process.pid, resource.RLIMIT_NOFILE, (most, most))
+        for _ in range(8):
+            kept.enter_context(Line(server.port))
+        stop = threading.Event()
+        places = [(server.metrics_port, b"")] * 4 + [(server.port, NO_OP)] * 2
+        crowd = [threading.Thread(target=connects_and_leaves, args=(*place, stop)) for place in places]
+        try:
+            for it in crowd:
+                it.start()
+            time.sleep(4)
+            during = [probed(server) for _ in range(8)]
+        finally:
+            stop.set()
+            for it in crowd:
+                it.join()
+        assert during == [True] * 8 and probed(server)

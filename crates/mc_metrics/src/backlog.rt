@@ -4,7 +4,7 @@ ghost use Rattle.std.specs.Prelude.{◌≡◌, nat_eq};
 ghost use Rattle.std.specs.List.{list_any};
 ghost use Rattle.mc_metrics.specs.Backlog.{AreWaiting, behind_colon, hexadecimal, waiting_at, waiting_in, word_at};
 
-use std::alloc::Global;
+use std::alloc::{AllocError, Global};
 use std::fs::File;
 use std::io;
 use std::io::{Read, Seek, SeekFrom};
@@ -21,7 +21,8 @@ const STATE: usize = 3;
 
 const QUEUES: usize = 4;
 
-/// The system's tables of TCP sockets, which stay open, and their texts when they were last read.
+/// The system's tables of TCP sockets, which stay open, and of each the lines of listening sockets
+/// when it was last read. A table has some 150 bytes for each socket of the system.
 pub(crate) struct Tables {
     alloc: Global,
     /// The table of IPv4, if it can be opened.
@@ -74,7 +75,7 @@ impl Tables {
     }
 }
 
-/// The current text of a table; empty if it can't be read.
+/// The current lines of listening sockets of a table; none if it can't be read.
 fn table_text(alloc: Global, table: &Option<File>) -> String {
     match read_table(alloc, table) {
         Ok(text) => text,
@@ -82,7 +83,7 @@ fn table_text(alloc: Global, table: &Option<File>) -> String {
     }
 }
 
-/// Reads a table from its start.
+/// Reads a table from its start, and keeps the lines of listening sockets.
 fn read_table(alloc: Global, table: &Option<File>) -> io::Result<String> {
     let mut text = String::new(alloc);
     if let Some(file) = table {
@@ -90,7 +91,19 @@ fn read_table(alloc: Global, table: &Option<File>) -> io::Result<String> {
         file.seek(SeekFrom::Start(0))?;
         file.read_to_string(&mut text)?;
     }
-    Ok(text)
+    Ok(listening_lines(alloc, &text)?)
+}
+
+/// The lines of a table that are of listening sockets. The others count for nothing.
+fn listening_lines(alloc: Global, table: &str) -> Result<String, AllocError> {
+    let mut kept = String::new(alloc);
+    for line in table.lines() {
+        if word_at(line, STATE) == LISTENING {
+            kept.push_str(line)?;
+            kept.push('\n')?;
+        }
+    }
+    Ok(kept)
 }
 
 /// How many connections wait, by this table, at the sockets that listen at one of the ports.

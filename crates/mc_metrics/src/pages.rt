@@ -1,5 +1,5 @@
 //! Answers to HTTP requests.
-ghost use Rattle.std.specs.Prelude.{◌≡◌, ◌≤◌, ◌<◌, ◌/◌, [], IfOk, string_bytes};
+ghost use Rattle.std.specs.Prelude.{◌≡◌, ◌≤◌, ◌<◌, ◌/◌, [], IfOk, Some, string_bytes};
 ghost use Rattle.mc_telemetry.specs.Counts.{AreTotals, SameCounts};
 ghost use Rattle.mc_metrics.specs.Answers.{AreMetrics, IsAnswer, IsTextAt, is_read, status_at, target_of};
 ghost use Rattle.mc_metrics.specs.Samples.{Samples};
@@ -157,6 +157,8 @@ impl<C: Count> Pages<C> {
     /// Reads the backlog's length and the process's resource usage again, at most once per second
     /// of uptime, since the system's tables may be long.
     pub(crate) fn refresh(&mut self)
+        ensures refreshed { self.new.refreshed ≡ Some self.old.uptime }
+        ensures once { self.old.refreshed ≡ Some self.old.uptime → self.new ≡ self.old }
         ensures facts { self.new.facts ≡ self.old.facts }
         ensures counts { self.new.counts ≡ self.old.counts }
         ensures uptime { self.new.uptime ≡ self.old.uptime }

@@ -194,20 +194,26 @@ impl MetricsServer {
         unreachable!()
     }
 
-    /// Accepts pending clients, a limited number per turn. Returns whether there may be more. If no
-    /// file is left, a client is dropped for the next one, if another has come or no request has
-    /// come since the last turn.
+    /// Accepts pending clients, a limited number per turn. Returns whether there may be more.
     fn let_in<R: RandomSource>(&mut self, rt: &R, asked: bool) -> bool {
-        for place in 0..COMERS {
+        for accepted in 0..COMERS {
             match self.entry.accept() {
                 Ok(stream) => self.welcome(rt, stream),
-                Err(fault) => {
-                    let is_needed = place == 0 && (!asked || self.entry.has_come());
-                    return is_needed && lacks_files(&fault) && self.dismiss_one();
-                }
+                Err(fault) => return lacks_files(&fault) && self.make_room(accepted, asked),
             }
         }
         true
+    }
+
+    /// Once no file is left: drops a client for the next one, if no other was accepted in this turn.
+    /// The last client is only dropped if another has come, or no request has come since the last
+    /// turn. Returns whether there may be more to accept at once.
+    fn make_room(&mut self, accepted: usize, asked: bool) -> bool {
+        if accepted > 0 {
+            return true;
+        }
+        let is_needed = self.visitors.len() > 1 || !asked || self.entry.has_come();
+        is_needed && self.dismiss_one()
     }
 
     /// Adds a client, unless the system has no random bytes for it.

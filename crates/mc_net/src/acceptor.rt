@@ -164,12 +164,14 @@ pub struct Acceptor {
     first: usize,
     /// Number of connections still to accept, if it is limited.
     left: Option<u64>,
-    /// Whether a connection is refused while all slots are in use, or no more files may be open, as
-    /// by memcached's rules.
+    /// Whether a connection is refused while all slots are in use, or no file but the last may be
+    /// open, as by memcached's rules.
     refuses: bool,
-    /// A descriptor that is closed to refuse a connection if no more files may be open. See
+    /// A descriptor that is closed to refuse a connection if no file but the last may be open. See
     /// docs/DECISIONS.md, N2.
     spare: Option<OwnedFd>,
+    /// Whether the last connection found no file, or only the last one was left since.
+    lacks_files: bool,
     /// Number of times that a slot was reported as free; it saturates.
     freed: usize,
     /// Whether it was reported that all slots are in use, and not yet that one is free again.
@@ -193,6 +195,7 @@ impl Drop for Acceptor {
             left: _left,
             refuses: _refuses,
             spare: _spare,
+            lacks_files: _,
             freed: _freed,
             is_full: _is_full,
             poller: _poller,
@@ -240,6 +243,7 @@ impl Acceptor {
             left: connections,
             refuses,
             spare: None,
+            lacks_files: false,
             freed: 0,
             is_full: false,
             poller,
@@ -320,7 +324,7 @@ impl Acceptor {
         if is_full && !(self.is_full && self.refuses) {
             return Ok(false);
         }
-        match self.look() {
+        match self.look_and_leave_one() {
             Found::Connection(connection) => {
                 if is_full {
                     self.telemetry.rejected();
@@ -333,6 +337,32 @@ impl Acceptor {
             Found::Nothing => Ok(false),
             Found::Fault(fault) => self.wait_out(rt, fault),
         }
+    }
+
+    /// Accepts the next connection, if one is pending. Once files were lacking, one more must be
+    /// left besides its own. So the last one is left to the metrics' thread, which closes its own
+    /// for a moment when it accepts. While files are not lacking, none is opened to look.
+    fn look_and_leave_one(&mut self) -> Found {
+        if !self.lacks_files {
+            return self.look();
+        }
+        match self.last_file() {
+            Ok(_left) => {
+                self.lacks_files = false;
+                self.look()
+            }
+            Err(fault) => Found::Fault(fault),
+        }
+    }
+
+    /// Holds one file, if two more may be open. Fails if only one may.
+    fn last_file(&self) -> io::Result<Option<OwnedFd>> {
+        let Some(listener) = self.listeners.first() else {
+            return Ok(None);
+        };
+        let left = listener.descriptor()?;
+        let _free = listener.descriptor()?;
+        Ok(Some(left))
     }
 
     /// Tries each listener until one has a connection.
@@ -354,15 +384,18 @@ impl Acceptor {
     }
 
     /// Pauses after a transient error of `accept`, such as too many open files or a peer that
-    /// disconnected; returns any other error. If it refuses, and no more files may be open, the
-    /// next connection is refused.
+    /// disconnected; returns any other error. If it refuses, and no file but the last may be open,
+    /// the next connection is refused.
     fn wait_out<R: time::Clock>(&mut self, rt: &R, fault: io::Error) -> io::Result<bool> {
         self.telemetry.failed(fault.raw_os_error());
         if is_one_of(&fault, &LASTING_FAULTS) {
             return Err(fault);
         }
-        if is_one_of(&fault, &NO_FILES) && self.spare.take().is_some() {
-            return Ok(self.refuse_next());
+        if is_one_of(&fault, &NO_FILES) {
+            self.lacks_files = true;
+            if self.spare.take().is_some() {
+                return Ok(self.refuse_next());
+            }
         }
         thread::sleep(rt, Duration::from_millis(PAUSE_MILLIS));
         Ok(true)

@@ -11,8 +11,9 @@ use std::rt::Files;
 const FILES_A_SHARD: u64 = 3;
 
 /// Other open files: the three standard ones, the three of the accepting thread, a connection that
-/// waits for a slot, and the status file with the pending signals.
-const OTHER_FILES: u64 = 8;
+/// waits for a slot, the status file with the pending signals, and the last one, which the
+/// accepting thread leaves to others.
+const OTHER_FILES: u64 = 9;
 
 /// The last descriptor of standard input, output and error.
 const LAST_STANDARD: i32 = 2;
@@ -38,7 +39,7 @@ fn files_for(seats: usize, shards: usize, listeners: usize) -> u64
     ensures { result ≡
         min
         (min (min (seats + min (shards * 3) (2 ^ 64 - 1)) (2 ^ 64 - 1) + listeners)
-        (2 ^ 64 - 1) + 8) (2 ^ 64 - 1) }
+        (2 ^ 64 - 1) + 9) (2 ^ 64 - 1) }
 {
     let threads = (shards as u64).saturating_mul(FILES_A_SHARD);
     (seats as u64)
