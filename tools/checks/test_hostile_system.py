@@ -69,7 +69,7 @@ def test_an_idle_server_takes_no_processor_time():
 
 @fails_with("is another process")
 def test_connections_wait_for_open_files():
-    """Where no file but the last may be open, connections wait until one is closed; the thread that accepts looks now and then."""
+    """Where no more files may be open, connections wait until two are closed, one of which is left; the accepting thread looks now and then."""
     with Server("--seats", 16) as server:
         first = Line(server.port)
         first.ask(ASKED, ANSWERED)
@@ -77,11 +77,14 @@ def test_connections_wait_for_open_files():
         resource.prlimit(server.process.pid, resource.RLIMIT_NOFILE, (used + 2, used + 2))
         second = Line(server.port)
         second.ask(ASKED, ANSWERED)
+        extra = Line(server.port)
+        extra.ask(ASKED, ANSWERED)
         third = Line(server.port, timeout=0.5)
         third.send(ASKED)
         third.waits()
         took = idle_seconds(server)
         first.close()
+        extra.close()
         third.socket.settimeout(30)
         assert third.read(len(ANSWERED)) == ANSWERED
         second.ask(ASKED, ANSWERED)
@@ -99,12 +102,13 @@ def is_served(port):
 
 @fails_with("is another process")
 def test_open_files_that_run_out_refuse_by_memcacheds_rules():
-    """Where no file but the last may be open, each further connection is answered and closed, as if no seat were free."""
+    """Where no more files may be open, each further connection is answered and closed, as if no seat were free."""
     with Server("--seats", 16, "--drop-in") as server:
-        with Line(server.port) as first:
+        with Line(server.port) as first, Line(server.port) as second:
             first.ask(ASKED, ANSWERED)
+            second.ask(ASKED, ANSWERED)
             used = len(os.listdir(f"/proc/{server.process.pid}/fd"))
-            resource.prlimit(server.process.pid, resource.RLIMIT_NOFILE, (used + 1, used + 1))
+            resource.prlimit(server.process.pid, resource.RLIMIT_NOFILE, (used, used))
             for _ in range(20):
                 with Line(server.port, timeout=10) as refused:
                     assert refused.rest() == TOO_MANY
