@@ -170,8 +170,8 @@ pub struct Acceptor {
     /// A descriptor that is closed to refuse a connection if no file but the last may be open. See
     /// docs/DECISIONS.md, N2.
     spare: Option<OwnedFd>,
-    /// Whether the last connection found no file, or only the last one was left since.
-    lacks_files: bool,
+    /// Whether a connection has found no file. From then on the last one is left to others.
+    lacked_files: bool,
     /// Number of times that a slot was reported as free; it saturates.
     freed: usize,
     /// Whether it was reported that all slots are in use, and not yet that one is free again.
@@ -195,7 +195,7 @@ impl Drop for Acceptor {
             left: _left,
             refuses: _refuses,
             spare: _spare,
-            lacks_files: _,
+            lacked_files: _,
             freed: _freed,
             is_full: _is_full,
             poller: _poller,
@@ -243,7 +243,7 @@ impl Acceptor {
             left: connections,
             refuses,
             spare: None,
-            lacks_files: false,
+            lacked_files: false,
             freed: 0,
             is_full: false,
             poller,
@@ -341,16 +341,13 @@ impl Acceptor {
 
     /// Accepts the next connection, if one is pending. Once files were lacking, one more must be
     /// left besides its own. So the last one is left to the metrics' thread, which closes its own
-    /// for a moment when it accepts. While files are not lacking, none is opened to look.
+    /// for a moment when it accepts. Before that no file is opened to look.
     fn look_and_leave_one(&mut self) -> Found {
-        if !self.lacks_files {
+        if !self.lacked_files {
             return self.look();
         }
         match self.last_file() {
-            Ok(_left) => {
-                self.lacks_files = false;
-                self.look()
-            }
+            Ok(_left) => self.look(),
             Err(fault) => Found::Fault(fault),
         }
     }
@@ -392,7 +389,7 @@ impl Acceptor {
             return Err(fault);
         }
         if is_one_of(&fault, &NO_FILES) {
-            self.lacks_files = true;
+            self.lacked_files = true;
             if self.spare.take().is_some() {
                 return Ok(self.refuse_next());
             }
