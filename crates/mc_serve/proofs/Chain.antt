@@ -81,20 +81,20 @@ module _ (shards : ℕ) (rules : Rules) (may_answer : ℕ → Type 0) where
   lines_more (l ∷ lines) line first now last are this = (are.0, are.1, lines_more lines line are.0 now last are.2 this)
 
   -- The connections of a slot, with one more that was served.
-  pub record OneMore (sat rose : SeatAt) : Type 0 where
+  pub record OneMore (was at_end : SeatAt) : Type 0 where
     pub lines : List LineFlow
-    pub source : Passes sat.source lines rose.source
-    pub lines_are : ServesLines shards rules may_answer lines sat.ends rose.ends
+    pub source : Passes was.source lines at_end.source
+    pub lines_are : ServesLines shards rules may_answer lines was.ends at_end.ends
 
   -- A connection that is served after those before it, and then taken back, is one more that the slot served.
-  pub one_more : (sat rose : SeatAt) (lines : List LineFlow) (line : LineFlow) (before source : SourceFlow)
-      (ends : Ends Near) → IsFree sat.source → Passes sat.source lines before
+  pub one_more : (was at_end : SeatAt) (lines : List LineFlow) (line : LineFlow) (before source : SourceFlow)
+      (ends : Ends Near) → IsFree was.source → Passes was.source lines before
       → IsNext line.begin before → source ≡ let_in line.begin before
-      → rose.source ≡ took_back line.now line.commands line.broke source
-      → ServesLines shards rules may_answer lines sat.ends ends
-      → ServesSourceLine shards rules may_answer line ends rose.ends → OneMore sat rose
-  one_more sat rose lines line before source ends free passed next came back are this = record {
+      → at_end.source ≡ took_back line.now line.commands line.broke source
+      → ServesLines shards rules may_answer lines was.ends ends
+      → ServesSourceLine shards rules may_answer line ends at_end.ends → OneMore was at_end
+  one_more was at_end lines line before source ends free passed next came back are this = record {
     lines = lines ++ line ∷ [];
-    source = passes_more sat.source before source rose.source lines line free passed next came back;
-    lines_are = lines_more lines line sat.ends ends rose.ends are this;
+    source = passes_more was.source before source at_end.source lines line free passed next came back;
+    lines_are = lines_more lines line was.ends ends at_end.ends are this;
   }

@@ -21,9 +21,9 @@ use Rattle.mc_session.specs.Routes.{AreOnRoutes}
 use Rattle.mc_net.specs.Flow.{SourceFlow}
 use Rattle.mc_serve.specs.declared.connection_slot.SlotState.{SlotState}
 use Rattle.mc_serve.specs.declared.connection_slot.SlotState.TheVariants as slot_state
-use Rattle.mc_serve.specs.Seats.{CanStep, HasSatDown, SeatAt, SeatServes, SeatStands, seat_at}
+use Rattle.mc_serve.specs.Seats.{CanStep, IsNewSeat, SeatAt, SeatServes, SeatHolds, seat_at}
 use Rattle.mc_serve.specs.Recorded.{IsClerkOf, route_from}
-use Rattle.mc_serve.proofs.Steps.{can_step, sits_first}
+use Rattle.mc_serve.proofs.Steps.{can_step, holds_first}
 use Rattle.mc_serve.proofs.Zipped.{met_at, zips_append}
 use Rattle.mc_serve.proofs.AtSources.{AreJoined}
 use Rattle.mc_command.specs.declared.rules.Rules.{Rules}
@@ -34,8 +34,8 @@ use Rattle.mc_ring.proofs.Lists.{all_append}
 abbrev pub Stands : {S L : Type 0} {T : Type 0} {w : Warrants T} {g : Ghosts Acting T} → (L → Place) → (L → Sight)
     → (S → SourceFlow) → (S → Session T Acting w g) → (S → SlotState L) → ℕ → Rules → (ℕ → Type 0) → SeatAt → S
     → Type 0
-Stands place sight flow session now shards rules may_answer sat one =
-    SeatStands place sight shards rules may_answer sat (flow one) (session one) (now one)
+Stands place sight flow session now shards rules may_answer was one =
+    SeatHolds place sight shards rules may_answer was (flow one) (session one) (now one)
 
 abbrev pub at : {S : Type 0} {T : Type 0} {w : Warrants T} {g : Ghosts Acting T} → (S → SourceFlow)
     → (S → Session T Acting w g) → S → SeatAt
@@ -47,49 +47,49 @@ pub seats_begin : {S L : Type 0} {T : Type 0} {w : Warrants T} {g : Ghosts Actin
     (sight : L → Sight)
     (flow : S → SourceFlow) (session : S → Session T Acting w g) (now : S → SlotState L) (shards : ℕ) (rules : Rules)
     (may_answer : ℕ → Type 0)
-    → AllByRecursion (λ one. HasSatDown shards rules (flow one) (session one) (now one)) seats
+    → AllByRecursion (λ one. IsNewSeat shards rules (flow one) (session one) (now one)) seats
     → Zips (Stands place sight flow session now shards rules may_answer) (map (at flow session) seats) seats
 seats_begin [] place sight flow session now shards rules may_answer all = tt
 seats_begin {S} {L} (one ∷ seats) place sight flow session now shards rules may_answer all =
     let down = all.0 in
     let P : SlotState L → Type 0 =
-    λ p. SeatStands place sight shards rules may_answer (at flow session one) (flow one) (session one) p in (
+    λ p. SeatHolds place sight shards rules may_answer (at flow session one) (flow one) (session one) p in (
       subst P (sym down.none)
-          (sits_first shards rules may_answer (flow one)
+          (holds_first shards rules may_answer (flow one)
           (session one) down.window down.free down.width down.vacant down.ruled),
       seats_begin seats place sight flow session now shards rules may_answer all.1,
     )
 
 -- Slots whose channels are all closed have served their sources.
 pub seats_over : {S L : Type 0} {T : Type 0} {w : Warrants T} {g : Ghosts Acting T} (seats : List S)
-    (sats : List SeatAt)
+    (were : List SeatAt)
     (place : L → Place) (sight : L → Sight) (flow : S → SourceFlow) (session : S → Session T Acting w g)
     (now : S → SlotState L) (shards : ℕ)
     (rules : Rules) (may_answer : ℕ → Type 0)
     → AllByRecursion (λ one. now one ≡ slot_state.Over) seats
-    → Zips (Stands place sight flow session now shards rules may_answer) sats seats
-    → Zips (SeatServes shards rules may_answer) sats (map (at flow session) seats)
+    → Zips (Stands place sight flow session now shards rules may_answer) were seats
+    → Zips (SeatServes shards rules may_answer) were (map (at flow session) seats)
 seats_over [] [] place sight flow session now shards rules may_answer all zips = tt
 seats_over (one ∷ seats) [] place sight flow session now shards rules may_answer all zips = absurd zips
-seats_over [] (sat ∷ sats) place sight flow session now shards rules may_answer all zips = absurd zips
-seats_over {S} {L} (one ∷ seats) (sat ∷ sats) place sight flow session now shards rules may_answer all zips =
-    let P : SlotState L → Type 0 = λ p. SeatStands place sight shards rules may_answer sat (flow one) (session one) p in
-    (subst P all.0 zips.0, seats_over seats sats place sight flow session now shards rules may_answer all.1 zips.1)
+seats_over [] (was ∷ were) place sight flow session now shards rules may_answer all zips = absurd zips
+seats_over {S} {L} (one ∷ seats) (was ∷ were) place sight flow session now shards rules may_answer all zips =
+    let P : SlotState L → Type 0 = λ p. SeatHolds place sight shards rules may_answer was (flow one) (session one) p in
+    (subst P all.0 zips.0, seats_over seats were place sight flow session now shards rules may_answer all.1 zips.1)
 
 -- The slot at an index may be stepped, also after it has changed, if the invariant was kept.
 pub seat_steps : {S L : Type 0} {T : Type 0} {w : Warrants T} {g : Ghosts Acting T} (seats : List S)
-    (sats : List SeatAt)
+    (were : List SeatAt)
     (number : ℕ)
     (one next : S) (place : L → Place) (sight : L → Sight) (flow : S → SourceFlow) (session : S → Session T Acting w g)
     (now : S → SlotState L)
     (shards : ℕ) (rules : Rules) (may_answer : ℕ → Type 0)
     → slice_get seats number ≡ Some one
-    → ((sat : SeatAt) → Stands place sight flow session now shards rules may_answer sat one
-    → Stands place sight flow session now shards rules may_answer sat next)
-    → Zips (Stands place sight flow session now shards rules may_answer) sats seats
+    → ((was : SeatAt) → Stands place sight flow session now shards rules may_answer was one
+    → Stands place sight flow session now shards rules may_answer was next)
+    → Zips (Stands place sight flow session now shards rules may_answer) were seats
     → CanStep place sight may_answer (now next) (session next)
-seat_steps seats sats number one next place sight flow session now shards rules may_answer here became zips =
-    let met = met_at (Stands place sight flow session now shards rules may_answer) sats seats number one zips here in
+seat_steps seats were number one next place sight flow session now shards rules may_answer here became zips =
+    let met = met_at (Stands place sight flow session now shards rules may_answer) were seats number one zips here in
     can_step shards rules may_answer place sight met.one (flow next) (session next) (now next) (became met.one met.met)
 
 -- What is true of the first elements and of the next one is true of one element more.

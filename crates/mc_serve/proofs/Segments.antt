@@ -333,59 +333,59 @@ seat_ran sizes may_answer seat (line ∷ lines) before after mine chain runs own
     }
 
 -- A slot before its first connection: its clerk is that of its ends, and has recorded nothing.
-pub record IsNewSeat (sizes : Sizes) (sat : SeatAt) : Type 0 where
-  pub clerk : IsClerkOf sizes sat.ends sat.clerk
-  pub none : sat.clerk.events ≡ []
+pub record IsNewSeat (sizes : Sizes) (was : SeatAt) : Type 0 where
+  pub clerk : IsClerkOf sizes was.ends was.clerk
+  pub none : was.clerk.events ≡ []
 
-seat_width : (sizes : Sizes) (sat : SeatAt) → IsNewSeat sizes sat → length sat.ends.channels ≡ sizes.shards
-seat_width sizes sat new = sym (new.clerk.routes.shards 0) ∙ ap (λ (s : Sizes). s.shards) new.clerk.sizes_are
+seat_width : (sizes : Sizes) (was : SeatAt) → IsNewSeat sizes was → length was.ends.channels ≡ sizes.shards
+seat_width sizes was new = sym (new.clerk.routes.shards 0) ∙ ap (λ (s : Sizes). s.shards) new.clerk.sizes_are
 
 -- On its ends nothing was sent or received.
-none_sent : (sizes : Sizes) (sat : SeatAt) (shard : ℕ) → IsNewSeat sizes sat → shard < sizes.shards
-    → sent_on sat.ends shard ≡ []
-none_sent sizes sat shard new below =
-    let width = seat_width sizes sat new in
+none_sent : (sizes : Sizes) (was : SeatAt) (shard : ℕ) → IsNewSeat sizes was → shard < sizes.shards
+    → sent_on was.ends shard ≡ []
+none_sent sizes was shard new below =
+    let width = seat_width sizes was new in
     sym (new.clerk.past.work_is shard (omega (arith, below, width)))
     ∙ ap (λ (events : List Event). map request.Piece (map (λ (one : ℕ × Piece). one.1)
-    (work_on sat.clerk.name.sizes.shards (seat_of sat.clerk.role) shard events))) new.none
+    (work_on was.clerk.name.sizes.shards (seat_of was.clerk.role) shard events))) new.none
 
-none_received : (sizes : Sizes) (sat : SeatAt) (shard : ℕ) → IsNewSeat sizes sat → shard < sizes.shards
-    → received_on sat.ends shard ≡ []
-none_received sizes sat shard new below =
-    let width = seat_width sizes sat new in
-    empty_when (received_on sat.ends shard)
-    (new.clerk.past.settled shard (omega (arith, below, width)) ∙ ap length (none_sent sizes sat shard new below))
+none_received : (sizes : Sizes) (was : SeatAt) (shard : ℕ) → IsNewSeat sizes was → shard < sizes.shards
+    → received_on was.ends shard ≡ []
+none_received sizes was shard new below =
+    let width = seat_width sizes was new in
+    empty_when (received_on was.ends shard)
+    (new.clerk.past.settled shard (omega (arith, below, width)) ∙ ap length (none_sent sizes was shard new below))
 
 -- A history with all that the slot's clerk recorded explains the connections of the slot.
-pub explains_seat : (sizes : Sizes) (seat : ℕ) (may_answer : ℕ → Type 0) (sat rose : SeatAt) (events : List Event)
-    → (serves : SeatServes sizes.shards (rules_of sizes) may_answer sat rose) → IsNewSeat sizes sat
-    → rose.clerk.name.sizes ≡ sizes → rose.clerk.role ≡ Seat seat → IsHistory sizes events
-    → IsWholeIn events rose.clerk → ExplainsSeat sizes may_answer (log_by events) seat serves.lines
-explains_seat sizes seat may_answer sat rose events serves new sizes_are role lawful whole =
+pub explains_seat : (sizes : Sizes) (seat : ℕ) (may_answer : ℕ → Type 0) (was at_end : SeatAt) (events : List Event)
+    → (serves : SeatServes sizes.shards (rules_of sizes) may_answer was at_end) → IsNewSeat sizes was
+    → at_end.clerk.name.sizes ≡ sizes → at_end.clerk.role ≡ Seat seat → IsHistory sizes events
+    → IsWholeIn events at_end.clerk → ExplainsSeat sizes may_answer (log_by events) seat serves.lines
+explains_seat sizes seat may_answer was at_end events serves new sizes_are role lawful whole =
     let shards = sizes.shards in
     let rules = rules_of sizes in
-    let chain = chain_of shards rules may_answer serves.lines sat.ends serves.served serves.lines_are in
-    let same = chain_same shards rules may_answer serves.lines sat.ends serves.served chain in
-    let asked : ℕ → List Piece = all_due shards rules may_answer serves.lines sat.ends serves.served chain in
-    let got : ℕ → List Shown = all_got shards rules may_answer serves.lines sat.ends serves.served chain in
+    let chain = chain_of shards rules may_answer serves.lines was.ends serves.served serves.lines_are in
+    let same = chain_same shards rules may_answer serves.lines was.ends serves.served chain in
+    let asked : ℕ → List Piece = all_due shards rules may_answer serves.lines was.ends serves.served chain in
+    let got : ℕ → List Shown = all_got shards rules may_answer serves.lines was.ends serves.served chain in
     let log = log_by events in
     let mine : ℕ → List Entry = λ s. of_asker seat (on_shard s log) in
     let runs = λ (s : ℕ) (below : s < shards).
     (let there : s < length serves.served.channels =
-    (let count = same.count in let width = seat_width sizes sat new in omega (arith, below, count, width)) in
+    (let count = same.count in let width = seat_width sizes was new in omega (arith, below, count, width)) in
     let sent : sent_on serves.served s ≡ map request.Piece (asked s) =
-    chain_sent shards rules may_answer serves.lines sat.ends serves.served chain s below
-    ∙ ap (λ ps. ps ++ map request.Piece (asked s)) (none_sent sizes sat s new below) in
+    chain_sent shards rules may_answer serves.lines was.ends serves.served chain s below
+    ∙ ap (λ ps. ps ++ map request.Piece (asked s)) (none_sent sizes was s new below) in
     let came : received_on serves.served s ≡ got s =
-    chain_came shards rules may_answer serves.lines sat.ends serves.served chain s below
-    ∙ ap (λ rs. rs ++ got s) (none_received sizes sat s new below) in
+    chain_came shards rules may_answer serves.lines was.ends serves.served chain s below
+    ∙ ap (λ rs. rs ++ got s) (none_received sizes was s new below) in
     let run : AreRun (asked s) (got s) (mine s) =
-    channel_run sizes seat rose.clerk events sizes_are role lawful whole serves.served s (asked s) (got s) there
+    channel_run sizes seat at_end.clerk events sizes_are role lawful whole serves.served s (asked s) (got s) there
     serves.recorded sent came in
     run) in
     let owned = λ (s : ℕ) (below : s < shards).
     all_mine s seat (mine s)
     (filter_keeps (λ entry. entry.shard ≡ s) (λ entry. entry.asker == seat) (on_shard s log) (shard_of s log))
     (asked_by seat (on_shard s log)) in
-    let ran = seat_ran sizes may_answer seat serves.lines sat.ends serves.served mine chain runs owned in
+    let ran = seat_ran sizes may_answer seat serves.lines was.ends serves.served mine chain runs owned in
     record { histories = ran.histories; each = ran.each; ran = ran.ran }

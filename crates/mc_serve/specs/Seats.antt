@@ -62,92 +62,92 @@ pub record SourceIsClosed (before after : SourceFlow) : Type 0 where
   pub now : after ≡ closed before
 
 -- Connections of the source were served, until it returned that no more will come.
-pub record ServesSource (shards : ℕ) (rules : Rules) (may_answer : ℕ → Type 0) (sat rose : SeatAt) : Type 0 where
+pub record ServesSource (shards : ℕ) (rules : Rules) (may_answer : ℕ → Type 0) (was at_end : SeatAt) : Type 0 where
   pub lines : List LineFlow
   pub passed : SourceFlow
-  pub source : Passes sat.source lines passed
-  pub lines_are : ServesLines shards rules may_answer lines sat.ends rose.ends
-  pub over : SourceIsClosed passed rose.source
+  pub source : Passes was.source lines passed
+  pub lines_are : ServesLines shards rules may_answer lines was.ends at_end.ends
+  pub over : SourceIsClosed passed at_end.source
 
 -- Connections of the source were served, until it returned that no more will come; then each channel was closed.
-pub record SeatServes (shards : ℕ) (rules : Rules) (may_answer : ℕ → Type 0) (sat rose : SeatAt) : Type 0 where
+pub record SeatServes (shards : ℕ) (rules : Rules) (may_answer : ℕ → Type 0) (was at_end : SeatAt) : Type 0 where
   pub lines : List LineFlow
   pub passed : SourceFlow
-  pub source : Passes sat.source lines passed
+  pub source : Passes was.source lines passed
   pub served : Ends Near
-  pub lines_are : ServesLines shards rules may_answer lines sat.ends served
+  pub lines_are : ServesLines shards rules may_answer lines was.ends served
   -- The clerk has recorded all of it.
-  pub recorded : HasRecorded rose.clerk served
-  pub over : SourceIsClosed passed rose.source
-  pub closed : EndsAll served rose.ends
+  pub recorded : HasRecorded at_end.clerk served
+  pub over : SourceIsClosed passed at_end.source
+  pub closed : EndsAll served at_end.ends
 
 module _ {T C : Type 0} {w : Warrants T} {g : Ghosts C T} where
   -- A free slot: connections of the source were served, none is out, and the session may begin another.
-  pub record SitsFree (shards : ℕ) (rules : Rules) (may_answer : ℕ → Type 0) (sat : SeatAt) (source : SourceFlow)
+  pub record SeatFree (shards : ℕ) (rules : Rules) (may_answer : ℕ → Type 0) (was : SeatAt) (source : SourceFlow)
       (session : Session T C w g) : Type 0 where
-    pub free : IsFree sat.source
+    pub free : IsFree was.source
     pub lines : List LineFlow
-    pub passed : Passes sat.source lines source
-    pub lines_are : ServesLines shards rules may_answer lines sat.ends (seat_ends session)
+    pub passed : Passes was.source lines source
+    pub lines_are : ServesLines shards rules may_answer lines was.ends (seat_ends session)
     pub width : length (seat_ends session).channels ≡ shards
     pub window : ℕ
     pub vacant : IsVacant rules window session
     pub ruled : IsRuled rules session
 
   -- A slot whose connection has not begun: connections were served, and one more was accepted.
-  pub record SitsBeginning (shards : ℕ) (rules : Rules) (may_answer : ℕ → Type 0) (sat : SeatAt) (source : SourceFlow)
+  pub record SeatBegins (shards : ℕ) (rules : Rules) (may_answer : ℕ → Type 0) (was : SeatAt) (source : SourceFlow)
       (place : Place) (now : Sight) (session : Session T C w g) : Type 0 where
     -- the source before it was accepted
     pub before : SourceFlow
-    pub sits : SitsFree shards rules may_answer sat before session
+    pub holds : SeatFree shards rules may_answer was before session
     pub next : IsNext now before
     pub came : source ≡ let_in now before
     pub new : place ≡ unbegun (session_history session)
 
   -- A slot that serves: connections were served, and the one that is out is being served.
-  pub record SitsServing (shards : ℕ) (rules : Rules) (may_answer : ℕ → Type 0) (sat : SeatAt) (source : SourceFlow)
+  pub record SeatServing (shards : ℕ) (rules : Rules) (may_answer : ℕ → Type 0) (was : SeatAt) (source : SourceFlow)
       (place : Place) (now : Sight) (session : Session T C w g) : Type 0 where
-    pub free : IsFree sat.source
+    pub free : IsFree was.source
     pub lines : List LineFlow
     -- the source before the connection was accepted; the connection and the ends when it began
     pub before : SourceFlow
     pub begin : Sight
     pub ends : Ends Near
-    pub passed : Passes sat.source lines before
+    pub passed : Passes was.source lines before
     pub next : IsNext begin before
     pub came : source ≡ let_in begin before
-    pub lines_are : ServesLines shards rules may_answer lines sat.ends ends
+    pub lines_are : ServesLines shards rules may_answer lines was.ends ends
     pub width : length ends.channels ≡ shards
     pub serving : IsServingLine shards rules may_answer begin now ends session
     pub line : IsLineAt rules place begin session
 
 -- Connections of the source were served, until it returned that no more will come; then the first `count` channels were
 -- closed.
-pub record SitsClosing (shards : ℕ) (rules : Rules) (may_answer : ℕ → Type 0) (count : ℕ) (sat : SeatAt)
+pub record SeatClosing (shards : ℕ) (rules : Rules) (may_answer : ℕ → Type 0) (count : ℕ) (was : SeatAt)
     (source : SourceFlow) (ends : Ends Near) (clerk : Acting) : Type 0 where
   pub served : Ends Near
-  pub serves : ServesSource shards rules may_answer sat (seat_at source served clerk)
+  pub serves : ServesSource shards rules may_answer was (seat_at source served clerk)
   pub recorded : HasRecorded clerk served
   pub closed : EndsFirst count served ends
 
 module _ {T : Type 0} {w : Warrants T} {g : Ghosts Acting T} where
   -- The invariant of a slot between two steps, by its state. The first argument of type `SeatAt` is how it began.
-  abbrev pub SeatStands : {L : Type 0} → (L → Place) → (L → Sight) → ℕ → Rules → (ℕ → Type 0) → SeatAt → SourceFlow
+  abbrev pub SeatHolds : {L : Type 0} → (L → Place) → (L → Sight) → ℕ → Rules → (ℕ → Type 0) → SeatAt → SourceFlow
       → Session T Acting w g → SlotState L → Type 0
-  SeatStands place sight shards rules may_answer sat source session slot_state.Free =
-      SitsFree shards rules may_answer sat source session
-  SeatStands place sight shards rules may_answer sat source session (slot_state.Out line false) =
-      SitsBeginning shards rules may_answer sat source (place line) (sight line) session
-  SeatStands place sight shards rules may_answer sat source session (slot_state.Out line true) =
-      SitsServing shards rules may_answer sat source (place line) (sight line) session
-  SeatStands place sight shards rules may_answer sat source session (slot_state.Closing count) =
-      SitsClosing shards rules may_answer count sat source (seat_ends session) (seat_clerk session)
-  SeatStands place sight shards rules may_answer sat source session slot_state.Over =
-      SeatServes shards rules may_answer sat (seat_at source (seat_ends session) (seat_clerk session))
+  SeatHolds place sight shards rules may_answer was source session slot_state.Free =
+      SeatFree shards rules may_answer was source session
+  SeatHolds place sight shards rules may_answer was source session (slot_state.Out line false) =
+      SeatBegins shards rules may_answer was source (place line) (sight line) session
+  SeatHolds place sight shards rules may_answer was source session (slot_state.Out line true) =
+      SeatServing shards rules may_answer was source (place line) (sight line) session
+  SeatHolds place sight shards rules may_answer was source session (slot_state.Closing count) =
+      SeatClosing shards rules may_answer count was source (seat_ends session) (seat_clerk session)
+  SeatHolds place sight shards rules may_answer was source session slot_state.Over =
+      SeatServes shards rules may_answer was (seat_at source (seat_ends session) (seat_clerk session))
 
 module _ {T C : Type 0} {w : Warrants T} {g : Ghosts C T} where
   -- A slot before its first step.
-  pub record HasSatDown {L : Type 0} (shards : ℕ) (rules : Rules) (source : SourceFlow) (session : Session T C w g)
+  pub record IsNewSeat {L : Type 0} (shards : ℕ) (rules : Rules) (source : SourceFlow) (session : Session T C w g)
       (now : SlotState L) : Type 0 where
     pub none : now ≡ slot_state.Free
     pub free : IsFree source

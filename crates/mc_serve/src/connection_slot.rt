@@ -10,7 +10,7 @@ ghost use Rattle.mc_session.specs.Ending.{EndsFirst};
 ghost use Rattle.mc_session.specs.Routes.{AreOnRoutes};
 ghost use Rattle.mc_session.specs.Session.{IsRuled, IsVacant, seat_clerk, seat_ends, session_history};
 ghost use Rattle.mc_serve.specs.Recorded.{IsClerkOf, route_from};
-ghost use Rattle.mc_serve.specs.Seats.{Accepts, CanBegin, CanStep, ClosesOn, HasRecorded, IsOut, IsReturned, Renews, SeatAt, SeatStands};
+ghost use Rattle.mc_serve.specs.Seats.{Accepts, CanBegin, CanStep, ClosesOn, HasRecorded, IsOut, IsReturned, Renews, SeatAt, SeatHolds};
 ghost use Rattle.mc_serve.specs.declared.connection_slot.SlotState.TheVariants as slot_state;
 
 use mc_history::Evidence;
@@ -134,12 +134,12 @@ where
     ) -> Stepped
         requires { CanStep (λ line. D.Transport.place line) (λ line. D.Transport.sight line)
             (K.may_answer clock.now) self.old.slot_state self.old.session }
-        ensures { (shards : ℕ) (rules : Rules) (sat : SeatAt) →
-            SeatStands (λ line. D.Transport.place line) (λ line. D.Transport.sight line) shards
-            rules (K.may_answer clock.now) sat
+        ensures { (shards : ℕ) (rules : Rules) (was : SeatAt) →
+            SeatHolds (λ line. D.Transport.place line) (λ line. D.Transport.sight line) shards
+            rules (K.may_answer clock.now) was
             (D.flow self.old.source) self.old.session self.old.slot_state →
-            SeatStands (λ line. D.Transport.place line) (λ line. D.Transport.sight line) shards
-            rules (K.may_answer clock.now) sat
+            SeatHolds (λ line. D.Transport.place line) (λ line. D.Transport.sight line) shards
+            rules (K.may_answer clock.now) was
             (D.flow self.new.source) self.new.session self.new.slot_state }
     {
         match &mut self.slot_state {
@@ -190,12 +190,12 @@ where
     #[inline(never)]
     fn begin<K: Clock>(&mut self, clock: &K, pool: &mut BufferPool) -> Stepped
         requires { CanBegin (λ line. D.Transport.place line) self.old.slot_state self.old.session }
-        ensures { (shards : ℕ) (rules : Rules) (sat : SeatAt) →
-            SeatStands (λ line. D.Transport.place line) (λ line. D.Transport.sight line) shards
-            rules (K.may_answer clock.now) sat
+        ensures { (shards : ℕ) (rules : Rules) (was : SeatAt) →
+            SeatHolds (λ line. D.Transport.place line) (λ line. D.Transport.sight line) shards
+            rules (K.may_answer clock.now) was
             (D.flow self.old.source) self.old.session self.old.slot_state →
-            SeatStands (λ line. D.Transport.place line) (λ line. D.Transport.sight line) shards
-            rules (K.may_answer clock.now) sat
+            SeatHolds (λ line. D.Transport.place line) (λ line. D.Transport.sight line) shards
+            rules (K.may_answer clock.now) was
             (D.flow self.new.source) self.new.session self.new.slot_state }
     {
         let SlotState::Out { line, begun } = &mut self.slot_state else {

@@ -4,7 +4,7 @@ ghost use Rattle.std.specs.Prelude.{◌≡◌, IfOk, IsTrue, map};
 ghost use Rattle.std.specs.List.{AllByRecursion};
 ghost use Rattle.mc_session.specs.Session.{seat_clerk, seat_ends};
 ghost use Rattle.mc_poll.specs.Zips.{Zips};
-ghost use Rattle.mc_serve.specs.Seats.{HasSatDown, SeatServes, seat_at};
+ghost use Rattle.mc_serve.specs.Seats.{IsNewSeat, SeatServes, seat_at};
 ghost use Rattle.mc_serve.specs.declared.connection_slot.SlotState.TheVariants as slot_state;
 
 use crate::connection_slot::ConnectionSlot;
@@ -61,11 +61,11 @@ where
         clock: K,
     ) -> Result<Reactor<D, G, K>, AllocError>
         requires { AllByRecursion (λ one.
-            HasSatDown sizes.shards (rules_of sizes) (D.flow one.source) one.session one.slot_state)
+            IsNewSeat sizes.shards (rules_of sizes) (D.flow one.source) one.session one.slot_state)
             seats.items }
         ensures ready { IfOk result (λ part.
             AllByRecursion (λ one.
-            HasSatDown part.sizes.shards (rules_of part.sizes) (D.flow one.source) one.session
+            IsNewSeat part.sizes.shards (rules_of part.sizes) (D.flow one.source) one.session
             one.slot_state) part.seats.all.items) }
         ensures seats { IfOk result (λ part. part.seats.all ≡ seats) }
         ensures sizes { IfOk result (λ part. part.sizes ≡ sizes) }
@@ -85,7 +85,7 @@ where
     /// finds nothing to do ends with a wait of the poller.
     fn run<R: Wait>(&mut self, rt: &R)
         requires { AllByRecursion (λ one.
-            HasSatDown self.old.sizes.shards (rules_of self.old.sizes) (D.flow one.source)
+            IsNewSeat self.old.sizes.shards (rules_of self.old.sizes) (D.flow one.source)
             one.session
             one.slot_state) self.old.seats.all.items }
         ensures { Zips
@@ -187,15 +187,15 @@ where
 {
     ghost is_ready = { λ part.
         AllByRecursion (λ one.
-        HasSatDown part.sizes.shards (rules_of part.sizes) (D.flow one.source) one.session
+        IsNewSeat part.sizes.shards (rules_of part.sizes) (D.flow one.source) one.session
         one.slot_state) part.seats.all.items };
 
-    ghost does = { λ sat rose.
-        Zips (SeatServes sat.sizes.shards (rules_of sat.sizes) (K.may_answer sat.clock))
+    ghost does = { λ was at_end.
+        Zips (SeatServes was.sizes.shards (rules_of was.sizes) (K.may_answer was.clock))
         (map (λ one. seat_at (D.flow one.source) (seat_ends one.session) (seat_clerk one.session))
-        sat.seats.all.items)
+        was.seats.all.items)
         (map (λ one. seat_at (D.flow one.source) (seat_ends one.session) (seat_clerk one.session))
-        rose.seats.all.items) };
+        at_end.seats.all.items) };
 
     fn work<R: Wait>(self, rt: &R) -> Reactor<D, G, K> {
         let mut part = self;

@@ -10,7 +10,7 @@ ghost use Rattle.mc_serve.specs.declared.error.ServeError.TheVariants.{Bind};
 ghost use Rattle.mc_net.specs.Flow.{IsFree};
 ghost use Rattle.mc_poll.specs.Zips.{Zips};
 ghost use Rattle.mc_serve.specs.Recorded.{IsClerkOf};
-ghost use Rattle.mc_serve.specs.Seats.{HasSatDown};
+ghost use Rattle.mc_serve.specs.Seats.{IsNewSeat};
 ghost use Rattle.mc_serve.specs.Served.{ServesSources};
 
 use crate::connection_slot::ConnectionSlot;
@@ -198,7 +198,7 @@ where
 
 /// Creates a slot for each source, with the ends and the clerk at the same index. The wakers are
 /// those of the shards' threads. Fails if memory is refused.
-fn sit_down<D: ConnectionSource + Drop>(
+fn make_slots<D: ConnectionSource + Drop>(
     alloc: Global,
     sources: Vec<D>,
     ends: Vec<SeatEnds<Evidence>>,
@@ -223,7 +223,7 @@ where
     ensures sources { IfOk result (λ seats. map (λ one. one.source) seats.items ≡ sources.items) }
     ensures begin { IfOk result (λ seats.
         AllByRecursion (λ one.
-        HasSatDown sizes.shards (rules_of sizes) (D.flow one.source) one.session one.slot_state)
+        IsNewSeat sizes.shards (rules_of sizes) (D.flow one.source) one.session one.slot_state)
         seats.items) }
 {
     let mut seats = Vec::with_capacity(alloc, ends.len())?;
@@ -302,7 +302,7 @@ where
             map (λ one. one.source) (into_iter_items left.seats) ≡ sources.items) }
         ensures begin { IfOk result (λ left.
             AllByRecursion (λ one.
-            HasSatDown sizes.shards (rules_of sizes) (D.flow one.source) one.session one.slot_state)
+            IsNewSeat sizes.shards (rules_of sizes) (D.flow one.source) one.session one.slot_state)
             (into_iter_items left.seats)) }
     {
         let RecordedChannels {
@@ -315,7 +315,7 @@ where
         let wakers = Wakers::of(alloc, pollers)?;
         let workers = make_recorded_workers(rt, alloc, far, recorders, sizes)?;
         let workers = set_working(alloc, workers, gate, &wakers)?;
-        let seats = sit_down(alloc, sources, near, clerks, &wakers, sizes)?;
+        let seats = make_slots(alloc, sources, near, clerks, &wakers, sizes)?;
         Ok(Unassigned {
             seats: seats.into_iter(),
             workers: workers.into_iter(),
@@ -333,11 +333,11 @@ where
         clock: K,
     ) -> Result<Reactor<D, G, K>, AllocError>
         requires begin { AllByRecursion (λ one.
-            HasSatDown sizes.shards (rules_of sizes) (D.flow one.source) one.session one.slot_state)
+            IsNewSeat sizes.shards (rules_of sizes) (D.flow one.source) one.session one.slot_state)
             (into_iter_items self.old.seats) }
         ensures ready { IfOk result (λ part.
             AllByRecursion (λ one.
-            HasSatDown part.sizes.shards (rules_of part.sizes) (D.flow one.source) one.session
+            IsNewSeat part.sizes.shards (rules_of part.sizes) (D.flow one.source) one.session
             one.slot_state) part.seats.all.items) }
         ensures seats { IfOk result (λ part.
             part.seats.all.items ++ into_iter_items self.new.seats ≡

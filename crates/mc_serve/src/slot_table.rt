@@ -3,7 +3,7 @@ ghost use Rattle.mc_command.specs.declared.rules.Rules.{Rules};
 ghost use Rattle.std.specs.Prelude.{◌≡◌, ℕ, List, IsTrue};
 ghost use Rattle.std.specs.List.{AllByRecursion};
 ghost use Rattle.mc_poll.specs.Zips.{Zips};
-ghost use Rattle.mc_serve.specs.Seats.{SeatAt, SeatStands};
+ghost use Rattle.mc_serve.specs.Seats.{SeatAt, SeatHolds};
 ghost use Rattle.mc_serve.specs.declared.connection_slot.SlotState.TheVariants as slot_state;
 
 use crate::connection_slot::{ConnectionSlot, Stepped};
@@ -44,20 +44,20 @@ where
         clock: &K,
         pool: &mut BufferPool,
     ) -> bool
-        requires { (shards : ℕ) × (rules : Rules) × (sats : List SeatAt) ×
-            Zips (λ sat one.
-            SeatStands (λ line. D.Transport.place line) (λ line. D.Transport.sight line) shards
-            rules (K.may_answer clock.now) sat
-            (D.flow one.source) one.session one.slot_state) sats self.old.all.items }
-        ensures { (shards : ℕ) (rules : Rules) (sats : List SeatAt) →
-            Zips (λ sat one.
-            SeatStands (λ line. D.Transport.place line) (λ line. D.Transport.sight line) shards
-            rules (K.may_answer clock.now) sat
-            (D.flow one.source) one.session one.slot_state) sats self.old.all.items →
-            Zips (λ sat one.
-            SeatStands (λ line. D.Transport.place line) (λ line. D.Transport.sight line) shards
-            rules (K.may_answer clock.now) sat
-            (D.flow one.source) one.session one.slot_state) sats self.new.all.items }
+        requires { (shards : ℕ) × (rules : Rules) × (were : List SeatAt) ×
+            Zips (λ was one.
+            SeatHolds (λ line. D.Transport.place line) (λ line. D.Transport.sight line) shards
+            rules (K.may_answer clock.now) was
+            (D.flow one.source) one.session one.slot_state) were self.old.all.items }
+        ensures { (shards : ℕ) (rules : Rules) (were : List SeatAt) →
+            Zips (λ was one.
+            SeatHolds (λ line. D.Transport.place line) (λ line. D.Transport.sight line) shards
+            rules (K.may_answer clock.now) was
+            (D.flow one.source) one.session one.slot_state) were self.old.all.items →
+            Zips (λ was one.
+            SeatHolds (λ line. D.Transport.place line) (λ line. D.Transport.sight line) shards
+            rules (K.may_answer clock.now) was
+            (D.flow one.source) one.session one.slot_state) were self.new.all.items }
     {
         let (first, end) = poller.roused_words();
         for word in first..end {
@@ -74,20 +74,20 @@ where
         clock: &K,
         pool: &mut BufferPool,
     )
-        requires { (shards : ℕ) × (rules : Rules) × (sats : List SeatAt) ×
-            Zips (λ sat one.
-            SeatStands (λ line. D.Transport.place line) (λ line. D.Transport.sight line) shards
-            rules (K.may_answer clock.now) sat
-            (D.flow one.source) one.session one.slot_state) sats self.old.all.items }
-        ensures { (shards : ℕ) (rules : Rules) (sats : List SeatAt) →
-            Zips (λ sat one.
-            SeatStands (λ line. D.Transport.place line) (λ line. D.Transport.sight line) shards
-            rules (K.may_answer clock.now) sat
-            (D.flow one.source) one.session one.slot_state) sats self.old.all.items →
-            Zips (λ sat one.
-            SeatStands (λ line. D.Transport.place line) (λ line. D.Transport.sight line) shards
-            rules (K.may_answer clock.now) sat
-            (D.flow one.source) one.session one.slot_state) sats self.new.all.items }
+        requires { (shards : ℕ) × (rules : Rules) × (were : List SeatAt) ×
+            Zips (λ was one.
+            SeatHolds (λ line. D.Transport.place line) (λ line. D.Transport.sight line) shards
+            rules (K.may_answer clock.now) was
+            (D.flow one.source) one.session one.slot_state) were self.old.all.items }
+        ensures { (shards : ℕ) (rules : Rules) (were : List SeatAt) →
+            Zips (λ was one.
+            SeatHolds (λ line. D.Transport.place line) (λ line. D.Transport.sight line) shards
+            rules (K.may_answer clock.now) was
+            (D.flow one.source) one.session one.slot_state) were self.old.all.items →
+            Zips (λ was one.
+            SeatHolds (λ line. D.Transport.place line) (λ line. D.Transport.sight line) shards
+            rules (K.may_answer clock.now) was
+            (D.flow one.source) one.session one.slot_state) were self.new.all.items }
     {
         let mut again = 0u64;
         for place in SetBits::of(word, poller.roused_in(word)) {
@@ -109,20 +109,20 @@ where
         clock: &K,
         pool: &mut BufferPool,
     ) -> Stepped
-        requires { (shards : ℕ) × (rules : Rules) × (sats : List SeatAt) ×
-            Zips (λ sat one.
-            SeatStands (λ line. D.Transport.place line) (λ line. D.Transport.sight line) shards
-            rules (K.may_answer clock.now) sat
-            (D.flow one.source) one.session one.slot_state) sats self.old.all.items }
-        ensures { (shards : ℕ) (rules : Rules) (sats : List SeatAt) →
-            Zips (λ sat one.
-            SeatStands (λ line. D.Transport.place line) (λ line. D.Transport.sight line) shards
-            rules (K.may_answer clock.now) sat
-            (D.flow one.source) one.session one.slot_state) sats self.old.all.items →
-            Zips (λ sat one.
-            SeatStands (λ line. D.Transport.place line) (λ line. D.Transport.sight line) shards
-            rules (K.may_answer clock.now) sat
-            (D.flow one.source) one.session one.slot_state) sats self.new.all.items }
+        requires { (shards : ℕ) × (rules : Rules) × (were : List SeatAt) ×
+            Zips (λ was one.
+            SeatHolds (λ line. D.Transport.place line) (λ line. D.Transport.sight line) shards
+            rules (K.may_answer clock.now) was
+            (D.flow one.source) one.session one.slot_state) were self.old.all.items }
+        ensures { (shards : ℕ) (rules : Rules) (were : List SeatAt) →
+            Zips (λ was one.
+            SeatHolds (λ line. D.Transport.place line) (λ line. D.Transport.sight line) shards
+            rules (K.may_answer clock.now) was
+            (D.flow one.source) one.session one.slot_state) were self.old.all.items →
+            Zips (λ was one.
+            SeatHolds (λ line. D.Transport.place line) (λ line. D.Transport.sight line) shards
+            rules (K.may_answer clock.now) was
+            (D.flow one.source) one.session one.slot_state) were self.new.all.items }
     {
         if place >= self.all.len() {
             return Stepped::Waits;

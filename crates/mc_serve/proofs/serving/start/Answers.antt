@@ -4,7 +4,7 @@ use Rattle.std.specs.List.{flat_map}
 use Rattle.std.specs.Vec.Iter.{into_iter_items}
 use Rattle.mc_sizes.specs.Sizes.{rules_of}
 use Rattle.mc_session.proofs.Orders.{all_more, order_all}
-use Rattle.mc_serve.specs.Seats.{HasSatDown}
+use Rattle.mc_serve.specs.Seats.{IsNewSeat}
 use Rattle.mc_serve.proofs.Parts.{all_parted, flat_more}
 use Rattle.mc_serve.proofs.RingsSent.{part_send}
 use denote.Exit.{no}
@@ -43,7 +43,7 @@ loop-poller-preserved g c =
       begin =
           (all_parted part.seats.all.items (into_iter_items c.next_part.new.self.seats)
           (into_iter_items c.loop-poller.left.seats)
-          (λ one. HasSatDown c.args.sizes.shards (rules_of c.args.sizes) (g.D.ConnectionSource.flow one.source)
+          (λ one. IsNewSeat c.args.sizes.shards (rules_of c.args.sizes) (g.D.ConnectionSource.flow one.source)
           one.session one.slot_state) made.seats was.begin).1;
     }
 

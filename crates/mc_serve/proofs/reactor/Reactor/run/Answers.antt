@@ -32,54 +32,54 @@ step-stepped-requires g c =
 pub step-answered-requires : goal.step-answered-requires
 step-answered-requires g c =
     let sizes = c.args.self.now.sizes in
-    let sats = map (λ one. seat_at (g.D.ConnectionSource.flow one.source) (seat_ends one.session)
+    let were = map (λ one. seat_at (g.D.ConnectionSource.flow one.source) (seat_ends one.session)
     (seat_clerk one.session))
     c.args.self.now.seats.all.items in (
       sizes.shards,
       rules_of sizes,
-      sats,
-      c.step-stepped.ensures sizes.shards (rules_of sizes) sats c.loop.invariant.seats,
+      were,
+      c.step-stepped.ensures sizes.shards (rules_of sizes) were c.loop.invariant.seats,
     )
 
 pub loop-preserved-then-answered : goal.loop-preserved-then-answered
 loop-preserved-then-answered g c =
     let sizes = c.args.self.now.sizes in
-    let sats = map (λ one. seat_at (g.D.ConnectionSource.flow one.source) (seat_ends one.session)
+    let were = map (λ one. seat_at (g.D.ConnectionSource.flow one.source) (seat_ends one.session)
     (seat_clerk one.session))
     c.args.self.now.seats.all.items in
     record {
       next = (tt, tt);
       clock = c.loop.invariant.clock;
       seats =
-          c.step-answered.ensures sizes.shards (rules_of sizes) sats
-          (c.step-stepped.ensures sizes.shards (rules_of sizes) sats c.loop.invariant.seats);
+          c.step-answered.ensures sizes.shards (rules_of sizes) were
+          (c.step-stepped.ensures sizes.shards (rules_of sizes) were c.loop.invariant.seats);
     }
 
 pub loop-preserved : goal.loop-preserved
 loop-preserved g c =
     let sizes = c.args.self.now.sizes in
-    let sats = map (λ one. seat_at (g.D.ConnectionSource.flow one.source) (seat_ends one.session)
+    let were = map (λ one. seat_at (g.D.ConnectionSource.flow one.source) (seat_ends one.session)
     (seat_clerk one.session))
     c.args.self.now.seats.all.items in
     record {
       next = (tt, tt);
       clock = c.loop.invariant.clock;
       seats =
-          c.step-answered.ensures sizes.shards (rules_of sizes) sats
-          (c.step-stepped.ensures sizes.shards (rules_of sizes) sats c.loop.invariant.seats);
+          c.step-answered.ensures sizes.shards (rules_of sizes) were
+          (c.step-stepped.ensures sizes.shards (rules_of sizes) were c.loop.invariant.seats);
     }
 
 pub returns-then-is_done : goal.returns-then-is_done
 returns-then-is_done g c =
     let sizes = c.args.self.now.sizes in
-    let sats = map (λ one. seat_at (g.D.ConnectionSource.flow one.source) (seat_ends one.session)
+    let were = map (λ one. seat_at (g.D.ConnectionSource.flow one.source) (seat_ends one.session)
     (seat_clerk one.session))
     c.args.self.now.seats.all.items in
     rw (← c.loop.invariant.clock)
-    (seats_over c.step-answered.new.self.all.items sats (λ line. g.D.Transport.Transport.place line)
+    (seats_over c.step-answered.new.self.all.items were (λ line. g.D.Transport.Transport.place line)
     (λ line. g.D.Transport.Transport.sight line)
     (λ one. g.D.ConnectionSource.flow one.source) (λ one. one.session) (λ one. one.slot_state) sizes.shards
     (rules_of sizes) (g.K.Clock.may_answer c.loop.self.clock)
     (c.if-is_done.ensures refl)
-    (c.step-answered.ensures sizes.shards (rules_of sizes) sats
-    (c.step-stepped.ensures sizes.shards (rules_of sizes) sats c.loop.invariant.seats)))
+    (c.step-answered.ensures sizes.shards (rules_of sizes) were
+    (c.step-stepped.ensures sizes.shards (rules_of sizes) were c.loop.invariant.seats)))

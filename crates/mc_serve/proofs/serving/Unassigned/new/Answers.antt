@@ -10,8 +10,8 @@ use Rattle.mc_serve.proofs.serving.Unassigned.new.Goals as goal
 pub make_recorded_workers-requires-clause-sizes : goal.make_recorded_workers-requires-clause-sizes
 make_recorded_workers-requires-clause-sizes g c = c.requires.sizes.shards
 
-pub sit_down-requires-clause-sizes : goal.sit_down-requires-clause-sizes
-sit_down-requires-clause-sizes g c = c.requires.sizes.lines
+pub make_slots-requires-clause-sizes : goal.make_slots-requires-clause-sizes
+make_slots-requires-clause-sizes g c = c.requires.sizes.lines
 
 pub make_recorded_workers-requires-clause-fresh : goal.make_recorded_workers-requires-clause-fresh
 make_recorded_workers-requires-clause-fresh g c =
@@ -22,25 +22,25 @@ make_recorded_workers-requires-clause-records g c =
     zips_each (IsRecorderOf c.args.sizes) _ c.in_ok-near.field-0.far.items c.in_ok-near.field-0.recorders.items
     c.in_ok-near.ensures.recorders (λ i ends recorder here there is keeps. is)
 
-pub sit_down-requires-clause-width : goal.sit_down-requires-clause-width
-sit_down-requires-clause-width g c =
+pub make_slots-requires-clause-width : goal.make_slots-requires-clause-width
+make_slots-requires-clause-width g c =
     all_from (λ seat. length seat.channels ≡ c.args.sizes.shards) c.in_ok-near.field-0.near.items
     (λ i seat here. (c.in_ok-near.ensures.channels.each_seat i seat here).counted)
 
-pub sit_down-requires-clause-history : goal.sit_down-requires-clause-history
-sit_down-requires-clause-history g c =
+pub make_slots-requires-clause-history : goal.make_slots-requires-clause-history
+make_slots-requires-clause-history g c =
     rw c.in_ok-near.ensures.opened
     (histories_fit (λ source. g.D.ConnectionSource.history source) c.args.opening.witness.name c.args.sizes.seats
     c.args.sources.items c.args.opening.clerks.items c.requires.seats c.requires.opening.clerks_are c.requires.history)
 
 pub returns : goal.returns
 returns g c =
-    let sat = c.in_ok-seats.ensures in
+    let was = c.in_ok-seats.ensures in
     let left = c.into_iter.ensures.rest in
     record {
       witness = c.in_ok-near.ensures.witness;
-      clerks = rw left (sat.clerks ∙ ap (λ clerks. clerks.items) c.in_ok-near.ensures.opened);
-      fit = rw left sat.fit;
-      sources = rw left sat.sources;
-      begin = rw left sat.begin;
+      clerks = rw left (was.clerks ∙ ap (λ clerks. clerks.items) c.in_ok-near.ensures.opened);
+      fit = rw left was.fit;
+      sources = rw left was.sources;
+      begin = rw left was.begin;
     }

@@ -1,7 +1,7 @@
 use Rattle.mc_serve.proofs.slot_table.SlotTable.step.Goals as goal
 
 pub loop-word-init : goal.loop-word-init
-loop-word-init g c shards rules sats zips = zips
+loop-word-init g c shards rules were zips = zips
 
 pub step_word-requires : goal.step_word-requires
 step_word-requires g c = (
@@ -12,5 +12,5 @@ step_word-requires g c = (
 )
 
 pub loop-word-preserved : goal.loop-word-preserved
-loop-word-preserved g c shards rules sats zips =
-    c.step_word.ensures shards rules sats (c.loop-word.invariant shards rules sats zips)
+loop-word-preserved g c shards rules were zips =
+    c.step_word.ensures shards rules were (c.loop-word.invariant shards rules were zips)

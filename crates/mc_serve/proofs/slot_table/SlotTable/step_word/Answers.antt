@@ -1,7 +1,7 @@
 use Rattle.mc_serve.proofs.slot_table.SlotTable.step_word.Goals as goal
 
 pub loop-place-init : goal.loop-place-init
-loop-place-init g c shards rules sats zips = zips
+loop-place-init g c shards rules were zips = zips
 
 pub step_at-requires : goal.step_at-requires
 step_at-requires g c = (
@@ -12,13 +12,13 @@ step_at-requires g c = (
 )
 
 pub loop-place-preserved-in-Did : goal.loop-place-preserved-in-Did
-loop-place-preserved-in-Did g c shards rules sats zips =
-    c.step_at.ensures shards rules sats (c.loop-place.invariant shards rules sats zips)
+loop-place-preserved-in-Did g c shards rules were zips =
+    c.step_at.ensures shards rules were (c.loop-place.invariant shards rules were zips)
 
 pub loop-place-preserved-in-Waits : goal.loop-place-preserved-in-Waits
-loop-place-preserved-in-Waits g c shards rules sats zips =
-    c.step_at.ensures shards rules sats (c.loop-place.invariant shards rules sats zips)
+loop-place-preserved-in-Waits g c shards rules were zips =
+    c.step_at.ensures shards rules were (c.loop-place.invariant shards rules were zips)
 
 pub loop-place-preserved : goal.loop-place-preserved
-loop-place-preserved g c shards rules sats zips =
-    c.step_at.ensures shards rules sats (c.loop-place.invariant shards rules sats zips)
+loop-place-preserved g c shards rules were zips =
+    c.step_at.ensures shards rules were (c.loop-place.invariant shards rules were zips)

@@ -8,11 +8,11 @@ use Rattle.mc_ring.specs.Ends.{Ends}
 use Rattle.mc_history.specs.Tokens.{Acting}
 use Rattle.mc_session.proofs.Orders.{all_first, all_more, all_rest, order_all, order_more, zips_first, zips_rest}
 use Rattle.mc_serve.specs.Recorded.{IsClerkOf}
-use Rattle.mc_serve.specs.Seats.{HasSatDown}
+use Rattle.mc_serve.specs.Seats.{IsNewSeat}
 use Rattle.mc_net.specs.Flow.{IsFree}
 use Rattle.mc_session.specs.Session.{seat_clerk, seat_ends}
 use Rattle.mc_serve.proofs.Zipped.{zips_length}
-use Rattle.mc_serve.proofs.serving.sit_down.Goals as goal
+use Rattle.mc_serve.proofs.serving.make_slots.Goals as goal
 
 -- one less of each
 one_less : {A B : Type 0} (xs xs' : List A) (ys ys' : List B) (x : A) (y : B) → xs ≡ x ∷ xs' → ys ≡ y ∷ ys' → length xs
@@ -59,7 +59,7 @@ loop-ends-preserved g c =
           order_more (λ one. one.source) c.loop-ends.seats.items _ c.in_ok-slot.slot c.in-Some-next.source _ _ grown
           made.source (rw source.0 at was.sources);
       begin =
-          all_more (λ one. HasSatDown c.args.sizes.shards (rules_of c.args.sizes) (g.D.ConnectionSource.flow one.source)
+          all_more (λ one. IsNewSeat c.args.sizes.shards (rules_of c.args.sizes) (g.D.ConnectionSource.flow one.source)
           one.session one.slot_state) c.loop-ends.seats.items _ c.in_ok-slot.slot grown was.begin
           (record {
             none = made.free;
