@@ -145,61 +145,61 @@ module _ (sizes : Sizes) (name : Name) (may_answer : ℕ → Type 0) (were at_en
     (begun : HaveBegun sizes name were)
     (served : Zips (SeatServes sizes.shards (rules_of sizes) may_answer) were at_ends) (ended : HaveEnded at_ends)
   where
-  new_at : (number : ℕ) (was : SeatAt) → slice_get were number ≡ Some was
-      → was.clerk ≡ record { name = name; role = Seat number; events = [] }
-  new_at number was here =
-      begun.clerks.each number was.clerk (get_map (λ (was : SeatAt). was.clerk) were number was here)
+    new_at : (number : ℕ) (was : SeatAt) → slice_get were number ≡ Some was
+        → was.clerk ≡ record { name = name; role = Seat number; events = [] }
+    new_at number was here =
+        begun.clerks.each number was.clerk (get_map (λ (was : SeatAt). was.clerk) were number was here)
 
-  fits_at : (number : ℕ) (was : SeatAt) → slice_get were number ≡ Some was → IsClerkOf sizes was.ends was.clerk
-  fits_at number was here =
-      all_at (λ (was : SeatAt). IsClerkOf sizes was.ends was.clerk) were number was begun.fit here
+    fits_at : (number : ℕ) (was : SeatAt) → slice_get were number ≡ Some was → IsClerkOf sizes was.ends was.clerk
+    fits_at number was here =
+        all_at (λ (was : SeatAt). IsClerkOf sizes was.ends was.clerk) were number was begun.fit here
 
-  clerk_at : (number : ℕ) (at_end : SeatAt) → slice_get at_ends number ≡ Some at_end
-      → IsClerkAt name number at_end.clerk
-  clerk_at number at_end here =
-      let was = met_at (SeatServes sizes.shards (rules_of sizes) may_answer) were at_ends number at_end served here in
-      same_clerk sizes name number was.one at_end some (fits_at number was.one was.here)
-      (new_at number was.one was.here)
-      (seat_same sizes.shards (rules_of sizes) may_answer was.one at_end was.met)
-      (all_at (λ (at_end : SeatAt). IsSeatActor at_end.clerk) at_ends number at_end ended.actors here)
-      (all_at (λ (at_end : SeatAt). AreOnRoutes (route_from at_end.clerk) at_end.ends) at_ends number at_end
-      ended.routes here)
+    clerk_at : (number : ℕ) (at_end : SeatAt) → slice_get at_ends number ≡ Some at_end
+        → IsClerkAt name number at_end.clerk
+    clerk_at number at_end here =
+        let was = met_at (SeatServes sizes.shards (rules_of sizes) may_answer) were at_ends number at_end served here in
+        same_clerk sizes name number was.one at_end some (fits_at number was.one was.here)
+        (new_at number was.one was.here)
+        (seat_same sizes.shards (rules_of sizes) may_answer was.one at_end was.met)
+        (all_at (λ (at_end : SeatAt). IsSeatActor at_end.clerk) at_ends number at_end ended.actors here)
+        (all_at (λ (at_end : SeatAt). AreOnRoutes (route_from at_end.clerk) at_end.ends) at_ends number at_end
+        ended.routes here)
 
-  -- Each clerk at the end is of the opened history.
-  pub names_kept : AllByRecursion (λ (at_end : SeatAt). at_end.clerk.name ≡ name) at_ends
-  names_kept =
-      all_from (λ (at_end : SeatAt). at_end.clerk.name ≡ name) at_ends
-      (λ number at_end here. (clerk_at number at_end here).name_is)
+    -- Each clerk at the end is of the opened history.
+    pub names_kept : AllByRecursion (λ (at_end : SeatAt). at_end.clerk.name ≡ name) at_ends
+    names_kept =
+        all_from (λ (at_end : SeatAt). at_end.clerk.name ≡ name) at_ends
+        (λ number at_end here. (clerk_at number at_end here).name_is)
 
-  -- A history with all that the clerks recorded explains the connections of all sources.
-  pub serves_sources : name.sizes ≡ sizes → (shown : Shown) → IsHistory sizes shown.events
-      → AllByRecursion (λ (at_end : SeatAt). IsWholeIn shown.events at_end.clerk) at_ends
-      → ServesSources sizes may_answer (map (λ (was : SeatAt). was.source) were)
-      (map (λ (at_end : SeatAt). at_end.source) at_ends) shown
-  serves_sources sizes_are shown lawful whole =
-      let events = shown.events in
-      let all = have_lines sizes.shards (rules_of sizes) may_answer were at_ends served in
-      let seats : length all.seats ≡ sizes.seats = all.count
-      ∙ (sym (length-map were (λ (was : SeatAt). was.clerk)) ∙ begun.clerks.counted) in
-      let L : ℕ → Type 0 = λ n. IsLogOfLines sizes n (log_by events) in
-      record {
-        seats = all.seats;
-        back = all.back;
-        log = log_by events;
-        log_is = subst L (sym seats) (lawful_log sizes events lawful);
-        history = record { lawful = lawful; log_is = refl };
-        each = λ number lines here.
-            let at = all.at number lines here in
-            let clerk = clerk_at number at.at_end at.end_at in
-            let E : List LineFlow → Type 0 = λ lines. ExplainsSeat sizes may_answer (log_by events) number lines in
-            subst E at.lines_are
-            (explains_seat sizes number may_answer at.was at.at_end events at.serves
-            (record {
-              clerk = fits_at number at.was at.was_at;
-              none = ap (λ (a : Acting). a.events) (new_at number at.was at.was_at);
-            }) (ap (λ (n : Name). n.sizes) clerk.name_is ∙ sizes_are) clerk.role_is lawful
-            (all_at (λ (at_end : SeatAt). IsWholeIn events at_end.clerk) at_ends number at.at_end whole at.end_at));
-      }
+    -- A history with all that the clerks recorded explains the connections of all sources.
+    pub serves_sources : name.sizes ≡ sizes → (shown : Shown) → IsHistory sizes shown.events
+        → AllByRecursion (λ (at_end : SeatAt). IsWholeIn shown.events at_end.clerk) at_ends
+        → ServesSources sizes may_answer (map (λ (was : SeatAt). was.source) were)
+        (map (λ (at_end : SeatAt). at_end.source) at_ends) shown
+    serves_sources sizes_are shown lawful whole =
+        let events = shown.events in
+        let all = have_lines sizes.shards (rules_of sizes) may_answer were at_ends served in
+        let seats : length all.seats ≡ sizes.seats = all.count
+        ∙ (sym (length-map were (λ (was : SeatAt). was.clerk)) ∙ begun.clerks.counted) in
+        let L : ℕ → Type 0 = λ n. IsLogOfLines sizes n (log_by events) in
+        record {
+          seats = all.seats;
+          back = all.back;
+          log = log_by events;
+          log_is = subst L (sym seats) (lawful_log sizes events lawful);
+          history = record { lawful = lawful; log_is = refl };
+          each = λ number lines here.
+              let at = all.at number lines here in
+              let clerk = clerk_at number at.at_end at.end_at in
+              let E : List LineFlow → Type 0 = λ lines. ExplainsSeat sizes may_answer (log_by events) number lines in
+              subst E at.lines_are
+              (explains_seat sizes number may_answer at.was at.at_end events at.serves
+              (record {
+                clerk = fits_at number at.was at.was_at;
+                none = ap (λ (a : Acting). a.events) (new_at number at.was at.was_at);
+              }) (ap (λ (n : Name). n.sizes) clerk.name_is ∙ sizes_are) clerk.role_is lawful
+              (all_at (λ (at_end : SeatAt). IsWholeIn events at_end.clerk) at_ends number at.at_end whole at.end_at));
+        }
 
 -- These facts for any records that hold the slots' sources: `before` and `after` the run.
 module _ {S D : Type 0} (sizes : Sizes) (name : Name) (may_answer : ℕ → Type 0) (before after : List S)
