@@ -1,12 +1,17 @@
 //! A map in the order of last use that grows in parts: while it does, it is two.
-ghost use Rattle.std.specs.Prelude.{◌≡◌, ◌+◌, ◌-◌, ◌<◌, [], ◌++◌, length, take, OnOk, OnErr, IfOk, IsOk};
+//!
+//! A table that is full is left as it is, and a larger one is made for what is used or stored from
+//! then on. Each store moves a few items there, until the older table is empty.
+ghost use Rattle.std.specs.Prelude.{◌≡◌, ◌+◌, ◌-◌, ◌<◌, [], ◌++◌, true, false, ◌==◌, length, None, take, OnOk, OnErr, IfOk, IsOk};
 ghost use Rattle.std.specs.NonZero.{non_zero_usize_get};
+ghost use Rattle.std.specs.Borrow.{sem};
 ghost use Rattle.std.specs.Option.{IsSome, option_copied, option_copied_mut};
-ghost use Rattle.std.specs.Map.{lookup, remove_entry};
+ghost use Rattle.std.specs.Map.{lookup, remove_entry, set_value};
 ghost use Rattle.lru.specs.LruCache.{last_entry, lru_cache, promoted, put_entries};
 ghost use Rattle.mc_wire.specs.SameKey.{same_key};
+ghost use Rattle.mc_store.specs.internal.Growing.{entries_of};
 
-use crate::flushed::Entries;
+use crate::flushed::{Entries, ItemMap};
 use crate::hashing::PolynomialState;
 use crate::stored::Stored;
 use lru::LruCache;
@@ -16,20 +21,19 @@ use std::marker::Model;
 use std::mem;
 use std::num::NonZeroUsize;
 
-/// How many items the first table is for: 2^10 groups of nine.
-const FIRST_ROOM: usize = 9 * 65_536;
+/// The first table grows at once up to this many items: 2^16 groups of nine.
+const FIRST_ROOM: usize = 589_824;
 
 /// How many items a store moves from the older map to the recent one.
 const MOVED_ITEMS: usize = 4;
 
 /// What is known of each item, by key.
-pub type ItemMap = LruCache<Key, Stored, PolynomialState>;
-
-/// What is known of each item, by key, the most recently used first.
+///
+/// The order of last use is that of the recent map, and then that of the older one.
 pub struct GrowingMap {
     /// The items used most recently.
     recent: ItemMap,
-    /// The others, in a smaller table. Each store moves some of them.
+    /// The others, in a smaller table, until each was moved.
     older: ItemMap,
     /// How many the recent map has a table for.
     room: usize,
@@ -39,6 +43,7 @@ pub struct GrowingMap {
 }
 
 impl Drop for GrowingMap {
+    /// By hand, so that its drop is one call for its owner (docs/DECISIONS.md).
     fn drop(self) {
         let GrowingMap {
             recent: _recent,
@@ -50,11 +55,23 @@ impl Drop for GrowingMap {
     }
 }
 
+impl Model for GrowingMap {
+    ghost use Rattle.std.specs.NonZero.{non_zero_usize_get};
+    ghost use Rattle.mc_store.specs.internal.Growing.{AreApart, GrowingEntries};
+
+    ghost Value = { GrowingEntries };
+
+    ghost view = { λ map.
+        record { recent = map.recent; older = map.older; cap = non_zero_usize_get map.cap } };
+
+    ghost invariant = { λ map. AreApart map.recent.entries map.older.entries };
+}
+
 impl Entries for GrowingMap {
-    ghost count = { λ map. length map.recent.entries + length map.older.entries };
+    ghost count = { λ map. length (entries_of map) };
 
     fn count(&self) -> usize {
-        self.recent.len() + self.older.len()
+        self.len()
     }
 
     fn free_one(&mut self) {
@@ -62,156 +79,185 @@ impl Entries for GrowingMap {
     }
 }
 
-fn planned(alloc: Global, room: usize, hashing: PolynomialState) -> Result<ItemMap, AllocError> {
-    let Some(cap) = NonZeroUsize::new(room) else {
-        return Err(AllocError);
-    };
-    LruCache::with_hasher(alloc, cap, hashing)
-}
-
 impl GrowingMap {
+    ghost use Rattle.mc_store.specs.internal.GrowingLends.{LendsUsed};
+
+    /// No items, of which there may be `cap`.
     pub fn new(
         alloc: Global,
         cap: NonZeroUsize,
         hashing: PolynomialState,
-    ) -> Result<GrowingMap, AllocError> {
-        let first = cap.get().min(FIRST_ROOM);
+    ) -> Result<GrowingMap, AllocError>
+        ensures none { IfOk result (λ map. entries_of map ≡ []) }
+        ensures cap { IfOk result (λ map. map.cap ≡ non_zero_usize_get cap) }
+    {
         Ok(GrowingMap {
             recent: LruCache::unbounded_with_hasher(alloc, hashing)?,
             older: LruCache::unbounded_with_hasher(alloc, hashing)?,
-            room: first,
+            room: cap.get().min(FIRST_ROOM),
             cap,
             hashing,
         })
     }
 
-    pub fn len(&self) -> usize {
+    /// How many items there are.
+    pub fn len(&self) -> usize
+        ensures { result ≡ length (entries_of self.now) }
+    {
         self.recent.len() + self.older.len()
     }
 
-    pub fn cap(&self) -> NonZeroUsize {
+    /// How many items there may be.
+    pub fn cap(&self) -> NonZeroUsize
+        ensures { non_zero_usize_get result ≡ self.now.cap }
+    {
         self.cap
     }
 
+    /// The allocator of the items.
     pub fn allocator(&self) -> &Global {
         self.recent.allocator()
     }
 
+    /// Whether some items are not yet in the larger table.
     #[inline(always)]
-    pub fn peek(&self, key: &Key) -> Option<&Stored> {
+    pub fn is_growing(&self) -> bool
+        ensures { result ≡ false → self.now.older.entries ≡ [] }
+    {
+        !self.older.is_empty()
+    }
+
+    /// What is known of the item under the key.
+    #[inline(always)]
+    pub fn peek(&self, key: &Key) -> Option<&Stored>
+        ensures { option_copied result ≡ lookup (same_key key.now) (entries_of self.now) }
+    {
         match self.recent.peek(key) {
             Some(stored) => Some(stored),
-            None => self.peek_older(key),
+            None => self.older.peek(key),
         }
     }
 
+    /// What is known of the item under the key, to write to, and makes the item the most recently
+    /// used one. It is not among the older ones: `fetch` sees to that.
     #[inline(always)]
-    fn peek_older(&self, key: &Key) -> Option<&Stored> {
-        if self.older.is_empty() {
-            return None;
-        }
-        self.older.peek(key)
-    }
-
-    #[inline(always)]
-    pub fn get_mut(&mut self, key: &Key) -> Option<&mut Stored> {
-        if !self.older.is_empty() {
-            self.fetch(key);
-        }
+    pub fn get_mut(&mut self, key: &Key) -> Option<&mut Stored>
+        requires { lookup (same_key key.now) self.old.older.entries ≡ None }
+        ensures* writes_back { sem 𝓛 (LendsUsed (same_key key.now) self.entry result) }
+        ensures value {
+            option_copied_mut result ≡ lookup (same_key key.now) (entries_of self.old) }
+    {
         self.recent.get_mut(key)
     }
 
+    /// Moves the item under the key out of the older map, and makes it the most recently used one.
+    /// An item that is not there stays where it is. Where memory is refused nothing changes.
     #[cold]
     #[inline(never)]
-    fn fetch(&mut self, key: &Key) {
-        if let Some((key, stored)) = self.older.pop_entry(key) {
-            let _old = self.recent.put(key, stored);
-        }
-        self.settle();
-    }
-
-    pub fn peek_mut(&mut self, key: &Key) -> Option<&mut Stored> {
-        if self.older.is_empty() || self.recent.contains(key) {
-            return self.recent.peek_mut(key);
-        }
-        self.older.peek_mut(key)
-    }
-
-    pub fn put(&mut self, key: Key, stored: Stored) -> Result<Option<Stored>, AllocError> {
-        if !self.older.is_empty() {
-            self.fetch(&key);
-            self.migrate();
-        } else if self.recent.len() >= self.room {
-            self.grow(&key)?;
-        }
-        match self.recent.put(key, stored) {
-            Ok(old) => Ok(old),
-            Err(_refused) => Err(AllocError),
-        }
-    }
-
-    #[cold]
-    #[inline(never)]
-    fn grow(&mut self, key: &Key) -> Result<(), AllocError> {
-        if self.recent.contains(key) {
+    pub fn fetch(&mut self, key: &Key) -> Result<(), AllocError>
+        ensures recent { OnOk result (lookup (same_key key.now) self.new.older.entries ≡ None) }
+        ensures promoted { OnOk result (promoted (same_key key.now) (entries_of self.new) ≡
+            promoted (same_key key.now) (entries_of self.old)) }
+        ensures none { lookup (same_key key.now) (entries_of self.old) ≡ None → self.new ≡ self.old }
+        ensures err { OnErr result (self.new ≡ self.old) }
+        ensures cap { self.new.cap ≡ self.old.cap }
+    {
+        let Some(found) = self.older.peek(key) else {
             return Ok(());
+        };
+        let stored = *found;
+        let _older = self.older.len();
+        if self.is_full() {
+            return Err(AllocError);
         }
-        let room = self.room * 2;
-        let larger = planned(*self.recent.allocator(), room, self.hashing)?;
-        let full = mem::replace(&mut self.recent, larger);
-        self.older = full;
-        self.room = room;
+        let copy = key.clone()?;
+        let Ok(_none) = self.recent.put(copy, stored) else {
+            return Err(AllocError);
+        };
+        let _moved = self.older.pop(key);
         Ok(())
     }
 
-    #[cold]
-    #[inline(never)]
-    fn migrate(&mut self) {
-        for _ in 0..MOVED_ITEMS {
-            self.move_one();
+    /// Moves the most recently used one of the older items behind the recent ones, so that the order
+    /// stays the same. Where memory is refused nothing changes.
+    fn move_one(&mut self) -> Result<(), AllocError>
+        ensures entries { entries_of self.new ≡ entries_of self.old }
+        ensures cap { self.new.cap ≡ self.old.cap }
+        ensures moved { OnOk result
+            (length self.new.older.entries ≡ length self.old.older.entries - 1) }
+    {
+        let Some((key, found)) = self.older.peek_mru() else {
+            return Ok(());
+        };
+        let stored = *found;
+        let _older = self.older.len();
+        if self.is_full() {
+            return Err(AllocError);
         }
-        self.settle();
+        let copy = key.clone()?;
+        let last = key.clone()?;
+        let Ok(_none) = self.recent.put(copy, stored) else {
+            return Err(AllocError);
+        };
+        let _is_there = self.recent.demote(&last);
+        let _moved = self.older.pop_mru();
+        Ok(())
     }
 
-    fn move_one(&mut self) {
-        let Some((key, stored)) = self.older.pop_mru() else {
+    /// Whether the recent map has no room for one item more.
+    fn is_full(&self) -> bool
+        ensures { result ≡ false → length self.now.recent.entries < self.now.recent.cap }
+    {
+        self.recent.len() >= self.recent.cap().get()
+    }
+
+    /// Sets what is known of the item under the key, which stays where it is.
+    pub fn set(&mut self, key: &Key, stored: Stored)
+        ensures entries { entries_of self.new ≡
+            set_value (same_key key.now) (entries_of self.old) stored }
+        ensures cap { self.new.cap ≡ self.old.cap }
+    {
+        if let Some(there) = self.recent.peek_mut(key) {
+            *there = stored;
+            return;
+        }
+        let Some(there) = self.older.peek_mut(key) else {
             return;
         };
-        let Ok(copy) = key.clone() else {
-            return;
-        };
-        let _old = self.recent.put(key, stored);
-        self.recent.demote(&copy);
+        *there = stored;
     }
 
-    /// Frees the table of the older map once it is empty.
-    fn settle(&mut self) {
-        if self.older.is_empty() {
-            if let Some(one) = NonZeroUsize::new(1) {
-                self.older.resize(one);
-            }
-        }
-    }
-
-    pub fn pop(&mut self, key: &Key) -> Option<Stored> {
+    /// Takes the item under the key out.
+    pub fn pop(&mut self, key: &Key) -> Option<Stored>
+        ensures value { result ≡ lookup (same_key key.now) (entries_of self.old) }
+        ensures entries { entries_of self.new ≡
+            remove_entry (same_key key.now) (entries_of self.old) }
+        ensures cap { self.new.cap ≡ self.old.cap }
+    {
         match self.recent.pop(key) {
             Some(stored) => Some(stored),
             None => self.older.pop(key),
         }
     }
 
-    pub fn pop_lru(&mut self) -> Option<(Key, Stored)> {
+    /// Takes the least recently used item out.
+    pub fn pop_lru(&mut self) -> Option<(Key, Stored)>
+        ensures value { result ≡ last_entry (entries_of self.old) }
+        ensures entries { entries_of self.new ≡
+            take (length (entries_of self.old) - 1) (entries_of self.old) }
+        ensures cap { self.new.cap ≡ self.old.cap }
+    {
         if self.older.is_empty() {
             return self.recent.pop_lru();
         }
         self.older.pop_lru()
     }
 
-    pub fn is_empty(&self) -> bool {
-        self.len() == 0
-    }
-
-    pub fn clear(&mut self) {
+    /// Takes all items out.
+    pub fn clear(&mut self)
+        ensures entries { entries_of self.new ≡ [] }
+        ensures cap { self.new.cap ≡ self.old.cap }
+    {
         self.recent.clear();
         self.older.clear();
     }

@@ -15,12 +15,12 @@ ghost use Rattle.mc_store.specs.internal.Stored.{fields_in, fields_of, place_in}
 use crate::ITEM_OVERHEAD;
 use crate::access::{Access, Use};
 use crate::fields::Fields;
-use crate::flushed::Flushed;
-use crate::growing::GrowingMap;
+use crate::flushed::{Flushed, ItemMap};
 use crate::hashing::PolynomialState;
 use crate::reserve::Reserve;
 use crate::stored::Stored;
 use bytes::Bytes;
+use lru::LruCache;
 use mc_cells::{CELL_BYTES, Cells, LONG_VALUE, Place, every_kept};
 use mc_item::{Item, NoMemory, PackedExpiry, Value};
 use mc_sizes::{MAX_BUDGET, MIN_BUDGET};
@@ -49,14 +49,14 @@ pub struct Staling {
 /// The map has what is known of each item besides its value, and the place of that. There is always
 /// memory for the values of as many items as fit the budget, and for one value more.
 pub struct ItemCache {
-    cache: GrowingMap,
+    cache: ItemMap,
     cells: Cells,
     /// What the items may cost together, in bytes.
     budget: usize,
     /// How keys are hashed.
     hashing: PolynomialState,
     /// The maps of flushed items.
-    flushed: Flushed<GrowingMap>,
+    flushed: Flushed<ItemMap>,
 }
 
 impl Drop for ItemCache {
@@ -163,8 +163,8 @@ fn read_value(cells: &mut Cells, place: Place, reserve: &mut Option<Reserve>) ->
 
 /// Takes all items out of the map, to be freed later. Where memory is refused nothing changes.
 fn set_aside(
-    flushed: &mut Flushed<GrowingMap>,
-    map: &mut GrowingMap,
+    flushed: &mut Flushed<ItemMap>,
+    map: &mut ItemMap,
     hashing: PolynomialState,
 ) -> Result<(), AllocError>
     ensures taken { OnOk result (flushed.new ≡ flushed.old + length map.old.entries) }
@@ -175,7 +175,8 @@ fn set_aside(
     if map.is_empty() {
         return Ok(());
     }
-    let empty = GrowingMap::new(*map.allocator(), map.cap(), hashing)?;
+    let mut empty = LruCache::unbounded_with_hasher(*map.allocator(), hashing)?;
+    empty.resize(map.cap());
     flushed.take(map, empty)
 }
 
@@ -190,7 +191,8 @@ impl ItemCache {
     {
         let capacity = NonZeroUsize::new(budget / MIN_COST + 1).unwrap();
         let hashing = PolynomialState::new(hasher);
-        let cache = GrowingMap::new(alloc, capacity, hashing)?;
+        let mut cache = LruCache::unbounded_with_hasher(alloc, hashing)?;
+        cache.resize(capacity);
         let mut cells = Cells::new(alloc);
         cells.reserve(
             budget / CELL_BYTES + LONG_VALUE / CELL_BYTES + 2,

@@ -1,0 +1,292 @@
+-- Two lists of entries, one behind the other, none of whose keys is in both: what a map's steps do to the whole, they
+-- do to one of the two.
+use Rattle.std.proofs.Common.{◌≡◌, ℕ, ◌-◌, Bool, true, false, cond, List}
+use Rattle.std.proofs.Common.{[], ◌∷◌, ◌++◌, Option, Some, None, refl, ap, sym, arith, ◌∙◌, ◌==◌, length, take}
+use Rattle.std.specs.Option.{option_map_or}
+use Rattle.std.specs.List.{IsDistinct}
+use Rattle.std.specs.Map.{keys_of, lookup, lookup_entry, remove_entry, set_value}
+use Rattle.std.specs.Cmp.Lexicographic.{nat_list_eq_equiv}
+use Rattle.std.proofs.lemmas.Map.{lookup-remove_entry}
+use Rattle.lru.specs.LruCache.{promoted}
+use Rattle.mc_wire.specs.SameKey.{same_key}
+use Rattle.mc_store.specs.declared.stored.Stored.{Stored}
+use Rattle.mc_store.specs.internal.Cached.{StoredEntry}
+use Rattle.mc_store.specs.internal.Growing.{AreApart}
+
+module _ {K X : Type 0} (test : K → Bool) where
+  -- What is found in the first is found in both.
+  pub lookup-first : (xs ys : List (K × X)) (v : X) → lookup test xs ≡ Some v → lookup test (xs ++ ys) ≡ Some v
+  lookup-first [] ys v found = absurd (cc)
+  lookup-first (e ∷ es) ys v found = by (test e.0) found (lookup-first es ys v)
+    where
+      by : (b : Bool) → cond b (Some e.1) (lookup test es) ≡ Some v
+          → (lookup test es ≡ Some v → lookup test (es ++ ys) ≡ Some v)
+          → cond b (Some e.1) (lookup test (es ++ ys)) ≡ Some v
+      by true here go = here
+      by false here go = go here
+
+  -- Where the first has none, the second is what is looked at.
+  pub lookup-second : (xs ys : List (K × X)) → lookup test xs ≡ None → lookup test (xs ++ ys) ≡ lookup test ys
+  lookup-second [] ys none = refl
+  lookup-second (e ∷ es) ys none = by (test e.0) none (lookup-second es ys)
+    where
+      by : (b : Bool) → cond b (Some e.1) (lookup test es) ≡ None
+          → (lookup test es ≡ None → lookup test (es ++ ys) ≡ lookup test ys)
+          → cond b (Some e.1) (lookup test (es ++ ys)) ≡ lookup test ys
+      by true none go = absurd cc
+      by false none go = go none
+
+  -- Where the second has none, the first is what is looked at.
+  pub lookup-only_first : (xs ys : List (K × X)) → lookup test ys ≡ None → lookup test (xs ++ ys) ≡ lookup test xs
+  lookup-only_first [] ys none = none
+  lookup-only_first (e ∷ es) ys none = by (test e.0) (lookup-only_first es ys none)
+    where
+      by : (b : Bool) → lookup test (es ++ ys) ≡ lookup test es
+          → cond b (Some e.1) (lookup test (es ++ ys)) ≡ cond b (Some e.1) (lookup test es)
+      by true rest = refl
+      by false rest = rest
+
+  -- What is found in the first is removed from it.
+  pub remove-first : (xs ys : List (K × X)) (v : X) → lookup test xs ≡ Some v
+      → remove_entry test (xs ++ ys) ≡ remove_entry test xs ++ ys
+  remove-first [] ys v found = absurd (cc)
+  remove-first (e ∷ es) ys v found = by (test e.0) found (remove-first es ys v)
+    where
+      by : (b : Bool) → cond b (Some e.1) (lookup test es) ≡ Some v
+          → (lookup test es ≡ Some v → remove_entry test (es ++ ys) ≡ remove_entry test es ++ ys)
+          → cond b (es ++ ys) (e ∷ remove_entry test (es ++ ys)) ≡ cond b es (e ∷ remove_entry test es) ++ ys
+      by true here go = refl
+      by false here go = ap (λ zs. e ∷ zs) (go here)
+
+  -- Where the first has none, one is removed from the second.
+  pub remove-second : (xs ys : List (K × X)) → lookup test xs ≡ None
+      → remove_entry test (xs ++ ys) ≡ xs ++ remove_entry test ys
+  remove-second [] ys none = refl
+  remove-second (e ∷ es) ys none = by (test e.0) none (remove-second es ys)
+    where
+      by : (b : Bool) → cond b (Some e.1) (lookup test es) ≡ None
+          → (lookup test es ≡ None → remove_entry test (es ++ ys) ≡ es ++ remove_entry test ys)
+          → cond b (es ++ ys) (e ∷ remove_entry test (es ++ ys)) ≡ e ∷ (es ++ remove_entry test ys)
+      by true none go = absurd cc
+      by false none go = ap (λ zs. e ∷ zs) (go none)
+
+  -- What is found in the first is set there.
+  pub set-first : (xs ys : List (K × X)) (v w : X) → lookup test xs ≡ Some v
+      → set_value test (xs ++ ys) w ≡ set_value test xs w ++ ys
+  set-first [] ys v w found = absurd (cc)
+  set-first (e ∷ es) ys v w found = by (test e.0) found (set-first es ys v w)
+    where
+      by : (b : Bool) → cond b (Some e.1) (lookup test es) ≡ Some v
+          → (lookup test es ≡ Some v → set_value test (es ++ ys) w ≡ set_value test es w ++ ys)
+          → cond b ((e.0, w) ∷ (es ++ ys)) (e ∷ set_value test (es ++ ys) w)
+          ≡ cond b ((e.0, w) ∷ es) (e ∷ set_value test es w) ++ ys
+      by true here go = refl
+      by false here go = ap (λ zs. e ∷ zs) (go here)
+
+  -- Where the first has none, one is set in the second.
+  pub set-second : (xs ys : List (K × X)) (w : X) → lookup test xs ≡ None
+      → set_value test (xs ++ ys) w ≡ xs ++ set_value test ys w
+  set-second [] ys w none = refl
+  set-second (e ∷ es) ys w none = by (test e.0) none (set-second es ys w)
+    where
+      by : (b : Bool) → cond b (Some e.1) (lookup test es) ≡ None
+          → (lookup test es ≡ None → set_value test (es ++ ys) w ≡ es ++ set_value test ys w)
+          → cond b ((e.0, w) ∷ (es ++ ys)) (e ∷ set_value test (es ++ ys) w) ≡ e ∷ (es ++ set_value test ys w)
+      by true none go = absurd cc
+      by false none go = ap (λ zs. e ∷ zs) (go none)
+
+  -- Where there is none, none is set.
+  pub set-none : (xs : List (K × X)) (w : X) → lookup test xs ≡ None → set_value test xs w ≡ xs
+  set-none [] w none = refl
+  set-none (e ∷ es) w none = by (test e.0) none (set-none es w)
+    where
+      by : (b : Bool) → cond b (Some e.1) (lookup test es) ≡ None
+          → (lookup test es ≡ None → set_value test es w ≡ es)
+          → cond b ((e.0, w) ∷ es) (e ∷ set_value test es w) ≡ e ∷ es
+      by true none go = absurd cc
+      by false none go = ap (λ zs. e ∷ zs) (go none)
+
+-- One less than the length of a list with a first entry is that of the others.
+less_one : {X : Type 0} (x : X) (xs : List X) → length (x ∷ xs) - 1 ≡ length xs
+less_one x xs = arith
+
+-- All but the last of a list with a first entry.
+shorter : {X : Type 0} (x : X) (xs : List X) → take (length (x ∷ xs) - 1) (x ∷ xs) ≡ take (length xs) (x ∷ xs)
+shorter x xs = ap (λ n. take n (x ∷ xs)) (less_one x xs)
+
+behind : {X : Type 0} (x : X) (xs : List X) (y : X) (ys : List X)
+    → take (length (xs ++ y ∷ ys)) (x ∷ (xs ++ y ∷ ys)) ≡ x ∷ (xs ++ take (length ys) (y ∷ ys))
+behind x [] y ys = refl
+behind x (z ∷ zs) y ys = ap (λ es. x ∷ es) (behind z zs y ys)
+
+-- All but the last of two lists: the last of the second is out.
+pub without_last : {X : Type 0} (xs ys : List X) → false ≡ (length ys == 0)
+    → take (length (xs ++ ys) - 1) (xs ++ ys) ≡ xs ++ take (length ys - 1) ys
+without_last xs [] some = absurd cc
+without_last [] (y ∷ ys) some = refl
+without_last (x ∷ xs) (y ∷ ys) some =
+    shorter x (xs ++ y ∷ ys) ∙ (behind x xs y ys ∙ sym (ap (λ es. x ∷ (xs ++ es)) (shorter y ys)))
+
+-- The first entry of a list passes no test under which nothing is found, nor is anything found behind it.
+pub absent-head : {K X : Type 0} (other : K → Bool) (e : K × X) (es : List (K × X)) → lookup other (e ∷ es) ≡ None
+    → (other e.0 ≡ false) × (lookup other es ≡ None)
+absent-head other e es none = by (other e.0) none
+  where
+    by : (b : Bool) → cond b (Some e.1) (lookup other es) ≡ None → (b ≡ false) × (lookup other es ≡ None)
+    by true none = absurd cc
+    by false none = (refl, none)
+
+-- Nothing is found where the first entry doesn't pass and nothing is found behind it.
+pub absent-cons : {K X : Type 0} (other : K → Bool) (e : K × X) (es : List (K × X)) → other e.0 ≡ false
+    → lookup other es ≡ None → lookup other (e ∷ es) ≡ None
+absent-cons other e es fails none = rw fails none
+
+module _ {K X : Type 0} (other test : K → Bool) where
+  -- A key that is not there is not there once an entry was removed.
+  pub absent-removed : (xs : List (K × X)) → lookup other xs ≡ None → lookup other (remove_entry test xs) ≡ None
+  absent-removed [] none = none
+  absent-removed (e ∷ es) none =
+      let at = absent-head other e es none in
+      by (test e.0) at.1 (absent-cons other e (remove_entry test es) at.0 (absent-removed es at.1))
+    where
+      by : (b : Bool) → lookup other es ≡ None → lookup other (e ∷ remove_entry test es) ≡ None
+          → lookup other (cond b es (e ∷ remove_entry test es)) ≡ None
+      by true without rest = without
+      by false without rest = rest
+
+  -- Nor once another value was set.
+  pub absent-set : (xs : List (K × X)) (w : X) → lookup other xs ≡ None → lookup other (set_value test xs w) ≡ None
+  absent-set [] w none = none
+  absent-set (e ∷ es) w none =
+      let at = absent-head other e es none in
+      by (test e.0) (absent-cons other (e.0, w) es at.0 at.1)
+      (absent-cons other e (set_value test es w) at.0 (absent-set es w at.1))
+    where
+      by : (b : Bool) → lookup other ((e.0, w) ∷ es) ≡ None → lookup other (e ∷ set_value test es w) ≡ None
+          → lookup other (cond b ((e.0, w) ∷ es) (e ∷ set_value test es w)) ≡ None
+      by true here rest = here
+      by false here rest = rest
+
+  -- An entry that is found passes no test under which nothing is found.
+  absent-entry : (xs : List (K × X)) (e : K × X) → lookup other xs ≡ None → lookup_entry test xs ≡ Some e
+      → other e.0 ≡ false
+  absent-entry [] e none found = absurd cc
+  absent-entry (x ∷ xs) e none found =
+      let at = absent-head other x xs none in by (test x.0) found at.0 (absent-entry xs e at.1)
+    where
+      by : (b : Bool) → cond b (Some x) (lookup_entry test xs) ≡ Some e → other x.0 ≡ false
+          → (lookup_entry test xs ≡ Some e → other e.0 ≡ false) → other e.0 ≡ false
+      by true here fails go = let same : x ≡ e = cc (here) in rw (← same) fails
+      by false here fails go = go here
+
+  -- Nor once an entry was made the first.
+  pub absent-promoted : (xs : List (K × X)) → lookup other xs ≡ None → lookup other (promoted test xs) ≡ None
+  absent-promoted xs none = by (lookup_entry test xs) refl
+    where
+      by : (found : Option (K × X)) → lookup_entry test xs ≡ found
+          → lookup other (option_map_or (λ e. e ∷ remove_entry test xs) found xs) ≡ None
+      by None at = none
+      by (Some e) at =
+          absent-cons other e (remove_entry test xs) (absent-entry xs e none at) (absent-removed xs none)
+
+-- What holds of the recent entries for each older key still holds where those of another list are found in neither.
+apart-by : (recent new : List StoredEntry)
+    → ((key : List ℕ) → lookup (same_key key) recent ≡ None → lookup (same_key key) new ≡ None)
+    → (older : List StoredEntry) → AreApart recent older → AreApart new older
+apart-by recent new keeps [] apart = apart
+apart-by recent new keeps (e ∷ es) apart = (keeps e.0 apart.0, apart-by recent new keeps es apart.1)
+
+module _ (test : List ℕ → Bool) where
+  -- Lists that are apart stay so when an entry of the first is removed,
+  pub apart-removed : (recent older : List StoredEntry) → AreApart recent older
+      → AreApart (remove_entry test recent) older
+  apart-removed recent older =
+      apart-by recent (remove_entry test recent) (λ key. absent-removed (same_key key) test recent) older
+
+  -- when a value of the first is set,
+  pub apart-set : (recent older : List StoredEntry) (w : Stored) → AreApart recent older
+      → AreApart (set_value test recent w) older
+  apart-set recent older w =
+      apart-by recent (set_value test recent w) (λ key. absent-set (same_key key) test recent w) older
+
+  -- when an entry of the first is used,
+  pub apart-used : (recent older : List StoredEntry) (w : Stored) → AreApart recent older
+      → AreApart (set_value test (promoted test recent) w) older
+  apart-used recent older w apart =
+      apart-set (promoted test recent) older w
+      (apart-by recent (promoted test recent) (λ key. absent-promoted (same_key key) test recent) older apart)
+
+  -- when an entry of the second is removed,
+  pub apart-removed_older : (recent older : List StoredEntry) → AreApart recent older
+      → AreApart recent (remove_entry test older)
+  apart-removed_older recent [] apart = apart
+  apart-removed_older recent (e ∷ es) apart = by (test e.0) (apart-removed_older recent es apart.1)
+    where
+      by : (b : Bool) → AreApart recent (remove_entry test es)
+          → AreApart recent (cond b es (e ∷ remove_entry test es))
+      by true rest = apart.1
+      by false rest = (apart.0, rest)
+
+  -- and when a value of the second is set.
+  pub apart-set_older : (recent older : List StoredEntry) (w : Stored) → AreApart recent older
+      → AreApart recent (set_value test older w)
+  apart-set_older recent [] w apart = apart
+  apart-set_older recent (e ∷ es) w apart = by (test e.0) (apart-set_older recent es w apart.1)
+    where
+      by : (b : Bool) → AreApart recent (set_value test es w)
+          → AreApart recent (cond b ((e.0, w) ∷ es) (e ∷ set_value test es w))
+      by true rest = (apart.0, apart.1)
+      by false rest = (apart.0, rest)
+
+-- An entry that is taken out of a list in which no key is twice is not there any more.
+pub distinct-removed : (key : List ℕ) (es : List StoredEntry) → IsDistinct same_key (keys_of es)
+    → lookup (same_key key) (remove_entry (same_key key) es) ≡ None
+distinct-removed key es distinct =
+    rw (
+      lookup-remove_entry nat_list_eq_equiv (same_key key) (nat_list_eq_equiv.congr key) key es distinct,
+      nat_list_eq_equiv.refl key,
+    ) refl
+
+-- Tests that agree find the same.
+lookup-alike : {K X : Type 0} (one other : K → Bool) → ((k : K) → one k ≡ other k) → (es : List (K × X))
+    → lookup one es ≡ lookup other es
+lookup-alike one other alike [] = refl
+lookup-alike one other alike (e ∷ es) = rw (alike e.0, lookup-alike one other alike es) refl
+
+-- A key of the second of two lists that are apart is not in the first.
+pub apart-absent : (key : List ℕ) (recent older : List StoredEntry) (stored : Stored) → AreApart recent older
+    → lookup (same_key key) older ≡ Some stored → lookup (same_key key) recent ≡ None
+apart-absent key recent [] stored apart found = absurd cc
+apart-absent key recent (e ∷ es) stored apart found =
+    by (same_key key e.0) refl found (apart-absent key recent es stored apart.1)
+  where
+    by : (b : Bool) → same_key key e.0 ≡ b → cond b (Some e.1) (lookup (same_key key) es) ≡ Some stored
+        → (lookup (same_key key) es ≡ Some stored → lookup (same_key key) recent ≡ None)
+        → lookup (same_key key) recent ≡ None
+    by true same found go =
+        lookup-alike (same_key key) (same_key e.0) (λ other. nat_list_eq_equiv.congr key e.0 other same) recent
+        ∙ apart.0
+    by false same found go = go found
+
+-- Two lists stay apart when an entry is put before the first whose key is not in the second.
+pub apart-put : (key : List ℕ) (stored : Stored) (recent older : List StoredEntry)
+    → lookup (same_key key) older ≡ None → AreApart recent older → AreApart ((key, stored) ∷ recent) older
+apart-put key stored recent [] absent apart = apart
+apart-put key stored recent (e ∷ es) absent apart =
+    let at = absent-head (same_key key) e es absent in
+    (
+      absent-cons (same_key e.0) (key, stored) recent (nat_list_eq_equiv.symm e.0 key ∙ at.0) apart.0,
+      apart-put key stored recent es at.1 apart.1,
+    )
+
+-- Nor when it is put behind the first.
+pub apart-last : (key : List ℕ) (stored : Stored) (recent older : List StoredEntry)
+    → lookup (same_key key) older ≡ None → AreApart recent older → AreApart (recent ++ (key, stored) ∷ []) older
+apart-last key stored recent [] absent apart = apart
+apart-last key stored recent (e ∷ es) absent apart =
+    let at = absent-head (same_key key) e es absent in
+    (
+      lookup-second (same_key e.0) recent ((key, stored) ∷ []) apart.0
+      ∙ absent-cons (same_key e.0) (key, stored) [] (nat_list_eq_equiv.symm e.0 key ∙ at.0) refl,
+      apart-last key stored recent es at.1 apart.1,
+    )
