@@ -1,13 +1,18 @@
 -- Two lists of entries, one behind the other, none of whose keys is in both: what a map's steps do to the whole, they
 -- do to one of the two.
-use Rattle.std.proofs.Common.{◌≡◌, ℕ, ◌-◌, Bool, true, false, cond, List}
-use Rattle.std.proofs.Common.{[], ◌∷◌, ◌++◌, Option, Some, None, refl, ap, sym, arith, ◌∙◌, ◌==◌, length, take}
+use Rattle.std.proofs.Common.{◌≡◌, ℕ, suc, ◌-◌, Bool, true, false, cond, List}
+use Rattle.std.proofs.Common.{[], ◌∷◌, ◌++◌, Option, Some, None, refl, ap, sym, arith, subst, ◌∙◌, ◌==◌, drop, length, take}
+use Rattle.std.specs.Prelude.{slice_get}
 use Rattle.std.specs.Option.{option_map_or}
 use Rattle.std.specs.List.{IsDistinct}
 use Rattle.std.specs.Map.{keys_of, lookup, lookup_entry, remove_entry, set_value}
 use Rattle.std.specs.Cmp.Lexicographic.{nat_list_eq_equiv}
 use Rattle.std.proofs.lemmas.Map.{lookup-remove_entry}
-use Rattle.lru.specs.LruCache.{promoted}
+use Rattle.std.proofs.lemmas.Bool.Decides.{Decides-eqb}
+use Rattle.std.proofs.lemmas.List.{append_assoc}
+use Rattle.std.proofs.lemmas.Slice.Eq.{slice_eq-Decides}
+use Rattle.lru.specs.LruCache.{demoted, promoted}
+use Rattle.mc_store.proofs.Mapped.{divided}
 use Rattle.mc_wire.specs.SameKey.{same_key}
 use Rattle.mc_store.specs.declared.stored.Stored.{Stored}
 use Rattle.mc_store.specs.internal.Cached.{StoredEntry}
@@ -106,13 +111,13 @@ module _ {K X : Type 0} (test : K → Bool) where
       by true none go = absurd cc
       by false none go = ap (λ zs. e ∷ zs) (go none)
 
--- One less than the length of a list with a first entry is that of the others.
-less_one : {X : Type 0} (x : X) (xs : List X) → length (x ∷ xs) - 1 ≡ length xs
-less_one x xs = arith
+-- One less than a number that is more than none.
+less_one : (n : ℕ) → suc n - 1 ≡ n
+less_one n = omega (arith)
 
 -- All but the last of a list with a first entry.
 shorter : {X : Type 0} (x : X) (xs : List X) → take (length (x ∷ xs) - 1) (x ∷ xs) ≡ take (length xs) (x ∷ xs)
-shorter x xs = ap (λ n. take n (x ∷ xs)) (less_one x xs)
+shorter x xs = ap (λ n. take n (x ∷ xs)) (less_one (length xs))
 
 behind : {X : Type 0} (x : X) (xs : List X) (y : X) (ys : List X)
     → take (length (xs ++ y ∷ ys)) (x ∷ (xs ++ y ∷ ys)) ≡ x ∷ (xs ++ take (length ys) (y ∷ ys))
@@ -290,3 +295,59 @@ apart-last key stored recent (e ∷ es) absent apart =
       ∙ absent-cons (same_key e.0) (key, stored) [] (nat_list_eq_equiv.symm e.0 key ∙ at.0) refl,
       apart-last key stored recent es at.1 apart.1,
     )
+
+-- Keys of which the test says that they are equal are.
+same-keys : (one other : List ℕ) → same_key one other ≡ true → one ≡ other
+same-keys one other same = (slice_eq-Decides Decides-eqb one other (same_key one other) refl).0 same
+
+-- An entry of the second that is put before the first is the first of all, as if it were used.
+pub promoted-fetched : (key : List ℕ) (stored : Stored) (recent older : List StoredEntry)
+    → lookup (same_key key) recent ≡ None → lookup (same_key key) older ≡ Some stored
+    → promoted (same_key key) ((key, stored) ∷ recent ++ remove_entry (same_key key) older)
+    ≡ promoted (same_key key) (recent ++ older)
+promoted-fetched key stored recent older none found =
+    let d = divided (same_key key) (recent ++ older) stored (lookup-second (same_key key) recent older none ∙ found) in
+    let same : key ≡ d.key = same-keys key d.key d.passes in
+    let whole : promoted (same_key key) (recent ++ older) ≡ (d.key, stored) ∷ (recent ++ remove_entry (same_key key) older)
+    = rw (d.entry, remove-second (same_key key) recent older none) refl in
+    let first : promoted (same_key key) ((key, stored) ∷ recent ++ remove_entry (same_key key) older)
+    ≡ (key, stored) ∷ (recent ++ remove_entry (same_key key) older) = rw (nat_list_eq_equiv.refl key) refl in
+    first ∙ (ap (λ k. (k, stored) ∷ (recent ++ remove_entry (same_key key) older)) same ∙ sym whole)
+
+-- A first entry is made the last.
+pub demoted-first : (key : List ℕ) (stored : Stored) (recent : List StoredEntry)
+    → demoted (same_key key) ((key, stored) ∷ recent) ≡ recent ++ (key, stored) ∷ []
+demoted-first key stored recent = rw (nat_list_eq_equiv.refl key) refl
+
+-- What is known of a list by its first entry.
+pub record IsFirst (key : List ℕ) (stored : Stored) (older : List StoredEntry) : Type 0 where
+  pub rest : older ≡ (key, stored) ∷ drop 1 older
+  pub found : lookup (same_key key) older ≡ Some stored
+
+pub first_is : (key : List ℕ) (stored : Stored) (older : List StoredEntry) → slice_get older 0 ≡ Some (key, stored)
+    → IsFirst key stored older
+first_is key stored [] first = absurd cc
+first_is key stored (e ∷ es) first =
+    let same : e ≡ (key, stored) = cc (first) in
+    record {
+      rest = ap (λ f. f ∷ es) same;
+      found = rw (same, nat_list_eq_equiv.refl key) refl;
+    }
+
+-- Two lists are apart once the first entry of the second is the last of the first.
+pub apart-moved : (key : List ℕ) (stored : Stored) (recent older : List StoredEntry)
+    → slice_get older 0 ≡ Some (key, stored) → IsDistinct same_key (keys_of older) → AreApart recent older
+    → AreApart (recent ++ (key, stored) ∷ []) (drop 1 older)
+apart-moved key stored recent [] first distinct apart = absurd cc
+apart-moved key stored recent (e ∷ es) first distinct apart =
+    let same : e ≡ (key, stored) = cc (first) in
+    let gone = distinct-removed key ((key, stored) ∷ es)
+    (subst (λ (f : StoredEntry). IsDistinct same_key (keys_of (f ∷ es))) same distinct) in
+    apart-last key stored recent es (rw (nat_list_eq_equiv.refl key) at gone) apart.1
+
+-- The whole is the same.
+pub moved_whole : (key : List ℕ) (stored : Stored) (recent older : List StoredEntry)
+    → slice_get older 0 ≡ Some (key, stored) → (recent ++ (key, stored) ∷ []) ++ drop 1 older ≡ recent ++ older
+moved_whole key stored recent older first =
+    append_assoc recent ((key, stored) ∷ []) (drop 1 older)
+    ∙ ap (λ (es : List StoredEntry). recent ++ es) (sym (first_is key stored older first).rest)

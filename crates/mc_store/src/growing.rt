@@ -35,8 +35,6 @@ pub struct GrowingMap {
     recent: ItemMap,
     /// The others, in a smaller table, until each was moved.
     older: ItemMap,
-    /// How many the recent map has a table for.
-    room: usize,
     /// How many items there may be.
     cap: NonZeroUsize,
     hashing: PolynomialState,
@@ -48,7 +46,6 @@ impl Drop for GrowingMap {
         let GrowingMap {
             recent: _recent,
             older: _older,
-            room: _,
             cap: _,
             hashing: _,
         } = self;
@@ -91,10 +88,13 @@ impl GrowingMap {
         ensures none { IfOk result (λ map. entries_of map ≡ []) }
         ensures cap { IfOk result (λ map. map.cap ≡ non_zero_usize_get cap) }
     {
+        let mut recent = LruCache::unbounded_with_hasher(alloc, hashing)?;
+        let older = LruCache::unbounded_with_hasher(alloc, hashing)?;
+        let room = NonZeroUsize::new(cap.get().min(FIRST_ROOM)).unwrap();
+        recent.resize(room);
         Ok(GrowingMap {
-            recent: LruCache::unbounded_with_hasher(alloc, hashing)?,
-            older: LruCache::unbounded_with_hasher(alloc, hashing)?,
-            room: cap.get().min(FIRST_ROOM),
+            recent,
+            older,
             cap,
             hashing,
         })
@@ -156,6 +156,8 @@ impl GrowingMap {
     #[inline(never)]
     pub fn fetch(&mut self, key: &Key) -> Result<(), AllocError>
         ensures recent { OnOk result (lookup (same_key key.now) self.new.older.entries ≡ None) }
+        ensures found { OnOk result (lookup (same_key key.now) (entries_of self.new) ≡
+            lookup (same_key key.now) (entries_of self.old)) }
         ensures promoted { OnOk result (promoted (same_key key.now) (entries_of self.new) ≡
             promoted (same_key key.now) (entries_of self.old)) }
         ensures none { lookup (same_key key.now) (entries_of self.old) ≡ None → self.new ≡ self.old }
@@ -201,6 +203,45 @@ impl GrowingMap {
         };
         let _is_there = self.recent.demote(&last);
         let _moved = self.older.pop_mru();
+        Ok(())
+    }
+
+    /// Moves some of the older items behind the recent ones, or all if there are fewer, and frees the
+    /// older table once it is empty. Where memory is refused the rest stays.
+    #[cold]
+    #[inline(never)]
+    fn move_some(&mut self)
+        ensures entries { entries_of self.new ≡ entries_of self.old }
+        ensures cap { self.new.cap ≡ self.old.cap }
+    {
+        for _ in 0..MOVED_ITEMS {
+            let _refused = self.move_one();
+        }
+        self.free_table();
+    }
+
+    /// Frees the older table, where no item is left in it.
+    fn free_table(&mut self)
+        ensures entries { entries_of self.new ≡ entries_of self.old }
+        ensures cap { self.new.cap ≡ self.old.cap }
+    {
+        if self.older.is_empty() {
+            self.older.resize(NonZeroUsize::MIN);
+        }
+    }
+
+    /// Makes a table of twice the size for what is used or stored from then on.
+    fn grow(&mut self) -> Result<(), AllocError>
+        requires { self.old.older.entries ≡ [] }
+        ensures recent { OnOk result (self.new.recent.entries ≡ []) }
+        ensures room { OnOk result (0 < self.new.recent.cap) }
+        ensures older { OnOk result (self.new.older.entries ≡ self.old.recent.entries) }
+        ensures err { OnErr result (self.new ≡ self.old) }
+        ensures cap { self.new.cap ≡ self.old.cap }
+    {
+        let room = NonZeroUsize::new(self.recent.cap().get().saturating_mul(2)).unwrap();
+        let larger = LruCache::with_hasher(*self.recent.allocator(), room, self.hashing)?;
+        self.older = mem::replace(&mut self.recent, larger);
         Ok(())
     }
 
