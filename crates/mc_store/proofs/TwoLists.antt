@@ -1,8 +1,8 @@
 -- Two lists of entries, one behind the other, none of whose keys is in both: what a map's steps do to the whole, they
 -- do to one of the two.
-use Rattle.std.proofs.Common.{◌≡◌, ℕ, suc, ◌-◌, Bool, true, false, cond, List}
+use Rattle.std.proofs.Common.{◌≡◌, ℕ, suc, ◌-◌, ◌<◌, Bool, true, false, cond, List}
 use Rattle.std.proofs.Common.{[], ◌∷◌, ◌++◌, Option, Some, None, refl, ap, sym, arith, subst, ◌∙◌, ◌==◌, drop, length, take}
-use Rattle.std.specs.Prelude.{slice_get}
+use Rattle.std.specs.Prelude.{is_some, slice_get}
 use Rattle.std.specs.Option.{option_map_or}
 use Rattle.std.specs.List.{IsDistinct}
 use Rattle.std.specs.Map.{keys_of, lookup, lookup_entry, remove_entry, set_value}
@@ -11,7 +11,8 @@ use Rattle.std.proofs.lemmas.Map.{lookup-remove_entry}
 use Rattle.std.proofs.lemmas.Bool.Decides.{Decides-eqb}
 use Rattle.std.proofs.lemmas.List.{append_assoc}
 use Rattle.std.proofs.lemmas.Slice.Eq.{slice_eq-Decides}
-use Rattle.lru.specs.LruCache.{demoted, promoted}
+use Rattle.lru.specs.LruCache.{demoted, lru_cache, promoted, put_entries}
+use Rattle.mc_store.proofs.Arrivals.{put_absent, put_present}
 use Rattle.mc_store.proofs.Mapped.{divided}
 use Rattle.mc_wire.specs.SameKey.{same_key}
 use Rattle.mc_store.specs.declared.stored.Stored.{Stored}
@@ -278,8 +279,7 @@ pub apart-put : (key : List ℕ) (stored : Stored) (recent older : List StoredEn
     → lookup (same_key key) older ≡ None → AreApart recent older → AreApart ((key, stored) ∷ recent) older
 apart-put key stored recent [] absent apart = apart
 apart-put key stored recent (e ∷ es) absent apart =
-    let at = absent-head (same_key key) e es absent in
-    (
+    let at = absent-head (same_key key) e es absent in (
       absent-cons (same_key e.0) (key, stored) recent (nat_list_eq_equiv.symm e.0 key ∙ at.0) apart.0,
       apart-put key stored recent es at.1 apart.1,
     )
@@ -289,10 +289,9 @@ pub apart-last : (key : List ℕ) (stored : Stored) (recent older : List StoredE
     → lookup (same_key key) older ≡ None → AreApart recent older → AreApart (recent ++ (key, stored) ∷ []) older
 apart-last key stored recent [] absent apart = apart
 apart-last key stored recent (e ∷ es) absent apart =
-    let at = absent-head (same_key key) e es absent in
-    (
+    let at = absent-head (same_key key) e es absent in (
       lookup-second (same_key e.0) recent ((key, stored) ∷ []) apart.0
-      ∙ absent-cons (same_key e.0) (key, stored) [] (nat_list_eq_equiv.symm e.0 key ∙ at.0) refl,
+          ∙ absent-cons (same_key e.0) (key, stored) [] (nat_list_eq_equiv.symm e.0 key ∙ at.0) refl,
       apart-last key stored recent es at.1 apart.1,
     )
 
@@ -351,3 +350,91 @@ pub moved_whole : (key : List ℕ) (stored : Stored) (recent older : List Stored
 moved_whole key stored recent older first =
     append_assoc recent ((key, stored) ∷ []) (drop 1 older)
     ∙ ap (λ (es : List StoredEntry). recent ++ es) (sym (first_is key stored older first).rest)
+
+-- What is not some is none.
+pub not-some : {X : Type 0} (found : Option X) → false ≡ is_some found → found ≡ None
+not-some None none = refl
+not-some (Some x) none = absurd cc
+
+-- An entry that is found in the first is found in both.
+lookup_entry-first : {K X : Type 0} (test : K → Bool) (xs ys : List (K × X)) (e : K × X) → lookup_entry test xs ≡ Some e
+    → lookup_entry test (xs ++ ys) ≡ Some e
+lookup_entry-first test [] ys e found = absurd cc
+lookup_entry-first test (x ∷ xs) ys e found = by (test x.0) found (lookup_entry-first test xs ys e)
+  where
+    by : (b : Bool) → cond b (Some x) (lookup_entry test xs) ≡ Some e
+        → (lookup_entry test xs ≡ Some e → lookup_entry test (xs ++ ys) ≡ Some e)
+        → cond b (Some x) (lookup_entry test (xs ++ ys)) ≡ Some e
+    by true here go = here
+    by false here go = go here
+
+-- Two lists stay apart when the first takes an item whose key is not in the second.
+pub apart-put_entries : (key : List ℕ) (stored : Stored) (recent older : List StoredEntry) (cap : ℕ)
+    → lookup (same_key key) older ≡ None → (lookup (same_key key) recent ≡ None → length recent < cap)
+    → AreApart recent older → AreApart (put_entries same_key (lru_cache recent cap) key stored) older
+apart-put_entries key stored recent older cap gone few apart = by (lookup (same_key key) recent) refl
+  where
+    by : (found : Option Stored) → lookup (same_key key) recent ≡ found
+        → AreApart (put_entries same_key (lru_cache recent cap) key stored) older
+    by None at =
+        rw (put_absent same_key recent cap key stored at (few at)) (apart-put key stored recent older gone apart)
+    by (Some was) at =
+        let d = divided (same_key key) recent was at in
+        rw (
+          put_present same_key recent cap key stored (d.key, was) d.entry,
+          ← same-keys key d.key d.passes,
+        )
+        (apart-put key stored (remove_entry (same_key key) recent) older gone
+        (apart-removed (same_key key) recent older apart))
+
+-- What the first takes the whole takes.
+pub put-two : (key : List ℕ) (stored : Stored) (recent older : List StoredEntry) (cap all : ℕ)
+    → lookup (same_key key) older ≡ None → (lookup (same_key key) recent ≡ None → length recent < cap)
+    → (lookup (same_key key) (recent ++ older) ≡ None → length (recent ++ older) < all)
+    → put_entries same_key (lru_cache recent cap) key stored ++ older
+    ≡ put_entries same_key (lru_cache (recent ++ older) all) key stored
+put-two key stored recent older cap all gone few fits = by (lookup (same_key key) recent) refl
+  where
+    by : (found : Option Stored) → lookup (same_key key) recent ≡ found
+        → put_entries same_key (lru_cache recent cap) key stored ++ older
+        ≡ put_entries same_key (lru_cache (recent ++ older) all) key stored
+    by None at =
+        let none = lookup-only_first (same_key key) recent older gone ∙ at in
+        rw (
+          put_absent same_key recent cap key stored at (few at),
+          put_absent same_key (recent ++ older) all key stored none (fits none),
+        ) refl
+    by (Some was) at =
+        let d = divided (same_key key) recent was at in
+        rw (
+          put_present same_key recent cap key stored (d.key, was) d.entry,
+          put_present same_key (recent ++ older) all key stored (d.key, was)
+              (lookup_entry-first (same_key key) recent older (d.key, was) d.entry),
+          remove-first (same_key key) recent older was at,
+        ) refl
+
+-- the list with another value in its first entry
+abbrev instead : Stored → List StoredEntry → List StoredEntry
+instead stored [] = []
+instead stored (e ∷ es) = (e.0, stored) ∷ es
+
+-- An item that is put under a key that is there is used, and then has the other value.
+put-by-use : (key : List ℕ) (stored was : Stored) (es : List StoredEntry) (cap : ℕ)
+    → lookup (same_key key) es ≡ Some was
+    → put_entries same_key (lru_cache es cap) key stored ≡ instead stored (promoted (same_key key) es)
+put-by-use key stored was es cap found =
+    let d = divided (same_key key) es was found in rw d.entry refl
+
+-- So it makes no difference whether the item was used before.
+pub put-used : (key : List ℕ) (stored : Stored) (es used : List StoredEntry) (cap : ℕ)
+    → promoted (same_key key) used ≡ promoted (same_key key) es
+    → lookup (same_key key) used ≡ lookup (same_key key) es → (lookup (same_key key) es ≡ None → used ≡ es)
+    → put_entries same_key (lru_cache used cap) key stored ≡ put_entries same_key (lru_cache es cap) key stored
+put-used key stored es used cap same found none = by (lookup (same_key key) es) refl
+  where
+    by : (was : Option Stored) → lookup (same_key key) es ≡ was
+        → put_entries same_key (lru_cache used cap) key stored ≡ put_entries same_key (lru_cache es cap) key stored
+    by None at = rw (none at) refl
+    by (Some was) at =
+        put-by-use key stored was used cap (found ∙ at)
+        ∙ (ap (instead stored) same ∙ sym (put-by-use key stored was es cap at))

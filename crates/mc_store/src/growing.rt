@@ -144,8 +144,7 @@ impl GrowingMap {
     pub fn get_mut(&mut self, key: &Key) -> Option<&mut Stored>
         requires { lookup (same_key key.now) self.old.older.entries ≡ None }
         ensures* writes_back { sem 𝓛 (LendsUsed (same_key key.now) self.entry result) }
-        ensures value {
-            option_copied_mut result ≡ lookup (same_key key.now) (entries_of self.old) }
+        ensures value { option_copied_mut result ≡ lookup (same_key key.now) (entries_of self.old) }
     {
         self.recent.get_mut(key)
     }
@@ -245,11 +244,96 @@ impl GrowingMap {
         Ok(())
     }
 
+    /// Sees that the recent map has room for the key, which is not in the older one. Where memory is
+    /// refused nothing changes.
+    fn make_room(&mut self, key: &Key) -> Result<(), AllocError>
+        requires { lookup (same_key key.now) self.old.older.entries ≡ None }
+        ensures entries { OnOk result (entries_of self.new ≡ entries_of self.old) }
+        ensures apart { OnOk result (lookup (same_key key.now) self.new.older.entries ≡ None) }
+        ensures room { OnOk result (lookup (same_key key.now) self.new.recent.entries ≡ None →
+            length self.new.recent.entries < self.new.recent.cap) }
+        ensures err { OnErr result (self.new ≡ self.old) }
+        ensures absent { OnErr result (lookup (same_key key.now) (entries_of self.old) ≡ None) }
+        ensures cap { self.new.cap ≡ self.old.cap }
+    {
+        if !self.is_full() {
+            return Ok(());
+        }
+        if self.recent.contains(key) {
+            return Ok(());
+        }
+        if self.is_growing() {
+            return Err(AllocError);
+        }
+        self.grow()
+    }
+
+    /// Puts what is known of the item under the key into the recent map, which has room for it.
+    #[inline(always)]
+    fn put_recent(&mut self, key: Key, stored: Stored) -> Result<Option<Stored>, AllocError>
+        requires absent { lookup (same_key key) self.old.older.entries ≡ None }
+        requires recent { lookup (same_key key) self.old.recent.entries ≡ None →
+            length self.old.recent.entries < self.old.recent.cap }
+        requires room { lookup (same_key key) (entries_of self.old) ≡ None →
+            length (entries_of self.old) < self.old.cap }
+        ensures old { IfOk result
+            (λ old. old ≡ lookup (same_key key) (entries_of self.old)) }
+        ensures put { OnOk result (entries_of self.new ≡
+            put_entries same_key (lru_cache (entries_of self.old) self.old.cap) key stored) }
+        ensures err { OnErr result (self.new ≡ self.old) }
+        ensures cap { self.new.cap ≡ self.old.cap }
+        ensures succeeds { IsSome (lookup (same_key key) (entries_of self.old)) → IsOk result }
+    {
+        let Ok(old) = self.recent.put(key, stored) else {
+            return Err(AllocError);
+        };
+        Ok(old)
+    }
+
     /// Whether the recent map has no room for one item more.
     fn is_full(&self) -> bool
         ensures { result ≡ false → length self.now.recent.entries < self.now.recent.cap }
     {
         self.recent.len() >= self.recent.cap().get()
+    }
+
+    /// Puts what is known of the item under the key, as the most recently used one, and returns what
+    /// was there. Where memory is refused the items and their order stay the same.
+    #[inline(always)]
+    pub fn put(&mut self, key: Key, stored: Stored) -> Result<Option<Stored>, AllocError>
+        requires { length (entries_of self.old) < self.old.cap }
+        ensures old { IfOk result
+            (λ old. old ≡ lookup (same_key key) (entries_of self.old)) }
+        ensures put { OnOk result (entries_of self.new ≡
+            put_entries same_key (lru_cache (entries_of self.old) self.old.cap) key stored) }
+        ensures err { OnErr result (entries_of self.new ≡ entries_of self.old) }
+        ensures cap { self.new.cap ≡ self.old.cap }
+    {
+        if self.is_growing() {
+            return self.put_while_growing(key, stored);
+        }
+        if self.is_full() {
+            return self.put_while_growing(key, stored);
+        }
+        self.put_recent(key, stored)
+    }
+
+    /// The same, while the map grows or where it has to.
+    #[cold]
+    #[inline(never)]
+    fn put_while_growing(&mut self, key: Key, stored: Stored) -> Result<Option<Stored>, AllocError>
+        requires { length (entries_of self.old) < self.old.cap }
+        ensures old { IfOk result
+            (λ old. old ≡ lookup (same_key key) (entries_of self.old)) }
+        ensures put { OnOk result (entries_of self.new ≡
+            put_entries same_key (lru_cache (entries_of self.old) self.old.cap) key stored) }
+        ensures err { OnErr result (entries_of self.new ≡ entries_of self.old) }
+        ensures cap { self.new.cap ≡ self.old.cap }
+    {
+        self.move_some();
+        self.fetch(&key)?;
+        self.make_room(&key)?;
+        self.put_recent(key, stored)
     }
 
     /// Sets what is known of the item under the key, which stays where it is.

@@ -5,8 +5,7 @@ use Rattle.mc_store.proofs.growing.GrowingMap.get_mut.Goals as goal
 
 pub invariant_of-self-lent : goal.invariant_of-self-lent
 invariant_of-self-lent c =
-    λ some.
-    (
+    λ some. (
       λ w. apart-used (same_key c.args.key.now) c.self.inside.recent.entries c.self.inside.older.entries w
           c.self.invariant,
       c.self.invariant,
@@ -14,8 +13,7 @@ invariant_of-self-lent c =
 
 pub returns : goal.returns
 returns c =
-    let none = rw (← c.self.view_is) at c.requires in
-    (
+    let none = rw (← c.self.view_is) at c.requires in (
       rw (← c.self.view_is) refl,
       record {
         writes_back = tt;

@@ -4,4 +4,4 @@ use Rattle.mc_store.proofs.growing.GrowingMap.move_some.Given as goal
 
 -- The items and their order stay the same.
 abbrev pub invariant-loop : goal.invariant-loop
-invariant-loop g l = (entries_of l.self ≡ entries_of l.fn.self) × (l.self.cap ≡ l.fn.self.cap)
+invariant-loop l = (entries_of l.self ≡ entries_of l.fn.self) × (l.self.cap ≡ l.fn.self.cap)
