@@ -134,8 +134,19 @@ impl GrowingMap {
     {
         match self.recent.peek(key) {
             Some(stored) => Some(stored),
-            None => self.older.peek(key),
+            None => self.peek_older(key),
         }
+    }
+
+    /// What is known of the item under the key, where it is one of the older ones.
+    #[inline(always)]
+    fn peek_older(&self, key: &Key) -> Option<&Stored>
+        ensures { option_copied result ≡ lookup (same_key key.now) self.now.older.entries }
+    {
+        if self.older.is_empty() {
+            return None;
+        }
+        self.older.peek(key)
     }
 
     /// What is known of the item under the key, to write to, and makes the item the most recently

@@ -17,4 +17,4 @@ returns-in-None c =
       ← c.self.view_is,
       lookup-second (same_key c.args.key.now) c.self.inside.recent.entries c.self.inside.older.entries
           (sym c.in-None.ensures),
-    ) c.peek-in-None.ensures
+    ) (rw (← c.self.view_is) at c.peek_older.ensures)
