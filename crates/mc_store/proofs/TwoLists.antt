@@ -1,7 +1,8 @@
 -- Two lists of entries, one behind the other, none of whose keys is in both: what a map's steps do to the whole, they
 -- do to one of the two.
 use Rattle.std.proofs.Common.{◌≡◌, ℕ, suc, ◌-◌, ◌<◌, Bool, true, false, cond, List}
-use Rattle.std.proofs.Common.{[], ◌∷◌, ◌++◌, Option, Some, None, refl, ap, sym, arith, subst, ◌∙◌, ◌==◌, drop, length, take}
+use Rattle.std.proofs.Common.{[], ◌∷◌, ◌++◌, Option, Some, None, refl, ap, sym, arith, subst, ◌∙◌, ◌==◌, drop, length}
+use Rattle.std.proofs.Common.{take}
 use Rattle.std.specs.Prelude.{is_some, slice_get}
 use Rattle.std.specs.Option.{option_map_or}
 use Rattle.std.specs.List.{IsDistinct}
@@ -307,7 +308,8 @@ pub promoted-fetched : (key : List ℕ) (stored : Stored) (recent older : List S
 promoted-fetched key stored recent older none found =
     let d = divided (same_key key) (recent ++ older) stored (lookup-second (same_key key) recent older none ∙ found) in
     let same : key ≡ d.key = same-keys key d.key d.passes in
-    let whole : promoted (same_key key) (recent ++ older) ≡ (d.key, stored) ∷ (recent ++ remove_entry (same_key key) older)
+    let whole : promoted (same_key key) (recent ++ older)
+    ≡ (d.key, stored) ∷ (recent ++ remove_entry (same_key key) older)
     = rw (d.entry, remove-second (same_key key) recent older none) refl in
     let first : promoted (same_key key) ((key, stored) ∷ recent ++ remove_entry (same_key key) older)
     ≡ (key, stored) ∷ (recent ++ remove_entry (same_key key) older) = rw (nat_list_eq_equiv.refl key) refl in
@@ -323,6 +325,7 @@ pub record IsFirst (key : List ℕ) (stored : Stored) (older : List StoredEntry)
   pub rest : older ≡ (key, stored) ∷ drop 1 older
   pub found : lookup (same_key key) older ≡ Some stored
 
+-- A first entry divides a list, and is found under its key.
 pub first_is : (key : List ℕ) (stored : Stored) (older : List StoredEntry) → slice_get older 0 ≡ Some (key, stored)
     → IsFirst key stored older
 first_is key stored [] first = absurd cc

@@ -2,7 +2,7 @@
 //!
 //! A table that is full is left as it is, and a larger one is made for what is used or stored from
 //! then on. Each store moves a few items there, until the older table is empty.
-ghost use Rattle.std.specs.Prelude.{◌≡◌, ◌+◌, ◌-◌, ◌<◌, [], ◌++◌, true, false, ◌==◌, length, None, take, OnOk, OnErr, IfOk, IsOk};
+ghost use Rattle.std.specs.Prelude.{◌≡◌, ◌+◌, ◌-◌, ◌<◌, [], false, length, None, take, OnOk, OnErr, IfOk, IsOk};
 ghost use Rattle.std.specs.NonZero.{non_zero_usize_get};
 ghost use Rattle.std.specs.Borrow.{sem};
 ghost use Rattle.std.specs.Option.{IsSome, option_copied, option_copied_mut};
@@ -170,7 +170,8 @@ impl GrowingMap {
             lookup (same_key key.now) (entries_of self.old)) }
         ensures promoted { OnOk result (promoted (same_key key.now) (entries_of self.new) ≡
             promoted (same_key key.now) (entries_of self.old)) }
-        ensures none { lookup (same_key key.now) (entries_of self.old) ≡ None → self.new ≡ self.old }
+        ensures none { lookup (same_key key.now) (entries_of self.old) ≡ None →
+            self.new ≡ self.old }
         ensures err { OnErr result (self.new ≡ self.old) }
         ensures cap { self.new.cap ≡ self.old.cap }
     {
@@ -329,7 +330,7 @@ impl GrowingMap {
         self.put_recent(key, stored)
     }
 
-    /// The same, while the map grows or where it has to.
+    /// Puts what `put` does while the map grows, or where it has to grow.
     #[cold]
     #[inline(never)]
     fn put_while_growing(&mut self, key: Key, stored: Stored) -> Result<Option<Stored>, AllocError>

@@ -1,5 +1,5 @@
-use Rattle.std.proofs.Common.{◌≡◌, List, Some, None, refl, sym, ◌∙◌}
-use Rattle.std.specs.Map.{lookup, remove_entry}
+use Rattle.std.proofs.Common.{sym, ◌∙◌}
+use Rattle.std.specs.Map.{remove_entry}
 use Rattle.std.specs.Cmp.Lexicographic.{nat_list_eq_equiv}
 use Rattle.mc_wire.specs.SameKey.{same_key}
 use Rattle.mc_store.proofs.Arrivals.{put_absent}

@@ -1,4 +1,4 @@
-use Rattle.std.proofs.Common.{refl, sym, ◌∙◌}
+use Rattle.std.proofs.Common.{sym}
 use Rattle.mc_wire.specs.SameKey.{same_key}
 use Rattle.mc_store.proofs.Arrivals.{put_absent}
 use Rattle.mc_store.proofs.TwoLists.{apart-absent, apart-moved, demoted-first, first_is, moved_whole}

@@ -1,4 +1,4 @@
-use Rattle.std.proofs.Common.{refl, sym, ◌∙◌}
+use Rattle.std.proofs.Common.{refl, sym}
 use Rattle.std.specs.Map.{remove_entry}
 use Rattle.mc_wire.specs.SameKey.{same_key}
 use Rattle.mc_store.proofs.Cached.{none_removed}

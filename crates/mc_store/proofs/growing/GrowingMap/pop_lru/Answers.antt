@@ -7,5 +7,6 @@ returns-clause-entries c =
     rw (
       c.pop_lru-2.ensures.entries,
       ← c.self.view_is,
-      without_last c.self.inside.recent.entries c.self.inside.older.entries (sym c.if-is_empty.false ∙ c.is_empty.ensures),
+      without_last c.self.inside.recent.entries c.self.inside.older.entries
+          (sym c.if-is_empty.false ∙ c.is_empty.ensures),
     ) refl

@@ -1,4 +1,3 @@
-use Rattle.std.proofs.Common.{refl, sym, ◌∙◌}
 use Rattle.mc_wire.specs.SameKey.{same_key}
 use Rattle.mc_store.proofs.TwoLists.{apart-put_entries, lookup-only_first, put-two}
 use Rattle.mc_store.proofs.growing.GrowingMap.put_recent.Goals as goal
