@@ -10,18 +10,17 @@ ghost use Rattle.mc_item.specs.declared.item.Item.{Item as TheItem};
 ghost use Rattle.mc_store.specs.State.{item_overhead};
 ghost use Rattle.mc_store.specs.internal.Access.{read_item};
 ghost use Rattle.mc_store.specs.internal.Listed.{listed_cost};
-ghost use Rattle.mc_store.specs.internal.Growing.{entries_of};
 ghost use Rattle.mc_store.specs.internal.Stored.{fields_in, fields_of, place_in};
 
 use crate::ITEM_OVERHEAD;
 use crate::access::{Access, Use};
 use crate::fields::Fields;
-use crate::flushed::Flushed;
-use crate::growing::GrowingMap;
+use crate::flushed::{Flushed, ItemMap};
 use crate::hashing::PolynomialState;
 use crate::reserve::Reserve;
 use crate::stored::Stored;
 use bytes::Bytes;
+use lru::LruCache;
 use mc_cells::{CELL_BYTES, Cells, LONG_VALUE, Place, every_kept};
 use mc_item::{Item, NoMemory, PackedExpiry, Value};
 use mc_sizes::{MAX_BUDGET, MIN_BUDGET};
@@ -50,14 +49,14 @@ pub struct Staling {
 /// The map has what is known of each item besides its value, and the place of that. There is always
 /// memory for the values of as many items as fit the budget, and for one value more.
 pub struct ItemCache {
-    cache: GrowingMap,
+    cache: ItemMap,
     cells: Cells,
     /// What the items may cost together, in bytes.
     budget: usize,
     /// How keys are hashed.
     hashing: PolynomialState,
     /// The maps of flushed items.
-    flushed: Flushed<GrowingMap>,
+    flushed: Flushed<ItemMap>,
 }
 
 impl Drop for ItemCache {
@@ -75,18 +74,17 @@ impl Drop for ItemCache {
 
 impl Model for ItemCache {
     ghost use Rattle.mc_store.specs.internal.Cached.{AreCached, CachedItems, shown_entries};
-    ghost use Rattle.mc_store.specs.internal.Growing.{entries_of};
 
     ghost Value = { CachedItems };
 
     ghost view = { λ items.
         record {
-          entries = shown_entries items.cells (entries_of items.cache);
+          entries = shown_entries items.cells items.cache.entries;
           cap = items.cache.cap;
           budget = items.budget;
         } };
 
-    ghost invariant = { λ items. AreCached (entries_of items.cache) items.cells items.budget };
+    ghost invariant = { λ items. AreCached items.cache.entries items.cells items.budget };
 }
 
 /// Notes in an item that it is made the most recently used one.
@@ -165,19 +163,20 @@ fn read_value(cells: &mut Cells, place: Place, reserve: &mut Option<Reserve>) ->
 
 /// Takes all items out of the map, to be freed later. Where memory is refused nothing changes.
 fn set_aside(
-    flushed: &mut Flushed<GrowingMap>,
-    map: &mut GrowingMap,
+    flushed: &mut Flushed<ItemMap>,
+    map: &mut ItemMap,
     hashing: PolynomialState,
 ) -> Result<(), AllocError>
-    ensures taken { OnOk result (flushed.new ≡ flushed.old + length (entries_of map.old)) }
-    ensures left { OnOk result (entries_of map.new ≡ []) }
+    ensures taken { OnOk result (flushed.new ≡ flushed.old + length map.old.entries) }
+    ensures left { OnOk result (map.new ≡ lru_cache [] map.old.cap) }
     ensures err { OnErr result (flushed.new ≡ flushed.old) }
     ensures unchanged { OnErr result (map.new ≡ map.old) }
 {
-    if map.len() == 0 {
+    if map.is_empty() {
         return Ok(());
     }
-    let empty = GrowingMap::new(*map.allocator(), map.cap(), hashing)?;
+    let mut empty = LruCache::unbounded_with_hasher(*map.allocator(), hashing)?;
+    empty.resize(map.cap());
     flushed.take(map, empty)
 }
 
@@ -192,7 +191,8 @@ impl ItemCache {
     {
         let capacity = NonZeroUsize::new(budget / MIN_COST + 1).unwrap();
         let hashing = PolynomialState::new(hasher);
-        let cache = GrowingMap::new(alloc, capacity, hashing)?;
+        let mut cache = LruCache::unbounded_with_hasher(alloc, hashing)?;
+        cache.resize(capacity);
         let mut cells = Cells::new(alloc);
         cells.reserve(
             budget / CELL_BYTES + LONG_VALUE / CELL_BYTES + 2,
@@ -266,9 +266,6 @@ impl ItemCache {
             } }
         ensures none { lookup (same_key key.now) self.old.entries ≡ None → self.new ≡ self.old }
     {
-        if self.cache.is_growing() {
-            let _refused = self.cache.fetch(key);
-        }
         let stored = self.cache.get_mut(key)?;
         let (fields, place) = (stored.fields(), stored.place());
         note_use(stored, access.use_of(&fields));
@@ -296,9 +293,6 @@ impl ItemCache {
         ensures none { lookup (same_key key.now) self.old.entries ≡ None → self.new ≡ self.old }
     {
         every_kept();
-        if self.cache.is_growing() {
-            let _refused = self.cache.fetch(key);
-        }
         let Some(stored) = self.cache.get_mut(key) else {
             return;
         };
@@ -321,12 +315,10 @@ impl ItemCache {
             } }
         ensures none { lookup (same_key key.now) self.old.entries ≡ None → self.new ≡ self.old }
     {
-        let Some(marked) = self.cache.peek(key) else {
+        let Some(marked) = self.cache.peek_mut(key) else {
             return;
         };
-        let mut stored = *marked;
-        note_stale(&mut stored, new);
-        self.cache.set(key, stored);
+        note_stale(marked, new);
     }
 
     /// Sets another expiry of the item under the key, and notes in it whether a client is to
@@ -341,12 +333,10 @@ impl ItemCache {
             } }
         ensures none { lookup (same_key key.now) self.old.entries ≡ None → self.new ≡ self.old }
     {
-        let Some(seen) = self.cache.peek(key) else {
+        let Some(seen) = self.cache.peek_mut(key) else {
             return;
         };
-        let mut stored = *seen;
-        note_seen(&mut stored, new);
-        self.cache.set(key, stored);
+        note_seen(seen, new);
     }
 
     /// Puts the item under the key as the most recently used one, and returns the length of the
