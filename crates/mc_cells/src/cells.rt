@@ -21,8 +21,8 @@ const MAX_LONG: usize = 33_554_432;
 
 /// Values, each at a place of its own.
 ///
-/// A short value is kept in a chain of cells of one size, a long one by itself. A place that is
-/// given back is used again, whatever its value's length was.
+/// A short value is kept in a chain of cells of one size, whose last one may be half a cell. A long
+/// value is kept by itself. A place that is freed is used again, whatever its value's length was.
 pub struct Cells {
     /// Pieces of short values.
     cells: PiecePool,

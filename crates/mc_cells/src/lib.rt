@@ -1,5 +1,5 @@
-//! The values of a shard, in cells of one size, so that memory is used again whatever the sizes of
-//! the values are.
+//! The values of a shard, in cells of one size and halves of them, so that memory is used again
+//! whatever the sizes of the values are; and the pages that values are cut from.
 #![tactic(auto)]
 
 mod cell;

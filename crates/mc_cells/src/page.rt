@@ -24,7 +24,7 @@ fn read_chain(cells: &PiecePool, first: u32, count: usize, page: &mut BytesMut)
     }
 }
 
-/// The value of a chain of cells, cut off the page. Whole cells are copied, and then what the last
+/// The value of a chain of cells, cut from a page. Whole cells are copied, and then what the last
 /// has behind the value is cut off.
 pub(crate) fn read_short(
     cells: &PiecePool,
