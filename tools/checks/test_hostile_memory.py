@@ -6,6 +6,7 @@ were replaced let `unread_replies_hold_what_they_show` find 50 MiB where all rep
 which its replies waited let `written_replies_leave_their_lines` find 9; room for 8 MiB for each open block let
 `open_blocks_take_little_address_space` find 512; and a line whose room isn't renewed let `a_long_line_leaves_no_room_behind` find 128.
 """
+import os
 import re
 import time
 
@@ -220,6 +221,30 @@ def test_the_sum_holds_for_all_together():
         within(server.most_resident(), bound_of(seats, SHARDS * BUDGET))
         for line in lines:
             line.reset()
+
+
+def environment_of_the_unit():
+    """The environment in which packaging/mcd.service starts the program."""
+    line = re.search(r"^Environment=(MALLOC_.*)$", (TOP / "packaging/mcd.service").read_text(), re.M)
+    return {**os.environ, **dict(it.split("=") for it in (line[1].split() if line else []))}
+
+
+@fails_with(("packaging/mcd.service", r"\nEnvironment=MALLOC_.*", ""))
+def test_what_clients_held_is_returned_to_the_system():
+    """Each of 200 clients sends a line of keys, and each of 200 a block that lacks its last byte. Little stays once they have left."""
+    sent = b"get" + b" key" * 30_000 + b"\r\n", b"set k 0 0 1048576\r\n" + b"v" * MIB
+    with Server("--drop-in", "--memory", "64m", env=environment_of_the_unit()) as server:
+        wait_until_still(server)
+        before = server.resident()
+        for each in sent:
+            lines = [Line(server.port) for _ in range(200)]
+            for line in lines:
+                line.send(each)
+            wait_until_still(server)
+            for line in lines:
+                line.reset()
+        wait_until_still(server)
+        within(server.resident() - before, 64 * MIB)
 
 
 def bound_of(seats, budgets):
