@@ -8,7 +8,7 @@ import time
 
 import pytest
 
-from tools.served import Line, Server
+from tools.served import MIB, Line, Server
 
 fails_with = pytest.mark.fails_with
 
@@ -131,10 +131,11 @@ def replied(line):
 
 @fails_with("is another process", "spins")
 def test_connections_that_find_no_memory_are_closed():
-    """Each is served or closed, threads sleep, and others are served. Once there is memory, all are."""
-    with Server("--seats", 64) as server, Line(server.port) as first:
+    """Each is served or closed, threads sleep, and others are served. Once there is memory, all are.
+    Each reserves address space for a line of 8 MiB, of which there is little."""
+    with Server("--seats", 64, "--line-limit", "8m") as server, Line(server.port) as first:
         first.ask(ASKED, ANSWERED)
-        most = server.taken() + 512 * 1024
+        most = server.taken() + 36 * MIB
         resource.prlimit(server.process.pid, resource.RLIMIT_AS, (most, resource.RLIM_INFINITY))
         lines = [Line(server.port, timeout=10) for _ in range(32)]
         for line in lines:
