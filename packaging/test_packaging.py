@@ -390,6 +390,7 @@ def unpacked(archive):
 @fails_with(
     ("packaging/oci", r"0\.0\.0\.0:11211", "0.0.0.0:11212"),
     ("packaging/oci", r"--config\.user 65532:65532", "--config.user 0:0"),
+    ("packaging/oci", r"MALLOC_TRIM_THRESHOLD_=\d+", "MALLOC_TRIM_THRESHOLD_=1"),
     ("packaging/oci", r'install -D -m 755 "\$\(readlink -f "\$library"\)" "\$tree\$library"', ":"))
 def test_the_image_serves():
     """Its program starts as the first process of a PID namespace, without privileges, and sees nothing but the image."""
@@ -399,6 +400,8 @@ def test_the_image_serves():
         words = process["args"]
         assert words == ["/usr/bin/env", "--block-signal=TERM,INT,HUP", "/usr/bin/mcd", "--listen", "0.0.0.0:11211", "--memory", "64m", "--drop-in"]
         assert (process["user"]["uid"], process["user"]["gid"]) == (65532, 65532)
+        for_the_c_library = re.search(r"^Environment=(MALLOC_.*)$", (TOP / "packaging/mcd.service").read_text(), re.M)[1].split()
+        assert [it for it in process["env"] if it.startswith("MALLOC_")] == for_the_c_library
         words[words.index("--listen") + 1] = "127.0.0.1:0"
         inside = ["unshare", "--pid", "--fork", "--kill-child", "chroot", "--userspec=65532:65532", root, *words]
         with running(inside, stderr=subprocess.PIPE) as image:
