@@ -24,6 +24,7 @@ TESTS = [
     ("mc_protocol_tests", "command::a_line_without_memory_is_given_up", 25),
     ("mc_protocol_tests", "reader::a_refused_allocation_gives_up_one_command", 8),
     ("mc_protocol_tests", "store::memory_may_be_refused_once", 50),
+    ("mc_protocol_tests", "store::memory_may_be_refused_while_the_table_grows", 120),
     ("mc_connection_tests", "split::a_refused_allocation_refuses_one_plan", 30),
     ("mc_connection_tests", "join::a_hit_copies_no_value", 5),
     ("mc_connection_tests", "conn::a_refused_allocation_gives_up_one_command", 4),

@@ -97,7 +97,7 @@ lawful : (lawful_answers kind.Store ≡ Stored ∷ NotStored ∷ Exists ∷ NotF
     × (lawful_answers kind.Fetch ≡ NoMemory ∷ Hit 0 0 [] ∷ Miss ∷ [])
     × (lawful_answers kind.Count ≡ NotFound ∷ NoCas ∷ NoMemory ∷ Number 0 ∷ NonNumeric ∷ [])
     × (lawful_answers kind.Delete ≡ NotFound ∷ Deleted ∷ [])
-    × (lawful_answers kind.Touch ≡ NotFound ∷ Touched ∷ [])
+    × (lawful_answers kind.Touch ≡ NotFound ∷ NoMemory ∷ Touched ∷ [])
     × (lawful_answers kind.Flush ≡ Done ∷ [])
     × (lawful_answers kind.Stats ≡ NoMemory ∷ stats ∷ [])
     × (lawful_answers kind.ResetStats ≡ Reset ∷ [])

@@ -61,6 +61,7 @@ is_lawful Delete Deleted = true
 is_lawful Delete NotFound = true
 is_lawful Touch Touched = true
 is_lawful Touch NotFound = true
+is_lawful Touch NoMemory = true
 is_lawful Flush Done = true
 is_lawful Stats (answer.Stats stats) = true
 is_lawful Stats NoMemory = true

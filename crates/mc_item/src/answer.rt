@@ -120,7 +120,7 @@ impl Answer {
             ),
             Answer::NoMemory => !matches!(
                 kind,
-                Kind::Delete | Kind::Touch | Kind::Flush | Kind::ResetStats | Kind::MetaDelete
+                Kind::Delete | Kind::Flush | Kind::ResetStats | Kind::MetaDelete
             ),
             Answer::Hit { .. } => matches!(kind, Kind::Fetch),
             Answer::Miss => matches!(kind, Kind::Fetch | Kind::MetaGet),

@@ -205,6 +205,7 @@ fn answers(answer: Answer, kind: Kind) -> bool {
 #[test]
 fn answers_are_lawful_for_their_kinds(rt: HostRuntime) {
     holds(&rt, answers(Answer::Touched, Kind::Touch));
-    holds(&rt, !answers(Answer::NoMemory, Kind::Touch));
+    holds(&rt, answers(Answer::NoMemory, Kind::Touch));
+    holds(&rt, !answers(Answer::NoMemory, Kind::Delete));
     holds(&rt, !answers(Answer::Number(1), Kind::MetaCount));
 }

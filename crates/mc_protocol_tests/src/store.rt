@@ -761,8 +761,43 @@ const KEY_E: &str = "e:key:of:39:bytes:lies:in:its:own:block";
 
 const KEY_G: &str = "g:key:of:39:bytes:lies:in:its:own:block";
 
+const KEY_I: &str = "i:key:of:39:bytes:lies:in:its:own:block";
+
+const KEY_K: &str = "k:key:of:39:bytes:lies:in:its:own:block";
+
+const KEY_M: &str = "m:key:of:39:bytes:lies:in:its:own:block";
+
+const KEY_O: &str = "o:key:of:39:bytes:lies:in:its:own:block";
+
+const KEY_Q: &str = "q:key:of:39:bytes:lies:in:its:own:block";
+
+const KEY_S: &str = "s:key:of:39:bytes:lies:in:its:own:block";
+
+// Rows for a table that grows: it has room for 1 item, then for 2, for 4 and for 8. Items are used
+// while they are in the smaller table, and the least recently used one is evicted at the end.
+static GROWTH: [Row; 17] = [
+    (1000, KEY_A, Ask::Set("x"), "stored"),
+    (1000, KEY_C, Ask::Set("x"), "stored"),
+    (1000, KEY_E, Ask::Set("x"), "stored"),
+    (1000, KEY_A, Ask::Get, "0 1 x"),
+    (1000, KEY_C, Ask::Touch(60), "touched"),
+    (1000, KEY_G, Ask::Set("x"), "stored"),
+    (1000, KEY_I, Ask::Set("x"), "stored"),
+    (1000, KEY_C, Ask::Put(StoreMode::Add, "y"), "not stored"),
+    (1000, KEY_A, Ask::Set("z"), "stored"),
+    (1000, KEY_K, Ask::Set("x"), "stored"),
+    (1000, KEY_M, Ask::Set("x"), "stored"),
+    (1000, KEY_O, Ask::Set("x"), "stored"),
+    (1000, KEY_Q, Ask::Set("x"), "stored"),
+    (1000, KEY_S, Ask::Set("x"), "stored"),
+    (1000, KEY_E, Ask::Get, "miss"),
+    (1000, KEY_G, Ask::Get, "0 7 x"),
+    (1000, KEY_A, Ask::Get, "0 11 z"),
+];
+
 // Rows for refused allocations, and whether running the operation needs no memory, once it was
-// made: it deletes, touches, marks stale, flushes, or stores under an existing key.
+// made: it deletes, marks stale, flushes, or stores under an existing key while the table isn't
+// growing.
 static SHORT: [(Row, bool); 18] = [
     ((1000, KEY_A, Ask::Set("x"), "stored"), false),
     ((1000, KEY_A, Ask::Get, "0 1 x"), false),
@@ -805,8 +840,8 @@ static SHORT: [(Row, bool); 18] = [
     ((1000, KEY_G, Ask::Get, "miss"), true),
     ((1000, KEY_C, Ask::Ma(None, 2, None), "c13 s1 t99 7"), false),
     ((1000, KEY_C, Ask::Md(None, true), "done"), true),
-    ((1000, KEY_C, Ask::Cas(15, "6"), "stored"), true),
-    ((1000, KEY_E, Ask::Touch(60), "touched"), true),
+    ((1000, KEY_C, Ask::Cas(15, "6"), "stored"), false),
+    ((1000, KEY_E, Ask::Touch(60), "touched"), false),
     ((1000, KEY_C, Ask::Delete, "deleted"), true),
     (
         (
@@ -882,5 +917,20 @@ fn memory_may_be_refused_once(rt: HostRuntime) -> Result<(), Fail> {
         equal(&rt, (place, shown.as_str()), (place, row.3));
     }
     equal(&rt, shard.len(), 0);
+    Ok(())
+}
+
+/// So it is where items are moved to a larger table: a refused move changes no answer, neither what
+/// is found nor what is evicted.
+#[test]
+fn memory_may_be_refused_while_the_table_grows(rt: HostRuntime) -> Result<(), Fail> {
+    let a = rt.alloc();
+    let mut shard = shard_in_the_end(&rt, a)?;
+    for (place, row) in GROWTH.iter().enumerate() {
+        let answer = answer_in_the_end(a, &mut shard, *row, false)?;
+        let shown = shown_in_the_end(a, &answer)?;
+        equal(&rt, (place, shown.as_str()), (place, row.3));
+    }
+    equal(&rt, shard.len(), 9);
     Ok(())
 }

@@ -1,5 +1,5 @@
 -- The items once one is put first.
-use Rattle.std.proofs.Common.{◌≡◌, ℕ, ◌+◌, ◌<◌, ◌≤◌, Bool, true, false}
+use Rattle.std.proofs.Common.{◌≡◌, ℕ, ◌<◌, ◌≤◌, Bool, true, false}
 use Rattle.std.proofs.Common.{cond, List, [], ◌∷◌, ◌++◌, Some, None}
 use Rattle.std.proofs.Common.{refl, sym, ap, ◌∙◌, arith, map, length, ◌-◌, subst}
 use Rattle.std.proofs.lemmas.List.{map-append, length-map, take_all}

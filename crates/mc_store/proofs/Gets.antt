@@ -66,6 +66,15 @@ touch_miss held state key exptime h none =
     ends (without_dead state (Some key)) (Touch key exptime) NotFound _ (λ e. absurd cc)
     (misses_as held state key (λ s o. touch_step s key exptime o) NotFound h none (λ s. refl))
 
+-- A `touch` of a live item that finds no memory changes nothing.
+pub touch_lacks : (held : ShardContents) (state : State) (key : List ℕ) (exptime : ℤ) (item : Item) → Keeps held state
+    → Some item ≡ live held.time (lookup (pointwise nat_eq key) held.entries)
+    → Ends (without_dead state (Some key)) (Touch key exptime) NoMemory held
+unfolding step_of kind_of is_lawful
+touch_lacks held state key exptime item h is =
+    ends (without_dead state (Some key)) (Touch key exptime) NoMemory held (λ _. refl)
+    (lacks_as held state key item _ h is)
+
 -- `touch` gives a live item its new expiry and makes it the most recently used one.
 pub touch_hit : (held : ShardContents) (state : State) (key : List ℕ) (exptime : ℤ) (item : Item) → Keeps held state
     → Some item ≡ live held.time (lookup (pointwise nat_eq key) held.entries)

@@ -1,7 +1,7 @@
 -- There is room for the value of one item more than fit the budget.
 use Rattle.std.proofs.Common.{◌≡◌, ℕ, ◌+◌, ◌*◌, ◌≤◌}
 use Rattle.std.proofs.Common.{List, [], ◌∷◌, inl, inr}
-use Rattle.std.proofs.Common.{arith, map, length, ◌-◌}
+use Rattle.std.proofs.Common.{arith, map, length}
 use Rattle.std.proofs.lemmas.Bool.{cases_lt, lt-ltb, le-ltb}
 use Rattle.std.proofs.lemmas.List.Sums.{sum_by-cons}
 use Rattle.std.specs.List.{AllByRecursion, sum_by}

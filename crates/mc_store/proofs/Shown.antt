@@ -5,7 +5,7 @@ use Rattle.std.proofs.Common.{refl, sym, ap, ◌∙◌, length, ◌-◌, take}
 use Rattle.std.specs.Prelude.{slice_get}
 use Rattle.std.proofs.lemmas.List.{length-map, take-map}
 use Rattle.std.proofs.lemmas.Option.{slice_get-map}
-use Rattle.std.specs.Option.{IsSome, option_map}
+use Rattle.std.specs.Option.{option_map}
 use Rattle.std.specs.Map.{lookup, set_value}
 use Rattle.lru.specs.LruCache.{last_entry, promoted}
 use Rattle.mc_cells.specs.declared.place.Place.{Place}
@@ -151,12 +151,3 @@ shown_without_last contents es =
 pub few_kept : (contents : Contents) (es : List StoredEntry) (cap : ℕ) → length (shown_entries contents es) < cap
     → length es < cap
 few_kept contents es cap few = rw (length-map es (shown_entry contents)) at few
-
--- An item is kept where one is shown.
-pub some_kept : (contents : Contents) (test : List ℕ → Bool) (es : List StoredEntry)
-    → IsSome (lookup test (shown_entries contents es)) → IsSome (lookup test es)
-some_kept contents test es some = by (lookup test es) (rw (lookup-mapped (shown contents) test es) at some)
-  where
-    by : (found : Option Stored) → IsSome (option_map (shown contents) found) → IsSome found
-    by None some = some
-    by (Some stored) some = some

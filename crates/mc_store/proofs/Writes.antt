@@ -1,10 +1,8 @@
 -- What is written under a key, whatever is there: it gets the next unique.
 use Rattle.std.proofs.Common.{◌≡◌, ℕ, ◌+◌, ◌*◌, ◌^◌, ◌≤◌, Bool, true, false, List, length, Option, Some, None, refl}
-use Rattle.std.proofs.Common.{sym, ap, ◌∙◌, inl, inr, nat_eq, nat_lt, subst}
+use Rattle.std.proofs.Common.{sym, ap, ◌∙◌, inl, inr, nat_lt, subst}
 use Rattle.std.specs.Option.{IsSome, option_map}
-use Rattle.std.specs.Cmp.Lexicographic.{pointwise}
 use Rattle.std.specs.FinMap.{get, remove}
-use Rattle.std.specs.Map.{lookup}
 use Rattle.std.specs.Prelude.{◌||◌, if◌then◌else◌}
 use Rattle.std.proofs.lemmas.Bool.{cases_Bool, ltb-false, or_parts}
 use Rattle.std.proofs.lemmas.Option.{cond_some}
@@ -19,7 +17,7 @@ use Rattle.mc_store.specs.internal.Found.{unique_for, given_after}
 use Rattle.mc_store.specs.Step.{Outcome, Reply, numbered, is_too_large, writes}
 use Rattle.mc_store.specs.Shard.{ShardContents, Keeps}
 use Rattle.mc_store.specs.internal.Parts.{IsOutcome}
-use Rattle.mc_store.proofs.Lists.{used, insert-remove, lookup-Shows}
+use Rattle.mc_store.proofs.Lists.{used, insert-remove}
 use Rattle.mc_store.proofs.Shards.{at_now, with_put, put_first, giving, gives}
 
 -- what is held now shows a state that the outcome may have led to
@@ -166,17 +164,6 @@ none_of (Some item) h = absurd (h refl)
 not_there : (o : Option Used) → option_map (λ u. u.item) o ≡ None → o ≡ None
 not_there None h = refl
 not_there (Some u) h = absurd cc
-
--- memory is never refused where the key is there, so no item under it was dead
-pub write_failed : (held : ShardContents) (state : State) (key : List ℕ) (outcome : Outcome) → Keeps held state
-    → (IsSome (lookup (pointwise nat_eq key) held.entries) → ⊥)
-    → Closes (without_dead state (Some key)) outcome NoMemory held
-write_failed held state key outcome h absent =
-    let none = not_there (get state.items key)
-    (sym (lookup-Shows held.entries state.items h.order key)
-    ∙ none_of (lookup (pointwise nat_eq key) held.entries) absent) in
-    let same : without_dead state (Some key) ≡ state = rw none in
-    (state, inl (refl, sym same), h)
 
 -- an outcome by another name
 

@@ -2,6 +2,8 @@
 pub mod Access
 pub mod Cached
 pub mod Found
+pub mod Growing
+pub mod GrowingLends
 pub mod Listed
 pub mod Parts
 pub mod Polynomial

@@ -1,5 +1,5 @@
 //! A map of items in the order of their last use, whose values are in cells.
-ghost use Rattle.std.specs.Prelude.{◌≡◌, ◌+◌, ◌/◌, ◌<◌, ◌≤◌, [], ◌-◌, true, false, length, take, None, Some, IfOk, OnOk, OnErr, IsOk};
+ghost use Rattle.std.specs.Prelude.{◌≡◌, ◌+◌, ◌/◌, ◌<◌, ◌≤◌, [], ◌-◌, true, false, length, take, None, Some, IfOk, IfErr, OnOk, OnErr};
 ghost use Rattle.std.specs.Option.{IsSome, option_map};
 ghost use Rattle.std.specs.Map.{lookup, remove_entry, set_value};
 ghost use Rattle.lru.specs.LruCache.{last_entry, lru_cache, promoted, put_entries};
@@ -10,19 +10,20 @@ ghost use Rattle.mc_item.specs.declared.item.Item.{Item as TheItem};
 ghost use Rattle.mc_store.specs.State.{item_overhead};
 ghost use Rattle.mc_store.specs.internal.Access.{read_item};
 ghost use Rattle.mc_store.specs.internal.Listed.{listed_cost};
+ghost use Rattle.mc_store.specs.internal.Growing.{entries_of};
 ghost use Rattle.mc_store.specs.internal.Stored.{fields_in, fields_of, place_in};
 
 use crate::ITEM_OVERHEAD;
 use crate::access::{Access, Use};
 use crate::fields::Fields;
-use crate::flushed::{Flushed, ItemMap};
+use crate::flushed::Flushed;
+use crate::growing::GrowingMap;
 use crate::hashing::PolynomialState;
 use crate::reserve::Reserve;
 use crate::stored::Stored;
 use bytes::Bytes;
-use lru::LruCache;
 use mc_cells::{CELL_BYTES, Cells, LONG_VALUE, Place, every_kept};
-use mc_item::{Item, NoMemory, PackedExpiry, Value};
+use mc_item::{Item, PackedExpiry, Value};
 use mc_sizes::{MAX_BUDGET, MIN_BUDGET};
 use mc_wire::{KEY_LIMIT, Key, LATEST_MOMENT, MAX_VALUE_LIMIT};
 use std::alloc::{AllocError, Global};
@@ -49,14 +50,14 @@ pub struct Staling {
 /// The map has what is known of each item besides its value, and the place of that. There is always
 /// memory for the values of as many items as fit the budget, and for one value more.
 pub struct ItemCache {
-    cache: ItemMap,
+    cache: GrowingMap,
     cells: Cells,
     /// What the items may cost together, in bytes.
     budget: usize,
     /// How keys are hashed.
     hashing: PolynomialState,
     /// The maps of flushed items.
-    flushed: Flushed<ItemMap>,
+    flushed: Flushed<GrowingMap>,
 }
 
 impl Drop for ItemCache {
@@ -74,17 +75,18 @@ impl Drop for ItemCache {
 
 impl Model for ItemCache {
     ghost use Rattle.mc_store.specs.internal.Cached.{AreCached, CachedItems, shown_entries};
+    ghost use Rattle.mc_store.specs.internal.Growing.{entries_of};
 
     ghost Value = { CachedItems };
 
     ghost view = { λ items.
         record {
-          entries = shown_entries items.cells items.cache.entries;
+          entries = shown_entries items.cells (entries_of items.cache);
           cap = items.cache.cap;
           budget = items.budget;
         } };
 
-    ghost invariant = { λ items. AreCached items.cache.entries items.cells items.budget };
+    ghost invariant = { λ items. AreCached (entries_of items.cache) items.cells items.budget };
 }
 
 /// Notes in an item that it is made the most recently used one.
@@ -163,20 +165,20 @@ fn read_value(cells: &mut Cells, place: Place, reserve: &mut Option<Reserve>) ->
 
 /// Takes all items out of the map, to be freed later. Where memory is refused nothing changes.
 fn set_aside(
-    flushed: &mut Flushed<ItemMap>,
-    map: &mut ItemMap,
+    flushed: &mut Flushed<GrowingMap>,
+    map: &mut GrowingMap,
     hashing: PolynomialState,
 ) -> Result<(), AllocError>
-    ensures taken { OnOk result (flushed.new ≡ flushed.old + length map.old.entries) }
-    ensures left { OnOk result (map.new ≡ lru_cache [] map.old.cap) }
+    ensures taken { OnOk result (flushed.new ≡ flushed.old + length (entries_of map.old)) }
+    ensures left { OnOk result (entries_of map.new ≡ []) }
+    ensures cap { map.new.cap ≡ map.old.cap }
     ensures err { OnErr result (flushed.new ≡ flushed.old) }
     ensures unchanged { OnErr result (map.new ≡ map.old) }
 {
-    if map.is_empty() {
+    if map.len() == 0 {
         return Ok(());
     }
-    let mut empty = LruCache::unbounded_with_hasher(*map.allocator(), hashing)?;
-    empty.resize(map.cap());
+    let empty = GrowingMap::new(*map.allocator(), map.cap(), hashing)?;
     flushed.take(map, empty)
 }
 
@@ -191,8 +193,7 @@ impl ItemCache {
     {
         let capacity = NonZeroUsize::new(budget / MIN_COST + 1).unwrap();
         let hashing = PolynomialState::new(hasher);
-        let mut cache = LruCache::unbounded_with_hasher(alloc, hashing)?;
-        cache.resize(capacity);
+        let cache = GrowingMap::new(alloc, capacity, hashing)?;
         let mut cells = Cells::new(alloc);
         cells.reserve(
             budget / CELL_BYTES + LONG_VALUE / CELL_BYTES + 2,
@@ -246,40 +247,47 @@ impl ItemCache {
     }
 
     /// Returns the item under the key as it is, and makes it the most recently used one and what it
-    /// becomes by the access. Where memory is refused the reserve is used up.
+    /// becomes by the access. Where memory is refused for its value the reserve is used up, and where
+    /// it is refused for its move to a larger table nothing changes.
     #[inline(always)]
     pub fn read_item(
         &mut self,
         key: &Key,
         access: Access,
         reserve: &mut Option<Reserve>,
-    ) -> Option<Item>
+    ) -> Result<Option<Item>, AllocError>
         requires time { access.time ≤ LATEST_MOMENT }
         requires reserve { IsSome reserve.old }
-        ensures found { result ≡ lookup (same_key key.now) self.old.entries }
+        ensures found { IfOk result (λ found. found ≡
+            lookup (same_key key.now) self.old.entries) }
         ensures read { (item : TheItem) →
             lookup (same_key key.now) self.old.entries ≡ Some item →
-            self.new ≡
+            OnOk result (self.new ≡
             record self.old {
               entries = set_value (same_key key.now)
                   (promoted (same_key key.now) self.old.entries) (read_item access item);
-            } }
+            }) }
+        ensures err { OnErr result (self.new ≡ self.old) }
         ensures none { lookup (same_key key.now) self.old.entries ≡ None → self.new ≡ self.old }
     {
-        let stored = self.cache.get_mut(key)?;
+        self.cache.bring(key)?;
+        let Some(stored) = self.cache.get_mut(key) else {
+            return Ok(None);
+        };
         let (fields, place) = (stored.fields(), stored.place());
         note_use(stored, access.use_of(&fields));
         every_kept();
         let value = read_value(&mut self.cells, place, reserve);
-        Some(fields.with_value(Value::of_bytes(value)))
+        Ok(Some(fields.with_value(Value::of_bytes(value))))
     }
 
-    /// Makes the item under the key the most recently used one, and what it becomes by that.
-    pub fn use_item(&mut self, key: &Key, new: Use)
+    /// Makes the item under the key the most recently used one, and what it becomes by that. Where
+    /// memory is refused nothing changes.
+    pub fn use_item(&mut self, key: &Key, new: Use) -> Result<(), AllocError>
         requires { new.time ≤ LATEST_MOMENT }
         ensures used { (item : TheItem) →
             lookup (same_key key.now) self.old.entries ≡ Some item →
-            self.new ≡
+            OnOk result (self.new ≡
             record self.old {
               entries = set_value (same_key key.now)
                   (promoted (same_key key.now) self.old.entries)
@@ -289,14 +297,17 @@ impl ItemCache {
                     fetched = new.fetched;
                     sent = new.sent;
                   });
-            } }
+            }) }
+        ensures err { OnErr result (self.new ≡ self.old) }
         ensures none { lookup (same_key key.now) self.old.entries ≡ None → self.new ≡ self.old }
     {
         every_kept();
+        self.cache.bring(key)?;
         let Some(stored) = self.cache.get_mut(key) else {
-            return;
+            return Ok(());
         };
         note_use(stored, new);
+        Ok(())
     }
 
     /// Marks the item under the key stale in place.
@@ -315,10 +326,12 @@ impl ItemCache {
             } }
         ensures none { lookup (same_key key.now) self.old.entries ≡ None → self.new ≡ self.old }
     {
-        let Some(marked) = self.cache.peek_mut(key) else {
+        let Some(marked) = self.cache.peek(key) else {
             return;
         };
-        note_stale(marked, new);
+        let mut stored = *marked;
+        note_stale(&mut stored, new);
+        self.cache.set(key, stored);
     }
 
     /// Sets another expiry of the item under the key, and notes in it whether a client is to
@@ -333,16 +346,18 @@ impl ItemCache {
             } }
         ensures none { lookup (same_key key.now) self.old.entries ≡ None → self.new ≡ self.old }
     {
-        let Some(seen) = self.cache.peek_mut(key) else {
+        let Some(seen) = self.cache.peek(key) else {
             return;
         };
-        note_seen(seen, new);
+        let mut stored = *seen;
+        note_seen(&mut stored, new);
+        self.cache.set(key, stored);
     }
 
     /// Puts the item under the key as the most recently used one, and returns the length of the
-    /// value that was there. If memory is refused nothing changes; over an item that is there it
-    /// never is. First some flushed items are freed.
-    pub fn put(&mut self, key: Key, item: Item) -> Result<Option<usize>, NoMemory>
+    /// value that was there. If memory is refused nothing changes, and the key is returned. First some
+    /// flushed items are freed.
+    pub fn put(&mut self, key: Key, item: Item) -> Result<Option<usize>, Key>
         requires time { item.last_access ≤ LATEST_MOMENT }
         requires fits { listed_cost self.old.entries ≤ self.old.budget }
         requires room { length self.old.entries < self.old.cap }
@@ -353,12 +368,14 @@ impl ItemCache {
               entries = put_entries same_key (lru_cache self.old.entries self.old.cap) key item;
             }) }
         ensures err { OnErr result (self.new ≡ self.old) }
-        ensures succeeds { IsSome (lookup (same_key key) self.old.entries) → IsOk result }
+        ensures key { IfErr result (λ returned. returned ≡ key) }
     {
         every_kept();
         self.flushed.free_some(FREED_ITEMS);
         let fields = Fields::of(&item);
-        let place = self.cells.keep(item.value.into_bytes())?;
+        let Ok(place) = self.cells.keep(item.value.into_bytes()) else {
+            return Err(key);
+        };
         match self.cache.put(key, Stored::new(&fields, place)) {
             Ok(None) => Ok(None),
             Ok(Some(old)) => {
@@ -366,9 +383,9 @@ impl ItemCache {
                 self.cells.remove(freed);
                 Ok(Some(freed.len()))
             }
-            Err(_refused) => {
+            Err(key) => {
                 self.cells.remove(place);
-                Err(NoMemory)
+                Err(key)
             }
         }
     }

@@ -1,5 +1,5 @@
 //! The items of a shard, in the order of their last use, and what they cost.
-ghost use Rattle.std.specs.Prelude.{◌≡◌, ◌+◌, ◌<◌, ◌≤◌, ◌^◌, [], true, false, length, Some, IfNone, IfOk, IfSome, OnOk, OnErr, IsOk};
+ghost use Rattle.std.specs.Prelude.{◌≡◌, ◌+◌, ◌<◌, ◌≤◌, ◌^◌, [], true, false, length, Some, IfErr, IfNone, IfOk, IfSome, OnOk, OnErr};
 ghost use Rattle.std.specs.Option.{IsSome, option_map};
 ghost use Rattle.std.specs.Map.{lookup, remove_entry, set_value};
 ghost use Rattle.lru.specs.LruCache.{promoted};
@@ -192,7 +192,10 @@ impl Items {
         if self.reserve.is_none() {
             return self.read_after_copy(key, access);
         }
-        let Some(item) = self.cache.read_item(key, access, &mut self.reserve) else {
+        let Ok(found) = self.cache.read_item(key, access, &mut self.reserve) else {
+            return self.read_after_copy(key, access);
+        };
+        let Some(item) = found else {
             return Ok(None);
         };
         if item.is_dead(access.time) {
@@ -212,8 +215,8 @@ impl Items {
         self.remove(key);
     }
 
-    /// As `read`, without a reserve. The item is looked up twice, since its copy may be refused,
-    /// and then nothing may have changed.
+    /// As `read`, without a reserve, or where memory was refused. The item is looked up twice, since
+    /// its copy may be refused, and then nothing may have changed.
     #[cold]
     #[inline(never)]
     fn read_after_copy(&mut self, key: &Key, access: Access) -> Result<Option<Item>, NoMemory>
@@ -233,7 +236,7 @@ impl Items {
         let Some(value) = self.value(key)? else {
             return Ok(None);
         };
-        self.promote(key, access.use_of(&old));
+        self.promote(key, access.use_of(&old))?;
         Ok(Some(old.with_value(value)))
     }
 
@@ -282,20 +285,18 @@ impl Items {
 
     /// Puts the item under the key as the most recently used one. Then the least recently used ones
     /// are evicted, as long as the items cost more than the budget, and counted. If memory is
-    /// refused nothing changes; over an item that is there it never is.
-    pub fn put(&mut self, key: Key, item: Item) -> Result<(), NoMemory>
+    /// refused nothing changes, and the key is returned.
+    pub fn put(&mut self, key: Key, item: Item) -> Result<(), Key>
         requires time { item.last_access ≤ LATEST_MOMENT }
         requires fits { FitsBudget self.old.budget key item.value }
         ensures put { OnOk result (self.new ≡ put_in key item self.old) }
         ensures small { OnOk result (cost key item.value ≤ self.old.budget) }
         ensures err { OnErr result (self.new ≡ self.old) }
-        ensures succeeds { IsSome (lookup (same_key key) self.old.entries) → IsOk result }
+        ensures key { IfErr result (λ returned. returned ≡ key) }
     {
         let key_length = key.bytes().len();
         let added = cost_of(key_length, item.value.len());
-        let Ok(old) = self.cache.put(key, item) else {
-            return Err(NoMemory);
-        };
+        let old = self.cache.put(key, item)?;
         let freed = freed_by(old, key_length);
         let before = self.cache.len();
         self.cost = evict(&mut self.cache, self.cost + added - freed);
@@ -304,11 +305,13 @@ impl Items {
         Ok(())
     }
 
-    /// Makes the item under the key the most recently used one, and what it becomes by that.
-    pub fn promote(&mut self, key: &Key, new: Use)
+    /// Makes the item under the key the most recently used one, and what it becomes by that. Where
+    /// memory is refused nothing changes.
+    pub fn promote(&mut self, key: &Key, new: Use) -> Result<(), NoMemory>
         requires { new.time ≤ LATEST_MOMENT }
-        ensures { (item : TheItem) → lookup (same_key key.now) self.old.entries ≡ Some item →
-            self.new ≡
+        ensures promoted { (item : TheItem) →
+            lookup (same_key key.now) self.old.entries ≡ Some item →
+            OnOk result (self.new ≡
             record self.old {
               entries = set_value (same_key key.now)
                   (promoted (same_key key.now) self.old.entries)
@@ -318,9 +321,11 @@ impl Items {
                     fetched = new.fetched;
                     sent = new.sent;
                   });
-            } }
+            }) }
+        ensures err { OnErr result (self.new ≡ self.old) }
     {
-        self.cache.use_item(key, new);
+        self.cache.use_item(key, new)?;
+        Ok(())
     }
 
     /// Marks the item under the key stale in place.

@@ -386,9 +386,10 @@ impl Shard {
         };
         item.unique = unique;
         item.last_access = self.time;
-        let Ok(()) = self.items.put(key, item) else {
+        if let Err(key) = self.items.put(key, item) {
+            self.remove_dead(&key);
             return Err(Answer::NoMemory);
-        };
+        }
         self.count_given(token);
         self.take_turns(turn, unique);
         Ok(unique)

@@ -154,8 +154,10 @@ impl Shard {
             fetched: item.fetched,
             sent: item.sent,
         };
-        self.items.promote(key, new);
-        Answer::Touched
+        match self.items.promote(key, new) {
+            Ok(()) => Answer::Touched,
+            Err(_refused) => Answer::NoMemory,
+        }
     }
 
     /// `mg`.

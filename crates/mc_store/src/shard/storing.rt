@@ -109,7 +109,9 @@ impl Shard {
                 fetched: item.fetched,
                 sent: item.sent,
             };
-            self.items.promote(&asked.key, new);
+            let Ok(()) = self.items.promote(&asked.key, new) else {
+                return Err(Answer::NoMemory);
+            };
             return Err(Answer::NotStored);
         }
         if is_other(asked.compare, item.unique) {

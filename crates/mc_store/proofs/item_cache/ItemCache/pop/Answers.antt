@@ -1,5 +1,6 @@
 use Rattle.std.proofs.Common.{refl, sym}
 use Rattle.mc_wire.specs.SameKey.{same_key}
+use Rattle.mc_store.specs.internal.Growing.{entries_of}
 use Rattle.mc_store.specs.internal.Stored.{shown}
 use Rattle.mc_store.proofs.Cached.{item_found, item_out, none_removed}
 use Rattle.mc_store.proofs.Shown.{shown_found, shown_none}
@@ -8,13 +9,14 @@ use Rattle.mc_store.proofs.item_cache.ItemCache.pop.Goals as goal
 
 pub invariant_of-self : goal.invariant_of-self
 invariant_of-self c =
-    let none = none_removed (same_key c.args.key.now) c.self.inside.cache.entries (sym c.in_err-stored.ensures.value) in
+    let es = entries_of c.self.inside.cache in
+    let none = none_removed (same_key c.args.key.now) es (sym c.in_err-stored.ensures.value) in
     rw (c.pop.ensures.entries, none) c.self.invariant
 
 pub remove-requires : goal.remove-requires
 remove-requires c =
     let test = same_key c.args.key.now in
-    let es = c.self.inside.cache.entries in
+    let es = entries_of c.self.inside.cache in
     let found = sym c.in_ok-stored.ensures.value in
     rw c.place-place.ensures
     (item_found c.every_kept.ensures.there c.self.inside.cells c.self.inside.budget test es c.in_ok-stored.stored found
@@ -23,7 +25,7 @@ remove-requires c =
 pub invariant_of-self-2 : goal.invariant_of-self-2
 invariant_of-self-2 c =
     let test = same_key c.args.key.now in
-    let es = c.self.inside.cache.entries in
+    let es = entries_of c.self.inside.cache in
     let found = sym c.in_ok-stored.ensures.value in
     let removed = rw c.place-place.ensures at c.remove.ensures.removed in
     rw c.pop.ensures.entries
@@ -34,7 +36,7 @@ invariant_of-self-2 c =
 pub returns-in_err-stored-clause-item : goal.returns-in_err-stored-clause-item
 returns-in_err-stored-clause-item c =
     let test = same_key c.args.key.now in
-    let es = c.self.inside.cache.entries in
+    let es = entries_of c.self.inside.cache in
     rw (
       c.from_residual.ensures,
       ← c.self.view_is,
@@ -44,13 +46,18 @@ returns-in_err-stored-clause-item c =
 pub returns-in_err-stored-clause-left : goal.returns-in_err-stored-clause-left
 returns-in_err-stored-clause-left c =
     let test = same_key c.args.key.now in
-    let es = c.self.inside.cache.entries in
-    rw (c.pop.ensures.entries, ← c.self.view_is, remove_entry-mapped (shown c.self.inside.cells) test es) refl
+    let es = entries_of c.self.inside.cache in
+    rw (
+      c.pop.ensures.entries,
+      c.pop.ensures.cap,
+      ← c.self.view_is,
+      remove_entry-mapped (shown c.self.inside.cells) test es,
+    ) refl
 
 pub returns-clause-item : goal.returns-clause-item
 returns-clause-item c =
     let test = same_key c.args.key.now in
-    let es = c.self.inside.cache.entries in
+    let es = entries_of c.self.inside.cache in
     let found = sym c.in_ok-stored.ensures.value in
     let item = item_found c.every_kept.ensures.there c.self.inside.cells c.self.inside.budget test es
     c.in_ok-stored.stored found c.self.invariant in
@@ -66,7 +73,7 @@ returns-clause-item c =
 pub returns-clause-left : goal.returns-clause-left
 returns-clause-left c =
     let test = same_key c.args.key.now in
-    let es = c.self.inside.cache.entries in
+    let es = entries_of c.self.inside.cache in
     let found = sym c.in_ok-stored.ensures.value in
     let removed = rw c.place-place.ensures at c.remove.ensures.removed in
     let left = item_out c.every_kept.ensures.there c.self.inside.cells c.remove.new.self c.self.inside.budget test es
@@ -74,6 +81,7 @@ returns-clause-left c =
     c.remove.ensures.room in
     rw (
       c.pop.ensures.entries,
+      c.pop.ensures.cap,
       ← c.self.view_is,
       remove_entry-mapped (shown c.self.inside.cells) test es,
       left.items,

@@ -2,10 +2,11 @@ use Rattle.std.proofs.Common.{◌≡◌, List, ap, length, map, refl, sym, ◌�
 use Rattle.std.proofs.lemmas.Bool.{false≢true}
 use Rattle.mc_wire.specs.SameKey.{same_key}
 use Rattle.mc_store.specs.internal.Cached.{kept_value}
+use Rattle.mc_store.specs.internal.Growing.{entries_of}
 use Rattle.mc_store.specs.internal.Listed.{ListedItem}
 use Rattle.mc_store.specs.internal.Stored.{place_in}
 use Rattle.mc_store.proofs.Cached.{item_found, same_room}
-use Rattle.mc_store.proofs.Shown.{few_kept, items_of, shown_found, shown_none, some_kept}
+use Rattle.mc_store.proofs.Shown.{few_kept, items_of, shown_found, shown_none}
 use Rattle.mc_store.proofs.Room.{room_for_one}
 use Rattle.mc_store.proofs.Arrivals.{has_come, put_absent, put_first, put_present, replaced, replaced_there}
 use Rattle.mc_store.proofs.Arrivals.{shown_first, shown_instead, shown_put, taken_back}
@@ -14,44 +15,37 @@ use Rattle.mc_store.proofs.item_cache.ItemCache.put.Goals as goal
 
 pub invariant_of-self : goal.invariant_of-self
 invariant_of-self c =
-    let room = room_for_one c.self.inside.cells c.self.inside.budget c.self.inside.cache.entries
+    let room = room_for_one c.self.inside.cells c.self.inside.budget (entries_of c.self.inside.cache)
     (length c.into_bytes.result) c.self.invariant (rw (← c.self.view_is) at c.requires.fits) in
-    absurd (false≢true (c.in_err-place.ensures.succeeds room))
-
-pub returns-in_err-place-clause-succeeds : goal.returns-in_err-place-clause-succeeds
-returns-in_err-place-clause-succeeds c =
-    λ some.
-    let room = room_for_one c.self.inside.cells c.self.inside.budget c.self.inside.cache.entries
-    (length c.into_bytes.result) c.self.invariant (rw (← c.self.view_is) at c.requires.fits) in
-    absurd (false≢true (c.in_err-place.ensures.succeeds room))
+    absurd (false≢true (c.in_default.ensures.succeeds room))
 
 pub invariant_of-self-in-Ok-None : goal.invariant_of-self-in-Ok-None
 invariant_of-self-in-Ok-None c =
-    let come = has_come c.self.inside.cells c.keep.new.self c.self.inside.budget c.self.inside.cache.entries
-    c.in_ok-place.place c.new.result c.into_bytes.result c.self.invariant (rw (← c.self.view_is) at c.requires.fits)
-    c.in_ok-place.ensures.kept c.in_ok-place.ensures.len
-    (rw c.into_bytes.ensures.value c.into_bytes.ensures.within) c.in_ok-place.ensures.had_room
+    let come = has_come c.self.inside.cells c.keep.new.self c.self.inside.budget (entries_of c.self.inside.cache)
+    c.in-Ok.place c.new.result c.into_bytes.result c.self.invariant (rw (← c.self.view_is) at c.requires.fits)
+    c.in-Ok.ensures.kept c.in-Ok.ensures.len
+    (rw c.into_bytes.ensures.value c.into_bytes.ensures.within) c.in-Ok.ensures.had_room
     c.new.ensures.place in
     let first = put_first c.every_kept.ensures.there c.self.inside.cells c.keep.new.self c.self.inside.budget
-    c.args.key c.new.result c.into_bytes.result c.self.inside.cache.entries come.kept come.small
+    c.args.key c.new.result c.into_bytes.result (entries_of c.self.inside.cache) come.kept come.small
     c.self.invariant.small come.room in
     let none = sym c.in-Ok-None.ensures.old ∙ c.in-Ok-None.field-0-is in
-    let few = few_kept c.self.inside.cells c.self.inside.cache.entries c.self.inside.cache.cap
+    let few = few_kept c.self.inside.cells (entries_of c.self.inside.cache) c.self.inside.cache.cap
     (rw (← c.self.view_is) at c.requires.room) in
     rw (
-      c.in-Ok-None.ensures.entries,
-      put_absent same_key c.self.inside.cache.entries c.self.inside.cache.cap c.args.key c.new.result none few,
+      c.in-Ok-None.ensures.put,
+      put_absent same_key (entries_of c.self.inside.cache) c.self.inside.cache.cap c.args.key c.new.result none few,
     ) first.cached
 
 pub remove-requires : goal.remove-requires
 remove-requires c =
-    let come = has_come c.self.inside.cells c.keep.new.self c.self.inside.budget c.self.inside.cache.entries
-    c.in_ok-place.place c.new.result c.into_bytes.result c.self.invariant (rw (← c.self.view_is) at c.requires.fits)
-    c.in_ok-place.ensures.kept c.in_ok-place.ensures.len
-    (rw c.into_bytes.ensures.value c.into_bytes.ensures.within) c.in_ok-place.ensures.had_room
+    let come = has_come c.self.inside.cells c.keep.new.self c.self.inside.budget (entries_of c.self.inside.cache)
+    c.in-Ok.place c.new.result c.into_bytes.result c.self.invariant (rw (← c.self.view_is) at c.requires.fits)
+    c.in-Ok.ensures.kept c.in-Ok.ensures.len
+    (rw c.into_bytes.ensures.value c.into_bytes.ensures.within) c.in-Ok.ensures.had_room
     c.new.ensures.place in
     let test = same_key c.args.key in
-    let es = c.self.inside.cache.entries in
+    let es = entries_of c.self.inside.cache in
     let was = c.in-Ok-Some.old in
     let found = sym c.in-Ok-Some.ensures.old ∙ c.in-Ok-Some.field-0-is in
     let freed : c.place-freed.result ≡ place_in was = c.place-freed.ensures ∙ ap place_in c.in-Ok-Some.old-is in
@@ -61,13 +55,13 @@ remove-requires c =
 
 pub invariant_of-self-in-Ok-Some : goal.invariant_of-self-in-Ok-Some
 invariant_of-self-in-Ok-Some c =
-    let come = has_come c.self.inside.cells c.keep.new.self c.self.inside.budget c.self.inside.cache.entries
-    c.in_ok-place.place c.new.result c.into_bytes.result c.self.invariant (rw (← c.self.view_is) at c.requires.fits)
-    c.in_ok-place.ensures.kept c.in_ok-place.ensures.len
-    (rw c.into_bytes.ensures.value c.into_bytes.ensures.within) c.in_ok-place.ensures.had_room
+    let come = has_come c.self.inside.cells c.keep.new.self c.self.inside.budget (entries_of c.self.inside.cache)
+    c.in-Ok.place c.new.result c.into_bytes.result c.self.invariant (rw (← c.self.view_is) at c.requires.fits)
+    c.in-Ok.ensures.kept c.in-Ok.ensures.len
+    (rw c.into_bytes.ensures.value c.into_bytes.ensures.within) c.in-Ok.ensures.had_room
     c.new.ensures.place in
     let test = same_key c.args.key in
-    let es = c.self.inside.cache.entries in
+    let es = entries_of c.self.inside.cache in
     let was = c.in-Ok-Some.old in
     let found = sym c.in-Ok-Some.ensures.old ∙ c.in-Ok-Some.field-0-is in
     let freed : c.place-freed.result ≡ place_in was = c.place-freed.ensures ∙ ap place_in c.in-Ok-Some.old-is in
@@ -78,20 +72,20 @@ invariant_of-self-in-Ok-Some c =
     (λ front back value kept. removed front back value kept) come.small
     (same_room c.keep.new.self c.remove.new.self c.self.inside.budget c.remove.ensures.room come.room) in
     rw (
-      c.in-Ok-Some.ensures.entries,
+      c.in-Ok-Some.ensures.put,
       put_present same_key es c.self.inside.cache.cap c.args.key c.new.result (d.key, was) d.entry,
     ) instead.cached
 
 pub invariant_of-self-in-Err : goal.invariant_of-self-in-Err
 invariant_of-self-in-Err c =
-    let come = has_come c.self.inside.cells c.keep.new.self c.self.inside.budget c.self.inside.cache.entries
-    c.in_ok-place.place c.new.result c.into_bytes.result c.self.invariant (rw (← c.self.view_is) at c.requires.fits)
-    c.in_ok-place.ensures.kept c.in_ok-place.ensures.len
-    (rw c.into_bytes.ensures.value c.into_bytes.ensures.within) c.in_ok-place.ensures.had_room
+    let come = has_come c.self.inside.cells c.keep.new.self c.self.inside.budget (entries_of c.self.inside.cache)
+    c.in-Ok.place c.new.result c.into_bytes.result c.self.invariant (rw (← c.self.view_is) at c.requires.fits)
+    c.in-Ok.ensures.kept c.in-Ok.ensures.len
+    (rw c.into_bytes.ensures.value c.into_bytes.ensures.within) c.in-Ok.ensures.had_room
     c.new.ensures.place in
     let back = taken_back c.every_kept.ensures.there c.self.inside.cells c.keep.new.self c.remove-in-Err.new.self
-    c.self.inside.budget c.self.inside.cache.entries c.in_ok-place.place c.into_bytes.result c.self.invariant
-    (c.in_ok-place.ensures.kept (map (kept_value c.self.inside.cells) c.self.inside.cache.entries)
+    c.self.inside.budget (entries_of c.self.inside.cache) c.in-Ok.place c.into_bytes.result c.self.invariant
+    (c.in-Ok.ensures.kept (map (kept_value c.self.inside.cells) (entries_of c.self.inside.cache))
     c.self.invariant.kept) (λ front back value kept. c.remove-in-Err.ensures.removed front back value kept)
     (same_room c.keep.new.self c.remove-in-Err.new.self c.self.inside.budget c.remove-in-Err.ensures.room come.room) in
     rw c.in-Err.ensures.err back.cached
@@ -100,34 +94,34 @@ pub returns-in-Ok-None-clause-old : goal.returns-in-Ok-None-clause-old
 returns-in-Ok-None-clause-old c =
     rw (
       ← c.self.view_is,
-      shown_none c.self.inside.cells (same_key c.args.key) c.self.inside.cache.entries
+      shown_none c.self.inside.cells (same_key c.args.key) (entries_of c.self.inside.cache)
           (sym c.in-Ok-None.ensures.old ∙ c.in-Ok-None.field-0-is),
     ) refl
 
 pub returns-in-Ok-None-clause-put : goal.returns-in-Ok-None-clause-put
 returns-in-Ok-None-clause-put c =
-    let come = has_come c.self.inside.cells c.keep.new.self c.self.inside.budget c.self.inside.cache.entries
-    c.in_ok-place.place c.new.result c.into_bytes.result c.self.invariant (rw (← c.self.view_is) at c.requires.fits)
-    c.in_ok-place.ensures.kept c.in_ok-place.ensures.len
-    (rw c.into_bytes.ensures.value c.into_bytes.ensures.within) c.in_ok-place.ensures.had_room
+    let come = has_come c.self.inside.cells c.keep.new.self c.self.inside.budget (entries_of c.self.inside.cache)
+    c.in-Ok.place c.new.result c.into_bytes.result c.self.invariant (rw (← c.self.view_is) at c.requires.fits)
+    c.in-Ok.ensures.kept c.in-Ok.ensures.len
+    (rw c.into_bytes.ensures.value c.into_bytes.ensures.within) c.in-Ok.ensures.had_room
     c.new.ensures.place in
     let first = put_first c.every_kept.ensures.there c.self.inside.cells c.keep.new.self c.self.inside.budget
-    c.args.key c.new.result c.into_bytes.result c.self.inside.cache.entries come.kept come.small
+    c.args.key c.new.result c.into_bytes.result (entries_of c.self.inside.cache) come.kept come.small
     c.self.invariant.small come.room in
     let none = sym c.in-Ok-None.ensures.old ∙ c.in-Ok-None.field-0-is in
-    let few = few_kept c.self.inside.cells c.self.inside.cache.entries c.self.inside.cache.cap
+    let few = few_kept c.self.inside.cells (entries_of c.self.inside.cache) c.self.inside.cache.cap
     (rw (← c.self.view_is) at c.requires.room) in
     let this = shown_put c.keep.new.self c.new.result c.args.item (c.new.ensures.fields ∙ c.of-fields.ensures)
     (first.here ∙ c.into_bytes.ensures.value) in
-    rw (c.in-Ok-None.ensures.entries, ← c.self.view_is)
+    rw (c.in-Ok-None.ensures.put, c.put.ensures.cap, ← c.self.view_is)
     (ap (λ (xs : List ListedItem). items_of xs c.self.inside.cache.cap c.self.inside.budget)
-    (shown_first c.self.inside.cells c.keep.new.self same_key c.self.inside.cache.entries c.self.inside.cache.cap
+    (shown_first c.self.inside.cells c.keep.new.self same_key (entries_of c.self.inside.cache) c.self.inside.cache.cap
     c.args.key c.new.result c.args.item none few this first.items))
 
 pub returns-in-Ok-Some-clause-old : goal.returns-in-Ok-Some-clause-old
 returns-in-Ok-Some-clause-old c =
     let test = same_key c.args.key in
-    let es = c.self.inside.cache.entries in
+    let es = entries_of c.self.inside.cache in
     let was = c.in-Ok-Some.old in
     let found = sym c.in-Ok-Some.ensures.old ∙ c.in-Ok-Some.field-0-is in
     let freed : c.place-freed.result ≡ place_in was = c.place-freed.ensures ∙ ap place_in c.in-Ok-Some.old-is in
@@ -143,13 +137,13 @@ returns-in-Ok-Some-clause-old c =
 
 pub returns-in-Ok-Some-clause-put : goal.returns-in-Ok-Some-clause-put
 returns-in-Ok-Some-clause-put c =
-    let come = has_come c.self.inside.cells c.keep.new.self c.self.inside.budget c.self.inside.cache.entries
-    c.in_ok-place.place c.new.result c.into_bytes.result c.self.invariant (rw (← c.self.view_is) at c.requires.fits)
-    c.in_ok-place.ensures.kept c.in_ok-place.ensures.len
-    (rw c.into_bytes.ensures.value c.into_bytes.ensures.within) c.in_ok-place.ensures.had_room
+    let come = has_come c.self.inside.cells c.keep.new.self c.self.inside.budget (entries_of c.self.inside.cache)
+    c.in-Ok.place c.new.result c.into_bytes.result c.self.invariant (rw (← c.self.view_is) at c.requires.fits)
+    c.in-Ok.ensures.kept c.in-Ok.ensures.len
+    (rw c.into_bytes.ensures.value c.into_bytes.ensures.within) c.in-Ok.ensures.had_room
     c.new.ensures.place in
     let test = same_key c.args.key in
-    let es = c.self.inside.cache.entries in
+    let es = entries_of c.self.inside.cache in
     let was = c.in-Ok-Some.old in
     let found = sym c.in-Ok-Some.ensures.old ∙ c.in-Ok-Some.field-0-is in
     let freed : c.place-freed.result ≡ place_in was = c.place-freed.ensures ∙ ap place_in c.in-Ok-Some.old-is in
@@ -161,28 +155,22 @@ returns-in-Ok-Some-clause-put c =
     (same_room c.keep.new.self c.remove.new.self c.self.inside.budget c.remove.ensures.room come.room) in
     let this = shown_put c.remove.new.self c.new.result c.args.item (c.new.ensures.fields ∙ c.of-fields.ensures)
     (instead.here ∙ c.into_bytes.ensures.value) in
-    rw (c.in-Ok-Some.ensures.entries, ← c.self.view_is)
+    rw (c.in-Ok-Some.ensures.put, c.put.ensures.cap, ← c.self.view_is)
     (ap (λ (xs : List ListedItem). items_of xs c.self.inside.cache.cap c.self.inside.budget)
     (shown_instead c.self.inside.cells c.remove.new.self same_key es c.self.inside.cache.cap c.args.key was
     c.new.result c.args.item d this instead.items))
 
 pub returns-in-Err-clause-err : goal.returns-in-Err-clause-err
 returns-in-Err-clause-err c =
-    let come = has_come c.self.inside.cells c.keep.new.self c.self.inside.budget c.self.inside.cache.entries
-    c.in_ok-place.place c.new.result c.into_bytes.result c.self.invariant (rw (← c.self.view_is) at c.requires.fits)
-    c.in_ok-place.ensures.kept c.in_ok-place.ensures.len
-    (rw c.into_bytes.ensures.value c.into_bytes.ensures.within) c.in_ok-place.ensures.had_room
+    let come = has_come c.self.inside.cells c.keep.new.self c.self.inside.budget (entries_of c.self.inside.cache)
+    c.in-Ok.place c.new.result c.into_bytes.result c.self.invariant (rw (← c.self.view_is) at c.requires.fits)
+    c.in-Ok.ensures.kept c.in-Ok.ensures.len
+    (rw c.into_bytes.ensures.value c.into_bytes.ensures.within) c.in-Ok.ensures.had_room
     c.new.ensures.place in
     let back = taken_back c.every_kept.ensures.there c.self.inside.cells c.keep.new.self c.remove-in-Err.new.self
-    c.self.inside.budget c.self.inside.cache.entries c.in_ok-place.place c.into_bytes.result c.self.invariant
-    (c.in_ok-place.ensures.kept (map (kept_value c.self.inside.cells) c.self.inside.cache.entries)
+    c.self.inside.budget (entries_of c.self.inside.cache) c.in-Ok.place c.into_bytes.result c.self.invariant
+    (c.in-Ok.ensures.kept (map (kept_value c.self.inside.cells) (entries_of c.self.inside.cache))
     c.self.invariant.kept) (λ front back value kept. c.remove-in-Err.ensures.removed front back value kept)
     (same_room c.keep.new.self c.remove-in-Err.new.self c.self.inside.budget c.remove-in-Err.ensures.room come.room) in
-    rw (c.in-Err.ensures.err, ← c.self.view_is)
+    rw (c.in-Err.ensures.err, c.put.ensures.cap, ← c.self.view_is)
     (ap (λ (xs : List ListedItem). items_of xs c.self.inside.cache.cap c.self.inside.budget) back.items)
-
-pub returns-in-Err-clause-succeeds : goal.returns-in-Err-clause-succeeds
-returns-in-Err-clause-succeeds c =
-    λ some.
-    c.in-Err.ensures.succeeds
-    (some_kept c.self.inside.cells (same_key c.args.key) c.self.inside.cache.entries (rw (← c.self.view_is) at some))

@@ -19,14 +19,14 @@ freed_by-freed-requires c =
     there refl).0 in
     let small : c.self.inside.cost < 2 ^ 64 = omega (arith, c.self.invariant.fits, c.self.invariant.most) in
     rw c.bytes-key_length.ensures.value
-    (freed_fits there c.in-Ok.old (length c.args.key) c.self.inside.cost c.in-Ok.ensures.old less small)
+    (freed_fits there c.in_ok-old.old (length c.args.key) c.self.inside.cost c.in_ok-old.ensures.old less small)
 
 pub overflow_sub-self-inside : goal.overflow_sub-self-inside
 overflow_sub-self-inside c =
     let there = lookup (same_key c.args.key) c.self.inside.cache.entries in
     let freed : c.freed_by-freed.result ≡ freed_by there (length c.args.key) =
-    freed_is there c.in-Ok.old (length c.bytes-key_length.result.now) c.freed_by-freed.result c.in-Ok.ensures.old
-    c.freed_by-freed.ensures.some c.freed_by-freed.ensures.none
+    freed_is there c.in_ok-old.old (length c.bytes-key_length.result.now) c.freed_by-freed.result
+    c.in_ok-old.ensures.old c.freed_by-freed.ensures.some c.freed_by-freed.ensures.none
     ∙ ap (λ k. freed_by there (length k)) c.bytes-key_length.ensures.value in
     let less = (put_cost c.self.inside.cache.entries c.args.key c.args.item c.self.inside.cost c.self.invariant.counted
     there refl).0 in
@@ -36,8 +36,8 @@ pub evict-self-inside-requires : goal.evict-self-inside-requires
 evict-self-inside-requires c =
     let there = lookup (same_key c.args.key) c.self.inside.cache.entries in
     let freed : c.freed_by-freed.result ≡ freed_by there (length c.args.key) =
-    freed_is there c.in-Ok.old (length c.bytes-key_length.result.now) c.freed_by-freed.result c.in-Ok.ensures.old
-    c.freed_by-freed.ensures.some c.freed_by-freed.ensures.none
+    freed_is there c.in_ok-old.old (length c.bytes-key_length.result.now) c.freed_by-freed.result
+    c.in_ok-old.ensures.old c.freed_by-freed.ensures.some c.freed_by-freed.ensures.none
     ∙ ap (λ k. freed_by there (length k)) c.bytes-key_length.ensures.value in
     let added : c.cost_of-added.result ≡ entry_cost (c.args.key, c.args.item) =
     rw (c.cost_of-added.ensures, c.bytes-key_length.ensures.value, c.len.ensures.value) in
@@ -45,7 +45,7 @@ evict-self-inside-requires c =
     there refl).1 in
     let entries : c.put.new.self.entries
     ≡ (c.args.key, c.args.item) ∷ remove_entry (same_key c.args.key) c.self.inside.cache.entries =
-    ap (λ (items : CachedItems). items.entries) c.in-Ok.ensures.put
+    ap (λ (items : CachedItems). items.entries) c.in_ok-old.ensures.put
     ∙ put_is c.self.inside.cache.entries c.self.inside.cache.cap c.self.inside.cost c.self.inside.cache.budget
     c.args.key c.args.item c.self.invariant in
     rw (entries, freed, added) whole
@@ -54,7 +54,7 @@ pub invariant_of-self-2 : goal.invariant_of-self-2
 invariant_of-self-2 c =
     let es = (c.args.key, c.args.item) ∷ remove_entry (same_key c.args.key) c.self.inside.cache.entries in
     let put : c.put.new.self ≡ record c.self.inside.cache { entries = es } =
-    c.in-Ok.ensures.put
+    c.in_ok-old.ensures.put
     ∙ ap (λ (l : List ListedItem). record c.self.inside.cache { entries = l })
     (put_is c.self.inside.cache.entries c.self.inside.cache.cap c.self.inside.cost c.self.inside.cache.budget
     c.args.key c.args.item c.self.invariant) in
@@ -74,7 +74,7 @@ pub returns-clause-put : goal.returns-clause-put
 returns-clause-put c =
     let es = (c.args.key, c.args.item) ∷ remove_entry (same_key c.args.key) c.self.inside.cache.entries in
     let put : c.put.new.self ≡ record c.self.inside.cache { entries = es } =
-    c.in-Ok.ensures.put
+    c.in_ok-old.ensures.put
     ∙ ap (λ (l : List ListedItem). record c.self.inside.cache { entries = l })
     (put_is c.self.inside.cache.entries c.self.inside.cache.cap c.self.inside.cost c.self.inside.cache.budget
     c.args.key c.args.item c.self.invariant) in

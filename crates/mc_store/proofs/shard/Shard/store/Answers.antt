@@ -40,8 +40,16 @@ returns-in-Add-clause-does c = λ reply state h.
     let old = found _ c.in-Some.item c.in-Some.ensures in
     let item = item_with c.in-Some.item old.value in
     let there = (live_item c.args.self.now.time _ item old.is).0 in
-    rw (c.promote.ensures item there)
+    rw (c.in-Ok.ensures.promoted item there)
     (add_refused (held_of c.args.self.now) state item c.args.asked reply h old.is c.in-Add.is)
+
+pub returns-in_default-promote-clause-does : goal.returns-in_default-promote-clause-does
+unfolding IsShard
+returns-in_default-promote-clause-does c = λ reply state h.
+    let old = found _ c.in-Some.item c.in-Some.ensures in
+    let item = item_with c.in-Some.item old.value in
+    rw c.in_default-promote.ensures.err
+    (lacks_as (held_of c.args.self.now) state c.args.asked.key item _ h old.is)
 
 pub returns-then-is_other-clause-does : goal.returns-then-is_other-clause-does
 unfolding IsShard
@@ -101,7 +109,7 @@ returns-clause-does c = λ reply state h.
     (sym c.in-Ok-Some.field-0-is ∙ c.in-Ok-Some.ensures.value) in
     let made : c.fresh_item-joined.result
     ≡ fresh_of (joined item.value c.args.asked.value c.in-Some-joining.after) item.flags item.expiry =
-    rw (← c.in-Ok.ensures) c.fresh_item-joined.ensures in
+    rw (← c.in-Ok-joined.ensures) c.fresh_item-joined.ensures in
     joined_as (held_of c.args.self.now) state item c.args.asked reply c.in-Some-joining.after c.fresh_item-joined.result
     (answered reply c.write_value.result) (held_of c.write_value.new.self) h is c.in-Some-joining.ensures
     (sym c.if-is_other.ensures) made (c.write_value.ensures.does reply state (rw c.value.ensures.unchanged h))
