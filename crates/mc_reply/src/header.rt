@@ -2,6 +2,7 @@
 //! both are written at once.
 ghost use Rattle.std.specs.Prelude.{◌≡◌, ◌+◌, ◌++◌, ◌≤◌, ◌∷◌, [], codes, decimal, length, take};
 ghost use Rattle.std.specs.List.{concat};
+ghost use Rattle.mc_reply.specs.internal.SlotTexts.{plain_item};
 
 use crate::number::{DIGIT_LIMIT, place_number};
 
@@ -50,6 +51,20 @@ pub fn place_line(room: &mut [u8], key: &[u8], flags: u32, size: usize) -> usize
     let end = place_number(room, end, u64::from(flags));
     let end = place(room, end, b" ");
     place_number(room, end, size as u64)
+}
+
+/// Writes an item with a short value to the front of the buffer, and returns its length.
+#[inline(always)]
+pub fn place_item(room: &mut [u8], key: &[u8], flags: u32, value: &[u8]) -> usize
+    requires short { length value.now ≤ SHORT_VALUE }
+    requires room { length key.now + BESIDE_KEY ≤ length room.old }
+    ensures most { result ≤ length key.now + BESIDE_KEY }
+    ensures text { take result room.new ≡ plain_item key.now flags value.now }
+{
+    let end = place_line(room, key, flags, value.len());
+    let end = place(room, end, b"\r\n");
+    let end = place(room, end, value);
+    place(room, end, b"\r\n")
 }
 
 /// Copies a cas unique and the line end to index `at`, and returns the index after them.
