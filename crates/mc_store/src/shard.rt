@@ -21,12 +21,14 @@ mod reclaiming;
 mod running;
 mod stats;
 mod storing;
+mod write_error;
 
 use crate::access;
 use crate::fields::Fields;
 use crate::flushed::{Flushed, Turns};
 use crate::items::{Items, cost_of};
 use crate::shard::reclaiming::{clear_turns, make_turn};
+use crate::shard::write_error::WriteError;
 use mc_item::{Answer, Counting, Item, MetaDone, Op, OpStats, PackedExpiry, Status, Value};
 use mc_sizes::{MAX_BUDGET, MIN_BUDGET};
 use mc_wire::{Key, LATEST_MOMENT, MAX_VALUE_LIMIT};
@@ -99,7 +101,7 @@ impl Shard {
     ghost use Rattle.mc_store.specs.State.{State, empty_state, arrived, is_due, flushed, without_dead, item_overhead, costs, entered};
     ghost use Rattle.mc_store.specs.Step.{makes, numbered};
     ghost use Rattle.mc_store.specs.Shard.{IsShard, Steps, held_of};
-    ghost use Rattle.mc_store.specs.internal.Parts.{Acts, Does, answered};
+    ghost use Rattle.mc_store.specs.internal.Parts.{Acts, Does, answered, written};
 
     /// An empty shard: the one at `index` of `shards` shards. Its items may cost `budget` bytes
     /// together, its values have at most `limit` bytes each, and `given` uniques were given before.
@@ -366,28 +368,26 @@ impl Shard {
     /// Puts the item under the key as the most recently used one, with a new unique, which it
     /// answers. Then two turns are looked at, and the item gets its own. Where memory is refused,
     /// for the item or for its turn, nothing changes.
-    fn write(&mut self, key: Key, mut item: Item, token: Option<u64>) -> Result<u64, Answer>
+    fn write(&mut self, key: Key, mut item: Item, token: Option<u64>) -> Result<u64, WriteError>
         requires fits { FitsBudget self.old.items.budget key item.value }
-        ensures does { (reply : ℕ → TheAnswer) →
+        ensures { (reply : ℕ → TheAnswer) →
             Does self.old key (λ settled.
             numbered settled token (λ unique after.
             (reply unique, entered after token key (record item { unique = unique }))))
-            (answered reply result) self.new }
-        ensures refused { IfErr result
-            (λ answer. (answer ≡ Answer.NoCas) ⊎ (answer ≡ Answer.NoMemory)) }
+            (written reply result) self.new }
     {
         let Some(unique) = self.unique_for(token) else {
             self.remove_dead(&key);
-            return Err(Answer::NoCas);
+            return Err(WriteError::NoCas);
         };
         let Ok(turn) = make_turn(&mut self.turns, token, &key, item.expiry) else {
             self.remove_dead(&key);
-            return Err(Answer::NoMemory);
+            return Err(WriteError::NoMemory);
         };
         item.unique = unique;
         item.last_access = self.time;
         let Ok(()) = self.items.put(key, item) else {
-            return Err(Answer::NoMemory);
+            return Err(WriteError::NoMemory);
         };
         self.count_given(token);
         self.take_turns(turn, unique);
@@ -417,7 +417,10 @@ impl Shard {
     {
         let size = item.value.len() as u64;
         let left = item.expiry.seconds_left(self.time);
-        let unique = self.write(key, item, token)?;
+        let unique = match self.write(key, item, token) {
+            Ok(unique) => unique,
+            Err(refused) => return Err(refused.answer()),
+        };
         Ok(MetaDone {
             unique,
             size,
