@@ -109,7 +109,10 @@ impl Cells {
         if len >= LONG_VALUE {
             return self.keep_long(value);
         }
-        self.reserve(piece_count(len), 0)?;
+        self.cells.reserve(piece_count(len))?;
+        if self.cells.capacity() > MAX_CELLS {
+            return Err(AllocError);
+        }
         let first = keep_chain(&mut self.cells, value.as_slice());
         Ok(Place {
             first,

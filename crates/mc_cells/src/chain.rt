@@ -52,9 +52,10 @@ fn piece_at(bytes: &[u8], start: usize) -> [u8; CELL_BYTES]
     requires { start + CELL_BYTES ≤ length bytes.now }
     ensures { result ≡ take CELL_BYTES (drop start bytes.now) }
 {
-    let mut piece = [0; CELL_BYTES];
-    piece.copy_from_slice(&bytes[start..start + CELL_BYTES]);
-    piece
+    match bytes.split_at(start).1.first_chunk::<CELL_BYTES>() {
+        Some(piece) => *piece,
+        None => unreachable!(),
+    }
 }
 
 /// The last piece of a value, filled up with zeros.
