@@ -78,7 +78,8 @@ pub fn place_hit(room: &mut [u8], marks: &[u8], value: &[u8]) -> usize
     requires room { length marks.now + BESIDE_MARKS ≤ length room.old }
     ensures most { result ≤ length marks.now + BESIDE_MARKS }
     ensures text { take result room.new ≡
-        concat (codes "VA " ∷ decimal (length value.now) ∷ marks.now ∷ value.now ∷ codes "\r\n" ∷ []) }
+        concat
+        (codes "VA " ∷ decimal (length value.now) ∷ marks.now ∷ value.now ∷ codes "\r\n" ∷ []) }
 {
     let end = place(room, 0, b"VA ");
     let end = place_number(room, end, value.len() as u64);

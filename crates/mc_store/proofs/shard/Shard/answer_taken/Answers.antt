@@ -19,7 +19,8 @@ returns-in-Delete-clause-acts c = λ state h. rw (← c.in-Delete.ensures.value)
 
 pub returns-in-Discard-clause-acts : goal.returns-in-Discard-clause-acts
 unfolding Answers step_of kind_of key_of
-returns-in-Discard-clause-acts c = λ state h. rw (← c.in-Discard.ensures.value) (c.delete-in-Discard.ensures.acts state h)
+returns-in-Discard-clause-acts c = λ state h.
+    rw (← c.in-Discard.ensures.value) (c.delete-in-Discard.ensures.acts state h)
 
 pub returns-in-Touch-clause-acts : goal.returns-in-Touch-clause-acts
 returns-in-Touch-clause-acts c = λ state h.
@@ -36,7 +37,8 @@ pub returns-in-MetaStore-clause-acts : goal.returns-in-MetaStore-clause-acts
 returns-in-MetaStore-clause-acts c = λ state h. rw (← c.in-MetaStore.ensures.value) (c.meta_store.ensures.acts state h)
 
 pub returns-in-MetaDelete-clause-acts : goal.returns-in-MetaDelete-clause-acts
-returns-in-MetaDelete-clause-acts c = λ state h. rw (← c.in-MetaDelete.ensures.value) (c.meta_delete.ensures.acts state h)
+returns-in-MetaDelete-clause-acts c = λ state h.
+    rw (← c.in-MetaDelete.ensures.value) (c.meta_delete.ensures.acts state h)
 
 pub returns-in-MetaCount-clause-acts : goal.returns-in-MetaCount-clause-acts
 returns-in-MetaCount-clause-acts c = λ state h. rw (← c.in-MetaCount.ensures.value) (c.meta_count.ensures.acts state h)
@@ -45,4 +47,5 @@ pub returns-in-Stats-clause-acts : goal.returns-in-Stats-clause-acts
 returns-in-Stats-clause-acts c = λ state h. rw (← c.in-Stats.ensures.value) (c.stats.ensures.acts state h)
 
 pub returns-in-ResetStats-clause-acts : goal.returns-in-ResetStats-clause-acts
-returns-in-ResetStats-clause-acts c = λ state h. rw (← c.in-ResetStats.ensures.value) (c.reset_stats.ensures.acts state h)
+returns-in-ResetStats-clause-acts c = λ state h.
+    rw (← c.in-ResetStats.ensures.value) (c.reset_stats.ensures.acts state h)
