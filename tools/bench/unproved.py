@@ -10,7 +10,7 @@ a fifth more instructions than the proved program: compare such builds with one 
 about three minutes.
 
 The module of a try has none of the hints `#[inline(..)]` and `#[cold]`, and fills each local. With --hints they are added and the
-fills left out. Then a command takes 3 % more instructions than in the proved program, `mg` 6 %, and a profile shows what is inlined.
+fills left out. Then a command takes up to 6 % more instructions than in the proved program, and a profile shows what is inlined.
 """
 import argparse
 import pathlib
