@@ -1,13 +1,18 @@
 #!/usr/bin/env python3
 """Builds the program without proving it, to measure a form before it is proved.
 
-    tools/bench/unproved.py OUT [CRATE]     the program of the crate (mcd by default), as the executable OUT
+    tools/bench/unproved.py OUT [CRATE]             the program of the crate (mcd by default), as the executable OUT
+    tools/bench/unproved.py --hints OUT [CRATE]     the same, inlined as the sources ask
 
 `rt try` compiles a program before any proof, with checks of what a proof would show. Its module is taken from it here, those
 checks are taken out of it, and it is compiled as the program is. What the compiler learns from the prover is missing, so it takes about
 a fifth more instructions than the proved program: compare such builds with one another alone, and serve nobody by one. It takes
 about three minutes.
+
+The module of a try has none of the hints `#[inline(..)]` and `#[cold]`, and fills each local. With --hints they are added and the
+fills left out. Then a command takes up to 6 % more instructions than in the proved program, and a profile shows what is inlined.
 """
+import argparse
 import pathlib
 import re
 import shutil
@@ -25,6 +30,8 @@ LINK = ["-m", "elf_x86_64", "-pie", "--dynamic-linker", "/lib64/ld-linux-x86-64.
         "-z", "noexecstack", "--eh-frame-hdr", "--gc-sections", "--no-dependent-libraries"]
 PARTS = ["Scrt1.o", "crti.o", "crtbeginS.o", "input-0", "input-1", "input-2", "input-3", "libm.so.6", "libc.so.6",
          "libc_nonshared.a", "ld-linux-x86-64.so.2", "libgcc.a", "libgcc_s.so.1", "crtendS.o", "crtn.o"]
+# What LLVM calls the hints of the sources.
+HINTS = {"inline(always)": "alwaysinline", "inline(never)": "noinline", "cold": "cold"}
 # A compiler that keeps what it was given, each call in a folder of its own.
 KEEPER = """#!/bin/sh
 kept=$(mktemp -d {kept}/XXXXXX)
@@ -64,16 +71,52 @@ def without_checks(text):
     return text.replace("= { }", "= { nounwind }")
 
 
+def hinted():
+    """The functions with a hint in the sources, by module and name, and LLVM's word for it."""
+    found = {}
+    for file in TOP.glob("crates/*/src/**/*.rt"):
+        crate, _src, *names = file.relative_to(TOP / "crates").with_suffix("").parts
+        module, hint = "::".join([crate, *(name for name in names if name not in ("lib", "main"))]), None
+        for line in file.read_text().splitlines():
+            if asked := re.match(r"\s*#\[(inline\((?:always|never)\)|cold)\]", line):
+                hint = HINTS[asked[1]]
+            elif name := re.match(r"\s*(?:pub(?:\([a-z]+\))? )?(?:unsafe )?fn (\w+)", line):
+                if hint:
+                    found[module, name[1]] = hint
+                hint = None
+    return found
+
+
+def with_hints(text):
+    """The module with the hints of the sources, and without the fills of locals."""
+    hints, lines = hinted(), []
+    for line in text.splitlines(keepends=True):
+        if "i8 -86, i64" in line and "memset" in line:
+            continue
+        if name := re.match(r'define [^@]*@"([^"]+)"', line):
+            # A method's name has its type between the module and itself.
+            *module, function = re.sub(r"::<[#=][^>]*>", "", name[1]).split("::")
+            hint = hints.get(("::".join(module), function)) or hints.get(("::".join(module[:-1]), function))
+            if hint:
+                line = line.replace(") #0 {", f") {hint} #0 {{")
+        lines.append(line)
+    return "".join(lines)
+
+
 def main():
-    if len(sys.argv) not in (2, 3):
-        sys.exit(__doc__)
-    out, crate = pathlib.Path(sys.argv[1]).resolve(), (sys.argv[2:] or ["mcd"])[0]
+    parser = argparse.ArgumentParser(description=__doc__, formatter_class=argparse.RawDescriptionHelpFormatter)
+    parser.add_argument("--hints", action="store_true")
+    parser.add_argument("out", type=pathlib.Path)
+    parser.add_argument("crate", nargs="?", default="mcd")
+    given = parser.parse_args()
+    out, crate = given.out.resolve(), given.crate
     clang = KIT / "toolchain/bin/clang"
     with tempfile.TemporaryDirectory(prefix="unproved-") as folder:
         module, linked = kept_by_a_try(pathlib.Path(folder), crate)
         text = module.with_suffix(".ll")
         subprocess.run([clang, *TARGET, module, "-S", "-emit-llvm", "-Xclang", "-disable-llvm-passes", "-o", text], check=True)
-        text.write_text(without_checks(text.read_text()))
+        code = without_checks(text.read_text())
+        text.write_text(with_hints(code) if given.hints else code)
         subprocess.run([clang, *TARGET, text, *CODE, f"--sysroot={KIT}/toolchain", "-o", linked / "input-0"], check=True)
         subprocess.run([KIT / "toolchain/bin/ld.lld", *LINK, "-o", out, *PARTS], cwd=linked, check=True)
     print(out)

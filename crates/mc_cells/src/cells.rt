@@ -1,15 +1,14 @@
 //! The values of a shard.
-ghost use Rattle.std.specs.Prelude.{◌≡◌, ◌+◌, ◌*◌, ◌<◌, ◌≤◌, ◌^◌, List, [], ◌∷◌, ◌++◌, ℕ, length, vec_len, vec_capacity, IsOk, IfOk, OnOk, OnErr};
-ghost use Rattle.std.specs.List.{sum_by};
+ghost use Rattle.std.specs.Prelude.{◌≡◌, ◌+◌, ◌<◌, ◌≤◌, ◌^◌, List, [], ◌∷◌, ◌++◌, ℕ, length, vec_len, vec_capacity, IsOk, IfOk, OnOk, OnErr};
 ghost use Rattle.mc_cells.specs.declared.TheConstants.{PAGE_BYTES};
 ghost use Rattle.mc_cells.specs.Kept.{KeptValue, cells_of, slots_of};
 ghost use Rattle.mc_cells.specs.Contents.{AreKept, HasRoom, HasValue, value_at, with_room};
 
 use crate::chain::{keep_chain, piece_count, remove_chain};
-use crate::page::{append_short, read_short};
 use crate::pages::ValuePages;
 use crate::piece_pool::PiecePool;
 use crate::place::Place;
+use crate::reading::{append_short, read_short};
 use crate::{CELL_BYTES, LONG_VALUE, MAX_CELLS, PAGE_BYTES};
 use bytes::Bytes;
 use slab::Slab;
@@ -109,7 +108,10 @@ impl Cells {
         if len >= LONG_VALUE {
             return self.keep_long(value);
         }
-        self.reserve(piece_count(len), 0)?;
+        self.cells.reserve(piece_count(len))?;
+        if self.cells.capacity() > MAX_CELLS {
+            return Err(AllocError);
+        }
         let first = keep_chain(&mut self.cells, value.as_slice());
         Ok(Place {
             first,
@@ -198,17 +200,5 @@ impl Cells {
     {
         self.cells.clear();
         self.long.clear();
-    }
-
-    /// How many cells are in use. Each short value takes one for every 60 bytes of it, and one for
-    /// the rest, which it shares with another one's if neither is longer than 30 bytes.
-    pub fn cells_used(&self) -> usize
-        ensures most { (kept : List KeptValue) → AreKept self.now kept →
-            result ≤ sum_by (λ (value : KeptValue). cells_of value.0.len) kept }
-        ensures least { (kept : List KeptValue) → AreKept self.now kept →
-            sum_by (λ (value : KeptValue). cells_of value.0.len) kept ≤ 2 * result }
-        ensures used { result ≡ self.now.used }
-    {
-        self.cells.len()
     }
 }

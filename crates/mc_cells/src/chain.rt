@@ -52,27 +52,18 @@ fn piece_at(bytes: &[u8], start: usize) -> [u8; CELL_BYTES]
     requires { start + CELL_BYTES ≤ length bytes.now }
     ensures { result ≡ take CELL_BYTES (drop start bytes.now) }
 {
-    let mut piece = [0; CELL_BYTES];
-    piece.copy_from_slice(&bytes[start..start + CELL_BYTES]);
-    piece
+    match bytes.split_at(start).1.first_chunk::<CELL_BYTES>() {
+        Some(piece) => *piece,
+        None => unreachable!(),
+    }
 }
 
-/// The last piece of a value, filled up with zeros.
-fn last_piece(bytes: &[u8]) -> [u8; CELL_BYTES]
-    requires { length bytes.now ≤ CELL_BYTES }
+/// The last piece of a value, filled up with zeros to a cell or to half of one.
+fn padded<const N: usize>(bytes: &[u8]) -> [u8; N]
+    requires { length bytes.now ≤ N }
     ensures { take (length bytes.now) result ≡ bytes.now }
 {
-    let mut piece = [0; CELL_BYTES];
-    piece[..bytes.len()].copy_from_slice(bytes);
-    piece
-}
-
-/// The last piece of a value that fits half a cell, filled up with zeros.
-fn last_half(bytes: &[u8]) -> [u8; HALF_BYTES]
-    requires { length bytes.now ≤ HALF_BYTES }
-    ensures { take (length bytes.now) result ≡ bytes.now }
-{
-    let mut piece = [0; HALF_BYTES];
+    let mut piece = [0; N];
     piece[..bytes.len()].copy_from_slice(bytes);
     piece
 }
@@ -96,9 +87,9 @@ fn keep_last(cells: &mut PiecePool, bytes: &[u8]) -> u32
         return 0;
     }
     if bytes.len() <= HALF_BYTES {
-        return cells.insert_half(last_half(bytes));
+        return cells.insert_half(padded::<HALF_BYTES>(bytes));
     }
-    cells.insert_whole(0, last_piece(bytes))
+    cells.insert_whole(0, padded::<CELL_BYTES>(bytes))
 }
 
 /// Keeps a value in a chain of cells, and returns the number of the first. The chain is made from

@@ -6,11 +6,11 @@ mod cell;
 mod cells;
 mod chain;
 mod laws;
-mod page;
 mod pages;
 mod piece_pool;
 mod place;
 mod pool;
+mod reading;
 
 pub use cells::Cells;
 pub use laws::every_kept;

@@ -58,13 +58,6 @@ impl PiecePool {
         }
     }
 
-    /// How many cells are in use, whole or split.
-    pub(crate) fn len(&self) -> usize
-        ensures { result ≡ self.now.used }
-    {
-        self.cells.len()
-    }
-
     /// How many cells there is memory for.
     pub(crate) fn capacity(&self) -> usize
         ensures { result ≡ self.now.capacity }

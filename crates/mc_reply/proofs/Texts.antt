@@ -68,11 +68,6 @@ item-line_block with_unique key flags unique size value front line sized begins 
     rw (is, begins, sized) (ten (codes "VALUE ") key (codes " ") (decimal flags) (codes " ") (decimal (length value))
     (if with_unique then codes " " ++ decimal unique else []) (codes "\r\n") value)
 
--- A line with its block behind it, put together in two steps.
-pub line_block : (line value more whole : List ℕ) → more ≡ line ++ value → whole ≡ more ++ codes "\r\n" → line
-    ++ (value ++ codes "\r\n") ≡ whole
-line_block line value more whole is ends = rw (ends, is) (sym (append_assoc line value (codes "\r\n")))
-
 -- A write of one text is a write of any equal text.
 pub writes_same : {X E : Type 0} {text other : List ℕ} (old new : Sight) (result : Result X E) → text ≡ other
     → Writes other result old new → Writes text result old new

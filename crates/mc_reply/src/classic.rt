@@ -10,12 +10,16 @@ ghost use Rattle.mc_reply.specs.internal.SlotTexts.{fixed_line, slot_text, first
 use crate::block::put_block;
 use crate::fixed::MEMORY_LINE;
 use crate::header::{
-    BESIDE_KEY, HEADER_LIMIT, SHORT_HEADER, SHORT_VALUE, place, place_line, place_unique,
+    BESIDE_KEY, HEADER_LIMIT, SHORT_HEADER, SHORT_VALUE, place, place_item, place_line,
+    place_unique,
 };
 use itoa::Buffer;
 use mc_command::Keys;
 use mc_item::{Answer, Value};
 use mc_wire::{KEY_LIMIT, Sink, SinkError, WordWalk, put_parts, write_all};
+
+/// The longest key for which a short header has room for `END` too.
+const SHORT_KEY: usize = SHORT_HEADER - BESIDE_KEY - 5;
 
 /// Whether some answer reports that memory was refused.
 pub fn any_lacks_memory(slots: &[Option<Answer>]) -> bool
@@ -104,9 +108,39 @@ pub fn put_values<O: Sink>(
     let Some((slot, more)) = slots.split_first() else {
         return write_all(out, b"END\r\n");
     };
+    if more.is_empty() {
+        return put_one(out, first.bytes(), with_unique, slot);
+    }
     put_slot(out, first.bytes(), with_unique, slot)?;
     put_items(out, others, with_unique, more)?;
     write_all(out, b"END\r\n")
+}
+
+/// Writes the item of the only key, if it was found, and `END`. An item with a short value is
+/// written at once with what follows it.
+fn put_one<O: Sink>(
+    out: &mut O,
+    key: &[u8],
+    with_unique: bool,
+    slot: &Option<Answer>,
+) -> Result<(), SinkError>
+    requires { length key.now ≤ KEY_LIMIT }
+    ensures { Writes (slot_text (item_text with_unique key.now) slot.now ++ codes "END\r\n") result
+        (O.sight out.old) (O.sight out.new) }
+{
+    match slot {
+        Some(Answer::Hit { flags, value, .. })
+            if !with_unique && key.len() <= SHORT_KEY && value.len() <= SHORT_VALUE => {
+            let mut room = [0; SHORT_HEADER];
+            let end = place_item(&mut room, key, *flags, value.bytes());
+            let end = place(&mut room, end, b"END\r\n");
+            write_all(out, room.split_at(end).0)
+        }
+        _ => {
+            put_slot(out, key, with_unique, slot)?;
+            write_all(out, b"END\r\n")
+        }
+    }
 }
 
 /// Writes the items found.
@@ -203,13 +237,12 @@ fn put_plain_item<O: Sink, const ROOM: usize>(
         (O.sight out.new) }
 {
     let mut room = [0; ROOM];
-    let end = place_line(&mut room, key, flags, value.len());
-    let end = place(&mut room, end, b"\r\n");
     if value.len() <= SHORT_VALUE {
-        let end = place(&mut room, end, value.bytes());
-        let end = place(&mut room, end, b"\r\n");
+        let end = place_item(&mut room, key, flags, value.bytes());
         return write_all(out, room.split_at(end).0);
     }
+    let end = place_line(&mut room, key, flags, value.len());
+    let end = place(&mut room, end, b"\r\n");
     put_block(out, room.split_at(end).0, value)
 }
 

@@ -2,6 +2,7 @@
 //! both are written at once.
 ghost use Rattle.std.specs.Prelude.{◌≡◌, ◌+◌, ◌++◌, ◌≤◌, ◌∷◌, [], codes, decimal, length, take};
 ghost use Rattle.std.specs.List.{concat};
+ghost use Rattle.mc_reply.specs.internal.SlotTexts.{plain_item};
 
 use crate::number::{DIGIT_LIMIT, place_number};
 
@@ -15,6 +16,9 @@ pub const SHORT_HEADER: usize = 256;
 
 /// Maximum length of a header without its key, with a short value and its line end.
 pub const BESIDE_KEY: usize = 172;
+
+/// Maximum length of the reply of a hit of `mg` without flags, with a short value, but for its marks.
+pub const BESIDE_MARKS: usize = 145;
 
 /// Maximum length of a header without its key, up to the size.
 pub const LINE_BESIDE_KEY: usize = 48;
@@ -50,6 +54,38 @@ pub fn place_line(room: &mut [u8], key: &[u8], flags: u32, size: usize) -> usize
     let end = place_number(room, end, u64::from(flags));
     let end = place(room, end, b" ");
     place_number(room, end, size as u64)
+}
+
+/// Writes an item with a short value to the front of the buffer, and returns its length.
+#[inline(always)]
+pub fn place_item(room: &mut [u8], key: &[u8], flags: u32, value: &[u8]) -> usize
+    requires short { length value.now ≤ SHORT_VALUE }
+    requires room { length key.now + BESIDE_KEY ≤ length room.old }
+    ensures most { result ≤ length key.now + BESIDE_KEY }
+    ensures text { take result room.new ≡ plain_item key.now flags value.now }
+{
+    let end = place_line(room, key, flags, value.len());
+    let end = place(room, end, b"\r\n");
+    let end = place(room, end, value);
+    place(room, end, b"\r\n")
+}
+
+/// Writes the reply of a hit of `mg` without flags to the front of the buffer, and returns its
+/// length. The value is short, and `marks` ends the line.
+#[inline(always)]
+pub fn place_hit(room: &mut [u8], marks: &[u8], value: &[u8]) -> usize
+    requires short { length value.now ≤ SHORT_VALUE }
+    requires room { length marks.now + BESIDE_MARKS ≤ length room.old }
+    ensures most { result ≤ length marks.now + BESIDE_MARKS }
+    ensures text { take result room.new ≡
+        concat
+        (codes "VA " ∷ decimal (length value.now) ∷ marks.now ∷ value.now ∷ codes "\r\n" ∷ []) }
+{
+    let end = place(room, 0, b"VA ");
+    let end = place_number(room, end, value.len() as u64);
+    let end = place(room, end, marks);
+    let end = place(room, end, value);
+    place(room, end, b"\r\n")
 }
 
 /// Copies a cas unique and the line end to index `at`, and returns the index after them.

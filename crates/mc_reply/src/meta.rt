@@ -1,5 +1,5 @@
 //! Replies of the meta commands (protocol.txt, "Meta Commands").
-ghost use Rattle.std.specs.Prelude.{◌≡◌, ◌∷◌, ◌++◌, [], codes, decimal};
+ghost use Rattle.std.specs.Prelude.{◌≡◌, ◌≤◌, ◌∷◌, ◌++◌, [], codes, decimal, length};
 ghost use Rattle.std.specs.List.{concat};
 ghost use Rattle.mc_item.specs.declared.answer.Answer.TheVariants as answers;
 ghost use Rattle.mc_command.specs.declared.meta.MetaKind.{MetaKind};
@@ -9,7 +9,7 @@ ghost use Rattle.mc_reply.specs.Text as spec;
 
 use crate::block::put_block;
 use crate::classic::put_line;
-use crate::header::sized;
+use crate::header::{SHORT_HEADER, SHORT_VALUE, place_hit, sized};
 use itoa::Buffer;
 use mc_command::{MetaFlags, MetaKind, Profile, ReturnFlag};
 use mc_item::{Answer, Marks, MetaDone, MetaHit};
@@ -105,6 +105,11 @@ fn put_found<O: Sink>(
     let end = marks_line(flags.profile, hit.marks);
     if !value {
         return put_head(out, b"HD", flags, key, answer, end);
+    }
+    if hit.value.len() <= SHORT_VALUE && flags.returned.flags().is_empty() {
+        let mut room = [0; SHORT_HEADER];
+        let end = place_hit(&mut room, end, hit.value.bytes());
+        return write_all(out, room.split_at(end).0);
     }
     put_size(out, hit.value.len(), flags, key, answer)?;
     put_block(out, end, &hit.value)
@@ -223,7 +228,8 @@ fn put_size<O: Sink>(
 
 /// The flags `W`, `X` and `Z` of a hit, in the order of the profile, and the line end.
 pub fn marks_line(profile: Profile, marks: Marks) -> &'static [u8]
-    ensures { result.now ≡ spec.marks_text profile marks ++ codes "\r\n" }
+    ensures line { result.now ≡ spec.marks_text profile marks ++ codes "\r\n" }
+    ensures short { length result.now ≤ 8 }
 {
     match profile {
         Profile::Own => own_marks(marks),
@@ -233,7 +239,8 @@ pub fn marks_line(profile: Profile, marks: Marks) -> &'static [u8]
 
 /// The flags `W`, `X` and `Z` in memcached's order, and the line end.
 fn memcached_marks(marks: Marks) -> &'static [u8]
-    ensures { result.now ≡ spec.marks_text Profile.DropIn marks ++ codes "\r\n" }
+    ensures line { result.now ≡ spec.marks_text Profile.DropIn marks ++ codes "\r\n" }
+    ensures short { length result.now ≤ 8 }
 {
     match (marks.sent, marks.stale, marks.won) {
         (false, false, false) => b"\r\n",
@@ -249,7 +256,8 @@ fn memcached_marks(marks: Marks) -> &'static [u8]
 
 /// The flags `W`, `X` and `Z` in native order, and the line end.
 fn own_marks(marks: Marks) -> &'static [u8]
-    ensures { result.now ≡ spec.marks_text Profile.Own marks ++ codes "\r\n" }
+    ensures line { result.now ≡ spec.marks_text Profile.Own marks ++ codes "\r\n" }
+    ensures short { length result.now ≤ 8 }
 {
     match (marks.won, marks.stale, marks.sent) {
         (false, false, false) => b"\r\n",

@@ -1,5 +1,5 @@
 //! Pending replies: what a reply depends on besides its answers, and a slot for each answer.
-ghost use Rattle.std.specs.Prelude.{◌≡◌, ◌<◌, ◌↔◌, ◌∷◌, [], Some, None, IsTrue, IfOk, length, replicate, slice_set};
+ghost use Rattle.std.specs.Prelude.{◌≡◌, ◌<◌, ◌↔◌, ◌∷◌, [], Some, None, IsTrue, IfOk, is_none, length, replicate, slice_set};
 ghost use Rattle.mc_reply.specs.Server.{pending_reply_of_server};
 ghost use Rattle.mc_reply.specs.Slots.{missing_in};
 
@@ -10,7 +10,7 @@ use mc_item::{Answer, Kind};
 use mc_wire::Key;
 use std::alloc::{AllocError, Global};
 use std::marker::Model;
-use std::{mem, slice};
+use std::slice;
 
 /// What a reply's text depends on besides the answers.
 #[derive(Drop)]
@@ -158,14 +158,24 @@ impl Slots {
         requires { part < length self.old }
         ensures { self.new ≡ slice_set self.old part (Some answer) }
     {
-        let before = match &mut self.kept {
-            Kept::One(slot) => mem::replace(slot, Some(answer)),
-            Kept::Many(slots) => mem::replace(&mut slots[part], Some(answer)),
+        let vacant = match &mut self.kept {
+            Kept::One(slot) => put_in(slot, answer),
+            Kept::Many(slots) => put_in(&mut slots[part], answer),
         };
-        if before.is_none() {
+        if vacant {
             self.missing -= 1;
         }
     }
+}
+
+/// Stores an answer in a slot, and returns whether the slot was empty.
+fn put_in(slot: &mut Option<Answer>, answer: Answer) -> bool
+    ensures filled { slot.new ≡ Some answer }
+    ensures vacant { result ≡ is_none slot.old }
+{
+    let vacant = slot.is_none();
+    *slot = Some(answer);
+    vacant
 }
 
 /// A pending reply, with a slot for the answer of each part.

@@ -58,13 +58,12 @@ fn answer(alloc: Global, conn: &mut Conn, shards: &mut Vec<Shard>, history: &mut
     ensures { AnswersAll conn.old shards.old.items history.old conn.new shards.new.items
         history.new }
 {
-    while let Some((place, piece)) = conn.next_piece() {
+    while let Some((place, mut piece)) = conn.next_piece() {
         let sent = Snapshot::of(&piece);
         let (ticket, part, moment) = (piece.ticket, piece.part, piece.moment);
-        let op = piece.into_op();
-        let kind = op.kind();
+        let kind = piece.op.kind();
         let shard = &mut shards[place];
-        let answer = shard.run(alloc, op, moment);
+        let answer = shard.run_in_place(alloc, &mut piece.op, moment);
         let reply = Reply::new(ticket, part, kind, answer);
         history.note_run(place, sent, &reply);
         let Ok(()) = conn.accept(reply) else {

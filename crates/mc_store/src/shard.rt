@@ -21,18 +21,21 @@ mod reclaiming;
 mod running;
 mod stats;
 mod storing;
+mod write_error;
 
 use crate::access;
 use crate::fields::Fields;
 use crate::flushed::{Flushed, Turns};
 use crate::items::{Items, cost_of};
 use crate::shard::reclaiming::{clear_turns, make_turn};
+use crate::shard::write_error::WriteError;
 use mc_item::{Answer, Counting, Item, MetaDone, Op, OpStats, PackedExpiry, Status, Value};
 use mc_sizes::{MAX_BUDGET, MIN_BUDGET};
 use mc_wire::{Key, LATEST_MOMENT, MAX_VALUE_LIMIT};
 use std::alloc::{AllocError, Global};
 use std::collections::VecDeque;
 use std::hash::RandomState;
+use std::mem;
 use std::random::RandomSource;
 use thiserror::Error;
 
@@ -99,7 +102,7 @@ impl Shard {
     ghost use Rattle.mc_store.specs.State.{State, empty_state, arrived, is_due, flushed, without_dead, item_overhead, costs, entered};
     ghost use Rattle.mc_store.specs.Step.{makes, numbered};
     ghost use Rattle.mc_store.specs.Shard.{IsShard, Steps, held_of};
-    ghost use Rattle.mc_store.specs.internal.Parts.{Acts, Does, answered};
+    ghost use Rattle.mc_store.specs.internal.Parts.{Acts, Does, answered, written};
 
     /// An empty shard: the one at `index` of `shards` shards. Its items may cost `budget` bytes
     /// together, its values have at most `limit` bytes each, and `given` uniques were given before.
@@ -162,11 +165,34 @@ impl Shard {
         ensures step { Steps self.old op moment result self.new }
         ensures lawful { is_lawful (kind_of op) result ≡ true }
     {
+        let mut asked = op;
+        self.run_in_place(alloc, &mut asked, moment)
+    }
+
+    /// As `run`, of an operation that isn't moved: an operation has 136 bytes, and a read needs its
+    /// key alone. Another operation is left in its place where it is taken out.
+    pub fn run_in_place(&mut self, alloc: Global, op: &mut Op, moment: u64) -> Answer
+        ensures step { Steps self.old op.old moment result self.new }
+        ensures lawful { is_lawful (kind_of op.old) result ≡ true }
+    {
         self.arrive(moment);
-        let counting = Counting::of(&op, self.index == 0, self.makes(&op));
+        let counting = Counting::of(op, self.index == 0, self.makes(op));
         let answer = self.answer(alloc, op);
         self.op_stats.count_in(counting, Status::of(&answer));
         answer
+    }
+
+    /// Does what it is asked, at its own time, without counting it.
+    #[inline(always)]
+    #[tactic(auto, unfolding(mc_item::specs::Kind::is_lawful, mc_item::specs::Kind::kind_of))]
+    fn answer(&mut self, alloc: Global, op: &mut Op) -> Answer
+        ensures acts { Acts self.old op.old result self.new }
+        ensures lawful { is_lawful (kind_of op.old) result ≡ true }
+    {
+        match op {
+            Op::Fetch { key, touch } => self.fetch(key, *touch),
+            _ => self.answer_taken(alloc, op),
+        }
     }
 
     /// Whether the operation is to make an item of a miss.
@@ -198,14 +224,14 @@ impl Shard {
         }
     }
 
-    /// Does what it is asked, at its own time, without counting it.
-    #[inline(always)]
+    /// Does what it is asked, and takes it out of its place.
+    #[inline(never)]
     #[tactic(auto, unfolding(mc_item::specs::Kind::is_lawful, mc_item::specs::Kind::kind_of))]
-    fn answer(&mut self, alloc: Global, op: Op) -> Answer
-        ensures acts { Acts self.old op result self.new }
-        ensures lawful { is_lawful (kind_of op) result ≡ true }
+    fn answer_taken(&mut self, alloc: Global, op: &mut Op) -> Answer
+        ensures acts { Acts self.old op.old result self.new }
+        ensures lawful { is_lawful (kind_of op.old) result ≡ true }
     {
-        match op {
+        match mem::replace(op, Op::Stats) {
             Op::Store(asked) => self.store_classic(alloc, asked),
             Op::Fetch { key, touch } => self.fetch(&key, touch),
             Op::Count {
@@ -366,29 +392,27 @@ impl Shard {
     /// Puts the item under the key as the most recently used one, with a new unique, which it
     /// answers. Then two turns are looked at, and the item gets its own. Where memory is refused,
     /// for the item or for its turn, nothing changes.
-    fn write(&mut self, key: Key, mut item: Item, token: Option<u64>) -> Result<u64, Answer>
+    fn write(&mut self, key: Key, mut item: Item, token: Option<u64>) -> Result<u64, WriteError>
         requires fits { FitsBudget self.old.items.budget key item.value }
-        ensures does { (reply : ℕ → TheAnswer) →
+        ensures { (reply : ℕ → TheAnswer) →
             Does self.old key (λ settled.
             numbered settled token (λ unique after.
             (reply unique, entered after token key (record item { unique = unique }))))
-            (answered reply result) self.new }
-        ensures refused { IfErr result
-            (λ answer. (answer ≡ Answer.NoCas) ⊎ (answer ≡ Answer.NoMemory)) }
+            (written reply result) self.new }
     {
         let Some(unique) = self.unique_for(token) else {
             self.remove_dead(&key);
-            return Err(Answer::NoCas);
+            return Err(WriteError::NoCas);
         };
         let Ok(turn) = make_turn(&mut self.turns, token, &key, item.expiry) else {
             self.remove_dead(&key);
-            return Err(Answer::NoMemory);
+            return Err(WriteError::NoMemory);
         };
         item.unique = unique;
         item.last_access = self.time;
         if let Err(key) = self.items.put(key, item) {
             self.remove_dead(&key);
-            return Err(Answer::NoMemory);
+            return Err(WriteError::NoMemory);
         }
         self.count_given(token);
         self.take_turns(turn, unique);
@@ -418,7 +442,10 @@ impl Shard {
     {
         let size = item.value.len() as u64;
         let left = item.expiry.seconds_left(self.time);
-        let unique = self.write(key, item, token)?;
+        let unique = match self.write(key, item, token) {
+            Ok(unique) => unique,
+            Err(refused) => return Err(refused.answer()),
+        };
         Ok(MetaDone {
             unique,
             size,

@@ -369,13 +369,13 @@ impl<T: Token + Drop, S: Scribe<T> + Drop> Worker<T, S> {
         let Some((taken, token)) = self.ends.take_with(seat) else {
             return Turn::Nothing;
         };
-        let Request::Piece(piece) = taken else {
+        let Request::Piece(mut piece) = taken else {
             self.live[seat] = false;
             return Turn::Ended;
         };
         let (ticket, part, moment) = (piece.ticket, piece.part, piece.moment);
         gate.before(self.ends.number(), ticket);
-        let reply = run_piece(alloc, &mut self.shard, &mut self.scribe, seat, token, piece);
+        let reply = run_piece(alloc, &mut self.shard, &mut self.scribe, seat, token, &mut piece);
         self.pending = Some(Pending { seat, reply });
         Turn::Ran {
             ticket,
@@ -440,10 +440,10 @@ impl<T: Token + Drop, S: Scribe<T> + Drop> Worker<T, S> {
         if !self.live[seat] {
             return Next::Nothing;
         }
-        let Some((request, token)) = self.ends.take_with(seat) else {
+        let Some((mut request, token)) = self.ends.take_with(seat) else {
             return Next::Nothing;
         };
-        let Request::Piece(piece) = request else {
+        let Request::Piece(piece) = &mut request else {
             self.live[seat] = false;
             return Next::Ended;
         };
@@ -468,24 +468,24 @@ fn run_piece<T: Token, S: Scribe<T>>(
     scribe: &mut S,
     seat: usize,
     token: T,
-    piece: Piece,
+    piece: &mut Piece,
 ) -> Reply
     requires may { S.keeps scribe.old → T.may_send (S.route scribe.old seat)
         (map request.Piece (pieces_in (of_asker seat (S.log scribe.old))))
-        (request.Piece piece) token }
+        (request.Piece piece.old) token }
     requires ran { S.keeps scribe.old →
         RanOn (S.begin scribe.old) (S.log scribe.old) shard.old }
-    ensures step { Steps shard.old piece.op piece.moment result.answer shard.new }
+    ensures step { Steps shard.old piece.old.op piece.old.moment result.answer shard.new }
     ensures reply { shown result ≡ record {
-      ticket = piece.ticket;
-      part = piece.part;
-      kind = kind_of piece.op;
+      ticket = piece.old.ticket;
+      part = piece.old.part;
+      kind = kind_of piece.old.op;
       answer = result.answer;
     } }
     ensures log { S.keeps scribe.old → S.log scribe.new ≡ S.log scribe.old ++ record {
       shard = (S.route scribe.old seat).shard;
       asker = seat;
-      piece = piece;
+      piece = piece.old;
       answer = result.answer;
     } ∷ [] }
     ensures keeps { S.keeps scribe.new → S.keeps scribe.old }
@@ -493,10 +493,9 @@ fn run_piece<T: Token, S: Scribe<T>>(
     ensures begin { S.begin scribe.new ≡ S.begin scribe.old }
 {
     let (ticket, part, moment) = (piece.ticket, piece.part, piece.moment);
-    let sent = Snapshot::of(&piece);
-    let op = piece.into_op();
-    let kind = op.kind();
-    let answer = shard.run(alloc, op, moment);
+    let sent = Snapshot::of(piece);
+    let kind = piece.op.kind();
+    let answer = shard.run_in_place(alloc, &mut piece.op, moment);
     scribe.runs(seat, token, sent, &answer);
     Reply::new(ticket, part, kind, answer)
 }

@@ -4,7 +4,11 @@ use Rattle.mc_item.specs.declared.op.Op.{Op}
 use Rattle.mc_item.specs.declared.answer.Answer.{Answer}
 use Rattle.mc_item.specs.declared.answer.Answer.TheVariants.{NoMemory}
 use Rattle.mc_item.specs.Kind.{key_of}
+use Rattle.mc_item.specs.declared.answer.Answer.TheVariants as answers
 use Rattle.mc_store.specs.declared.shard.Shard.{Shard}
+use Rattle.mc_store.specs.declared.shard.write_error.WriteError.{WriteError}
+use Rattle.mc_store.specs.declared.shard.write_error.WriteError.TheVariants.{NoCas}
+use Rattle.mc_store.specs.declared.shard.write_error.WriteError.TheVariants as error
 use Rattle.mc_store.specs.State.{State, without_dead}
 use Rattle.mc_store.specs.Step.{Outcome, Answers}
 use Rattle.mc_store.specs.Shard.{IsShard}
@@ -24,6 +28,16 @@ Does old key outcome answer new =
 abbrev pub answered : {A : Type 0} → (A → Answer) → Result A Answer → Answer
 answered reply (Ok done) = reply done
 answered reply (Err answer) = answer
+
+-- the answer that reports why an item wasn't written
+abbrev pub refusal : WriteError → Answer
+refusal NoCas = answers.NoCas
+refusal error.NoMemory = NoMemory
+
+-- the answer of an item that was written with a unique, or refused
+abbrev pub written : (ℕ → Answer) → Result ℕ WriteError → Answer
+written reply (Ok unique) = reply unique
+written reply (Err refused) = refusal refused
 
 -- The shard did the operation, and is still to count it.
 abbrev pub Acts : Shard → Op → Answer → Shard → Type 0

@@ -212,7 +212,7 @@ impl Shard {
         let left = item.expiry.seconds_left(self.time);
         match self.write(key, item, None) {
             Ok(unique) => Answer::MetaHit(made_hit(unique, left)),
-            Err(answer) => answer,
+            Err(refused) => refused.answer(),
         }
     }
 }

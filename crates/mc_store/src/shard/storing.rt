@@ -70,7 +70,7 @@ impl Shard {
         let item = fresh_item(asked.value, asked.flags, expiry);
         match self.write(asked.key, item, asked.unique) {
             Ok(_) => Answer::Stored,
-            Err(answer) => answer,
+            Err(refused) => refused.answer(),
         }
     }
 

@@ -31,13 +31,13 @@ note_run-requires c =
     place_there _ _ _ _ _ _ _ (is_next _ _ _ _ _ _ _ records.more c.in-Some.ensures.some) in
     let got = slice_get_read shards (length shards) c.in-Some.place c.index_mut-shard.result.now refl below
     c.index_mut-shard.ensures.value in
-    let reply = reply_is c.in-Some.place c.in-Some.piece c.run-answer.result _ _
-    c.new-reply.ensures (rw c.into_op-op.ensures at c.kind-kind.ensures) in
-    let entry = entry_is c.in-Some.place c.in-Some.piece c.of-sent.result.value c.run-answer.result
+    let reply = reply_is c.in-Some.place c.in-Some.piece c.run_in_place-answer.result _ _
+    c.new-reply.ensures c.kind-kind.ensures in
+    let entry = entry_is c.in-Some.place c.in-Some.piece c.of-sent.result.value c.run_in_place-answer.result
     (shown c.new-reply.result) c.of-sent.ensures reply in
     record {
       may = can_note _ _ _ _ _ _ _ _ _ _ _ _ _ _ records c.in-Some.ensures.some got
-          (rw c.into_op-op.ensures at c.run-answer.ensures.step) c.of-sent.result.value c.new-reply.result.answer entry;
+          c.run_in_place-answer.ensures.step c.of-sent.result.value c.new-reply.result.answer entry;
       reply = reply ∙ ap reply_to (sym entry);
     }
 
@@ -57,12 +57,12 @@ loop-place-preserved c sizes place begin flow log is answers whole =
     place_there _ _ _ _ _ _ _ (is_next _ _ _ _ _ _ _ records.more c.in-Some.ensures.some) in
     let got = slice_get_read shards (length shards) c.in-Some.place c.index_mut-shard.result.now refl below
     c.index_mut-shard.ensures.value in
-    let reply = reply_is c.in-Some.place c.in-Some.piece c.run-answer.result _ _
-    c.new-reply.ensures (rw c.into_op-op.ensures at c.kind-kind.ensures) in
-    let entry = entry_is c.in-Some.place c.in-Some.piece c.of-sent.result.value c.run-answer.result
+    let reply = reply_is c.in-Some.place c.in-Some.piece c.run_in_place-answer.result _ _
+    c.new-reply.ensures c.kind-kind.ensures in
+    let entry = entry_is c.in-Some.place c.in-Some.piece c.of-sent.result.value c.run_in_place-answer.result
     (shown c.new-reply.result) c.of-sent.ensures reply in
     records_step _ _ _ _ _ _ _ _ _ _ _ _ _ _ _ _ _ _ _ records c.in-Some.ensures.some got
-    (rw c.into_op-op.ensures at c.run-answer.ensures.step) reply (λ sent_is. c.in-Ok.ensures.ok _ sent_is) entry
+    c.run_in_place-answer.ensures.step reply (λ sent_is. c.in-Ok.ensures.ok _ sent_is) entry
     (c.note_run.ensures sizes place begin flow.taken records.more.log records.more.answers.mine records.recorded)
 
 pub unreachable-requires : goal.unreachable-requires
@@ -71,8 +71,8 @@ unreachable-requires c =
     let records = c.loop-place.invariant can.sizes can.place can.begin can.flow can.log can.conn_is can.answers
     can.recorded in
     let next = is_next _ _ _ _ _ _ _ records.more c.in-Some.ensures.some in
-    let reply = reply_is c.in-Some.place c.in-Some.piece c.run-answer.result _ _
-    c.new-reply.ensures (rw c.into_op-op.ensures at c.kind-kind.ensures) in
+    let reply = reply_is c.in-Some.place c.in-Some.piece c.run_in_place-answer.result _ _
+    c.new-reply.ensures c.kind-kind.ensures in
     never_strange _ _ _ _ _ _ _ _ _ next reply (λ sent_is. (c.in_default-accept.ensures.err _ sent_is).0)
 
 pub returns : goal.returns

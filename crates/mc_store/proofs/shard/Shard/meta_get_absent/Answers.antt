@@ -7,6 +7,7 @@ use Rattle.mc_store.specs.State.{without_dead}
 use Rattle.mc_store.specs.Rows.{made_hit}
 use Rattle.mc_store.specs.Step.{absent_meta_get}
 use Rattle.mc_store.specs.Shard.{IsShard, held_of}
+use Rattle.mc_store.specs.internal.Parts.{refusal}
 use Rattle.mc_store.proofs.Writes.{as_answer}
 use Rattle.mc_store.proofs.Gets.{empty_item, vivified_item_as, vivified_as, made_hit_is}
 use Rattle.mc_store.proofs.shard.Shard.meta_get_absent.Goals as goal
@@ -36,7 +37,7 @@ returns-in-Ok-clause-does c = λ state h.
     (vivified_as settled c.args.key c.args.vivify c.in-Some.exptime (said c.in-Ok.unique) (held_of c.write.new.self)
     c.in-Some.is
     (vivified_item_as (held_of c.args.self.now) state c.args.key c.in-Some.exptime item (said c.in-Ok.unique)
-    (held_of c.write.new.self) h is (c.in-Ok.ensures.does said state h)))
+    (held_of c.write.new.self) h is (c.in-Ok.ensures said state h)))
 
 pub returns-in-Err-clause-does : goal.returns-in-Err-clause-does
 unfolding IsShard
@@ -48,7 +49,8 @@ returns-in-Err-clause-does c = λ state h.
     let expiry : c.from_exptime.result ≡ expiry_of c.in-Some.exptime time =
     rw (to_z-of_z w64 c.in-Some.exptime (search rules)) at c.from_exptime.ensures in
     let is : item ≡ empty_item (expiry_of c.in-Some.exptime time) 0 = rw (← expiry) c.empty_item-item.ensures in
-    vivified_as settled c.args.key c.args.vivify c.in-Some.exptime c.in-Err.answer (held_of c.write.new.self)
-    c.in-Some.is
-    (vivified_item_as (held_of c.args.self.now) state c.args.key c.in-Some.exptime item c.in-Err.answer
-    (held_of c.write.new.self) h is (c.in-Err.ensures.does said state h))
+    let told = refusal c.in-Err.refused in
+    rw c.answer.ensures
+    (vivified_as settled c.args.key c.args.vivify c.in-Some.exptime told (held_of c.write.new.self) c.in-Some.is
+    (vivified_item_as (held_of c.args.self.now) state c.args.key c.in-Some.exptime item told
+    (held_of c.write.new.self) h is (c.in-Err.ensures said state h)))

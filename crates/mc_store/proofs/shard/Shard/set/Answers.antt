@@ -6,6 +6,7 @@ use Rattle.mc_store.specs.State.{item_overhead, without_dead}
 use Rattle.mc_store.specs.Rows.{stored_item}
 use Rattle.mc_store.specs.Step.{is_too_large}
 use Rattle.mc_store.specs.Shard.{IsShard, held_of}
+use Rattle.mc_store.specs.internal.Parts.{refusal}
 use Rattle.mc_store.proofs.Stores.{fresh_of, set_stored}
 use Rattle.mc_store.proofs.Writes.{large_there, too_large, fits_both}
 use Rattle.mc_store.proofs.shard.Shard.set.Goals as goal
@@ -38,7 +39,7 @@ returns-in-Ok-clause-does c = λ state h.
     let small = large_there (held_of c.args.self.now) state c.args.asked.key c.args.asked.value c.len.result false h
     (sym c.len.ensures.value) (sym c.is_too_large.ensures ∙ c.if-is_too_large.false) in
     set_stored (held_of c.args.self.now) state c.args.asked c.fresh_item-item.result Stored (held_of c.write.new.self) h
-    made small (c.in-Ok.ensures.does (λ _. Stored) state h)
+    made small (c.in-Ok.ensures (λ _. Stored) state h)
 
 pub returns-in-Err-clause-does : goal.returns-in-Err-clause-does
 unfolding IsShard
@@ -50,5 +51,6 @@ returns-in-Err-clause-does c = λ state h.
     rw (← expiry) c.fresh_item-item.ensures in
     let small = large_there (held_of c.args.self.now) state c.args.asked.key c.args.asked.value c.len.result false h
     (sym c.len.ensures.value) (sym c.is_too_large.ensures ∙ c.if-is_too_large.false) in
-    set_stored (held_of c.args.self.now) state c.args.asked c.fresh_item-item.result c.in-Err.answer
-    (held_of c.write.new.self) h made small (c.in-Err.ensures.does (λ _. Stored) state h)
+    rw c.answer.ensures
+    (set_stored (held_of c.args.self.now) state c.args.asked c.fresh_item-item.result (refusal c.in-Err.refused)
+    (held_of c.write.new.self) h made small (c.in-Err.ensures (λ _. Stored) state h))

@@ -203,8 +203,8 @@ returns-in-Ok g c =
       turned = turned;
     })
 
-pub returns-in-Err : goal.returns-in-Err
-returns-in-Err g c =
+pub returns : goal.returns
+returns g c =
     let old : WorkerState = record {
       shard = held_of c.self.inside.shard;
       ends = c.self.inside.ends;

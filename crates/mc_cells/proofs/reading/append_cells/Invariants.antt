@@ -2,7 +2,7 @@
 use Rattle.std.proofs.Common.{◌≡◌, ◌+◌, ◌*◌, ◌≤◌, ◌++◌}
 use Rattle.std.specs.Prelude.{vec_len, vec_capacity}
 use Rattle.mc_cells.specs.Chain.{IsChain, chain_bytes}
-use Rattle.mc_cells.proofs.page.append_cells.Given as goal
+use Rattle.mc_cells.proofs.reading.append_cells.Given as goal
 
 abbrev pub invariant-loop-left : goal.invariant-loop-left
 invariant-loop-left l =

@@ -1,7 +1,7 @@
 -- The page has the bytes of the cells passed, and room for those that are left.
 use Rattle.std.proofs.Common.{◌≡◌, ◌*◌, ◌≤◌, ◌++◌}
 use Rattle.mc_cells.specs.Chain.{IsChain, chain_bytes}
-use Rattle.mc_cells.proofs.page.read_chain.Given as goal
+use Rattle.mc_cells.proofs.reading.read_chain.Given as goal
 
 abbrev pub invariant-loop-left : goal.invariant-loop-left
 invariant-loop-left l =

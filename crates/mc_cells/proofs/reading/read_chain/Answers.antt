@@ -1,7 +1,7 @@
 use Rattle.std.proofs.Common.{◌-◌, ◌++◌, ◌∙◌, ap, sym, arith, append_assoc}
 use Rattle.mc_cells.specs.Chain.{cell_at, chain_bytes, bytes_in, next_in}
 use Rattle.mc_cells.proofs.Taken.{bytes_behind, rest_is_chain}
-use Rattle.mc_cells.proofs.page.append_cells.Goals as goal
+use Rattle.mc_cells.proofs.reading.read_chain.Goals as goal
 
 pub loop-left-preserved : goal.loop-left-preserved
 loop-left-preserved c =
@@ -10,12 +10,12 @@ loop-left-preserved c =
     let slots = c.args.cells.now.slots in
     let at = c.loop-left.at in
     let left = c.loop-left.left in
-    let by = c.append_piece-at.ensures in
+    let by = c.read_piece-at.ensures in
     let behind = bytes_behind slots at left some in (
       rw by.next (rest_is_chain slots at left some before.0),
-      omega (arith, by.len, by.capacity, before.1, some),
+      omega (arith, by.spare, before.1, some),
       rw (by.bytes, by.next)
-          (append_assoc c.loop-left.out.items (bytes_in (cell_at slots at))
+          (append_assoc c.loop-left.page.items (bytes_in (cell_at slots at))
           (chain_bytes slots (left - 1) (next_in (cell_at slots at)))
-          ∙ ap (λ xs. c.loop-left.out.items ++ xs) (sym behind) ∙ before.2),
+          ∙ ap (λ xs. c.loop-left.page.items ++ xs) (sym behind) ∙ before.2),
     )
