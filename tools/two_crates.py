@@ -21,7 +21,7 @@ from sources import LIST, PARTS, TOP, below, files, libraries, text_of
 # The crates that are written into the library. All others are written into the program.
 LOWER = "mcd_lower"
 OF_LOWER = """
-    mc_poll mc_telemetry mc_wire mc_cells mc_command mc_sizes mc_fast mc_reader mc_item mc_store mc_reply mc_split mc_ring mc_join
+    mc_poll mc_telemetry mc_wire mc_budget mc_cells mc_command mc_sizes mc_fast mc_reader mc_item mc_store mc_reply mc_split mc_ring mc_join
     mc_conn mc_model mc_worker
 """.split()
 

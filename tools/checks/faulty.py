@@ -372,6 +372,7 @@ CALLS = {
     "never lets clients end it": without(["--enable-shutdown", "-A"]),
     "has memcached's rules": lambda words: [*words, "--drop-in"], "lets each client end it": lambda words: [*words, "-A"],
     "ignores the window": without(["--window"]),
+    "ignores the memory of clients": instead("--client-memory", "16g"),
     "ignores the idle timeout": without(["--idle-timeout"]),
     "ignores the mode of a socket": without(["--unix-mask", "-a"]),
     "ignores the number of connections": without(["--connections"]), "serves no metrics": without(["--metrics"]),

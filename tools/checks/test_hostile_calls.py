@@ -17,6 +17,7 @@ WITHOUT_PORT = ["nonsense", "", "256.0.0.1"]
 FAULTY_CALLS = [
     "--seats 0", "--seats 65537", "--seats 1 --seats 2", "--seats 1x", "--shards 0", "--shards 65", "--bytes 1023",
     "--bytes 68719476737", "--value-limit 1023", "--value-limit 8388609", "--line-limit 2047", "--line-limit 8388609", "--window 0", "--window 4097",
+    "--client-memory 16777215", "--client-memory 1025g",
     "--connections 0", "--connections 4294967296", "--listen", "--nope", "nope", "--at 3", "--stdio --seats 2",
     "--stdio --listen 127.0.0.1:0", "--stdio --connections 1", "--stdio --at x",
     "--replay", "--replay x --seats 2", "--replay x --stdio", "--replay x --bytes 1024",

@@ -12,7 +12,7 @@ import time
 
 import pytest
 
-from tools.served import MIB, STORED, TOP, Line, Server, set_of
+from tools.served import MIB, STORED, TOP, Line, Server, hit_of, set_of
 
 fails_with = pytest.mark.fails_with
 
@@ -149,6 +149,65 @@ def test_lines_of_32766_keys_are_bounded():
         with Line(server.port) as line:
             line.ask(set_of(b"k", b"x" * 1000), STORED)
         within(grown(server, lambda _: b"get" + b" k" * 32_766 + b"\n"), SEATS * (term("line") + term("commands") + term("text")) * MIB)
+
+
+# A server whose clients share 64 MiB, and 500 clients.
+SHARED, SHARING, CLIENTS = 64 * MIB, ("--seats", 600, "--memory", "64m", "--client-memory", "64m"), 500
+REFUSED = b"SERVER_ERROR out of memory\r\n"
+
+
+def is_served(line, number):
+    """A client beside the others stores and gets a value."""
+    value = b"%d" % number
+    line.ask(set_of(value, value) + b"get " + value + b"\r\n", STORED + hit_of(value, value))
+
+
+def leave(server, beside, lines, before):
+    """Once they have left, what they held is free again, ten seconds later at the latest."""
+    for line in lines:
+        line.reset()
+    bound, until, number = before + 32 * MIB + len(lines) * 12 * 1024, time.monotonic() + 10, 0
+    while server.resident() > bound and time.monotonic() < until:
+        number += 1
+        is_served(beside, number)
+        time.sleep(0.02)
+    within(server.resident() - before, bound - before)
+
+
+@fails_with("ignores the memory of clients")
+def test_open_blocks_share_the_memory_of_clients():
+    """Each of 500 clients sends a value of 1 MiB but for its last byte. Those for which there is no memory are refused at the end."""
+    with Server(*SHARING) as server, Line(server.port) as beside:
+        is_served(beside, 0)
+        before, lines = server.resident(), []
+        for number in range(CLIENTS):
+            lines.append(Line(server.port))
+            lines[-1].send(b"set k%d 0 0 %d\r\n" % (number, MIB) + b"v" * MIB + b"\r")
+            if number % 50 == 0:
+                is_served(beside, number)
+        wait_until_still(server)
+        within(server.most_resident() - before, SHARED + CLIENTS * term("line") * MIB)
+        # One of those that came first has memory, and the last has none.
+        lines[0].ask(b"\n", STORED)
+        lines[-1].ask(b"\n", REFUSED)
+        is_served(beside, CLIENTS)
+        leave(server, beside, lines, before)
+        beside.ask(set_of(b"large", b"v" * MIB), STORED)
+
+
+@fails_with("ignores the memory of clients")
+def test_replies_that_nobody_reads_share_the_memory_of_clients():
+    """Each of 12 clients asks for 16 MiB of short values at a time, and reads nothing. Some are closed, and the others wait."""
+    with Server(*SHARING) as server, Line(server.port) as beside:
+        beside.ask(set_of(b"v", b"x" * 2_000), STORED)
+        before, lines = server.resident(), []
+        for number in range(12):
+            lines.append(Line(server.port))
+            lines[-1].send(b"get" + b" v" * 8_000 + b"\r\n")
+            wait_until_still(server)
+            is_served(beside, number)
+        within(server.most_resident() - before, SHARED + term("text") / 8 * MIB)
+        leave(server, beside, lines, before)
 
 
 def fill(line, budget):

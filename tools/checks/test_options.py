@@ -456,12 +456,12 @@ ITEMS = "there is no option --items: limit the items of each shard by --bytes"
 FAULTS = [
     ("--items 5", ITEMS), ("--items 5 --replay x --shards 2", ITEMS),
     *((f"--replay x --{name} 2", f"--{name} can't be used with --replay, which takes no other option")
-      for name in ("at", "listen", "shards", "seats", "bytes", "memory", "value-limit", "line-limit", "window", "connections", "idle-timeout",
+      for name in ("at", "listen", "shards", "seats", "bytes", "memory", "value-limit", "line-limit", "window", "client-memory", "connections", "idle-timeout",
                    "metrics", "port", "memory-limit", "udp-port", "user", "pidfile")),
     *((f"--replay x --{name}", f"--{name} can't be used with --replay, which takes no other option")
       for name in ("stdio", "verbose", "drop-in", "plan", "daemon", "enable-shutdown")),
     *((f"--stdio --{name} 2", f"--{name} can't be used with {WITH_STDIO}")
-      for name in ("listen", "seats", "connections", "idle-timeout", "metrics", "port", "udp-port", "user", "pidfile")),
+      for name in ("listen", "seats", "client-memory", "connections", "idle-timeout", "metrics", "port", "udp-port", "user", "pidfile")),
     *((f"--stdio --{name}", f"--{name} can't be used with {WITH_STDIO}") for name in ("verbose", "plan", "daemon", "enable-shutdown")),
     ("--at 5", "--at needs --stdio"), ("--at 5 --seats 65537", "--at needs --stdio"),
     ("--bytes 64k --memory 1m", TWO_BUDGETS),
@@ -479,6 +479,8 @@ FAULTS = [
     ("--memory 4097g", "--memory " + SIZE.format(2048, 4398046511104, "4097g")),
     ("--memory 193g --shards 3", "--memory " + SIZE.format(3072, 206158430208, "193g")),
     ("--value-limit 9m", "--value-limit " + SIZE.format(1024, 8388608, "9m")),
+    ("--client-memory 15m", "--client-memory " + SIZE.format(16777216, 1099511627776, "15m")),
+    ("--client-memory 1025g", "--client-memory " + SIZE.format(16777216, 1099511627776, "1025g")),
     ("--line-limit 2047", "--line-limit " + SIZE.format(2048, 8388608, "2047")),
     ("--line-limit 8388609", "--line-limit " + SIZE.format(2048, 8388608, "8388609")),
     ("--drop-in --line-limit 1k", "--line-limit " + SIZE.format(2048, 8388608, "1k")),

@@ -14,6 +14,7 @@ use crate::dispatcher::Dispatcher;
 use crate::resting::RestingConn;
 use crate::source::StatsSource;
 use crate::taken_log::TakenLog;
+use mc_budget::ClientMemory;
 use mc_command::Rules;
 use mc_join::{Gone, ReorderBuffer, UnexpectedReply};
 use mc_reader::{Memory, Reader, Step};
@@ -80,7 +81,6 @@ impl Conn {
 
     /// A new connection over `shards` shards by these rules and with this window. It takes the room
     /// for the longest line and for the open commands. `Memory`: memory ran out.
-    #[tactic(auto, unfolding(crate::specs::Conn::IsConn))]
     pub fn under(alloc: Global, shards: usize, rules: Rules, window: usize) -> Result<Conn, Memory>
         requires shards { 0 < shards }
         requires limit { rules.value_limit ≤ MAX_VALUE_LIMIT }
@@ -88,8 +88,27 @@ impl Conn {
         requires window { 0 < window }
         ensures { IfOk result (λ conn. IsConn conn (new_flow shards rules window)) }
     {
+        Conn::sharing(alloc, shards, rules, window, ClientMemory::unlimited())
+    }
+
+    /// As `under`, and the memory of each incomplete data block is leased from what connections
+    /// share.
+    #[tactic(auto, unfolding(crate::specs::Conn::IsConn))]
+    pub fn sharing(
+        alloc: Global,
+        shards: usize,
+        rules: Rules,
+        window: usize,
+        memory: ClientMemory,
+    ) -> Result<Conn, Memory>
+        requires shards { 0 < shards }
+        requires limit { rules.value_limit ≤ MAX_VALUE_LIMIT }
+        requires line { rules.line_limit ≤ MAX_LINE_LIMIT }
+        requires window { 0 < window }
+        ensures { IfOk result (λ conn. IsConn conn (new_flow shards rules window)) }
+    {
         Ok(Conn {
-            reader: Reader::under(alloc, rules)?,
+            reader: Reader::sharing(alloc, rules, memory)?,
             dispatcher: Dispatcher {
                 reorder_buffer: ReorderBuffer::new(alloc, window)?,
                 unsent: PieceQueue::new(alloc),

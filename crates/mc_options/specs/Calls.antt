@@ -1,6 +1,6 @@
 -- What the program does, each with its options.
-use Rattle.std.specs.Prelude.{ℕ, ◌≡◌, ◌||◌, Bool, List, [], ◌∷◌, map, Option, Some, None, Ok, Err, Result, codes, find}
-use Rattle.std.specs.Prelude.{is_some, option_map, if◌then◌else◌}
+use Rattle.std.specs.Prelude.{ℕ, ◌≡◌, ◌*◌, ◌||◌, Bool, List, [], ◌∷◌, map, Option, Some, None, Ok, Err, Result, codes}
+use Rattle.std.specs.Prelude.{find, is_some, option_map, if◌then◌else◌}
 use Rattle.std.specs.Option.{option_map_or, option_or}
 use Rattle.clap.specs.Words.{Row, all_of, first_of}
 use Rattle.mc_sizes.specs.Sizes.{AreWithin}
@@ -10,7 +10,8 @@ use Rattle.mc_options.specs.declared.options.Options.TheVariants.{Listen, Replay
 use Rattle.mc_options.specs.Program.{rows_in}
 use Rattle.mc_options.specs.Wrong.{HasItems, NotOfReplay, NotOfStdio, NotOfTcp, Wrong}
 use Rattle.mc_options.specs.Flags.{is_flag}
-use Rattle.mc_options.specs.Numbers.{and_then, mode_by, number_given, number_if_given, number_in, sizes_by}
+use Rattle.mc_options.specs.Numbers.{and_then, client_memory_by, mode_by, number_given, number_if_given, number_in}
+use Rattle.mc_options.specs.Numbers.{sizes_by}
 
 -- what the program does
 pub data Call : Type 0 where
@@ -19,16 +20,17 @@ pub data Call : Type 0 where
   ServesLine : (at : Option ℕ) (sizes : Sizes) → Call
   ServesTcp :
       (places : List (List ℕ)) (path : Option (List ℕ)) (mode : ℕ) (port : List ℕ) (connections idle : Option ℕ)
-      (verbose : Bool) (metrics : Option (List ℕ)) (drain : ℕ) (plan ignores : Bool) (sizes : Sizes) → Call
+      (verbose : Bool) (metrics : Option (List ℕ)) (drain : ℕ) (plan ignores : Bool) (sizes : Sizes)
+      (clients : ℕ) → Call
 
 -- the call in the code
 abbrev pub call_of : Options → Call
 call_of Version = TellsVersion
 call_of (Replay file) = RunsSchedule file.now
 call_of (Stdio at sizes) = ServesLine at sizes
-call_of (Listen places path mode port connections idle verbose metrics drain plan ignores sizes) =
+call_of (Listen places path mode port connections idle verbose metrics drain plan ignores sizes clients) =
     ServesTcp (map (λ word. word.now) places.items) (option_map (λ text. text.now) path) mode port.now connections idle
-    verbose (option_map (λ text. text.now) metrics) drain plan ignores sizes
+    verbose (option_map (λ text. text.now) metrics) drain plan ignores sizes clients
 
 -- the first that is given of these options with a value, or of these without one
 abbrev pub first_given : (List ℕ → Option (List ℕ)) → List (List ℕ) → List (List ℕ) → Option (List ℕ)
@@ -44,15 +46,15 @@ other_than_replay =
     map codes
     (
     "at"
-    ∷ "listen" ∷ "shards" ∷ "seats" ∷ "bytes" ∷ "memory" ∷ "value-limit" ∷ "line-limit" ∷ "window" ∷ "connections" ∷
-    "idle-timeout" ∷ "metrics" ∷ "drain"
+    ∷ "listen" ∷ "shards" ∷ "seats" ∷ "bytes" ∷ "memory" ∷ "value-limit" ∷ "line-limit" ∷ "window" ∷
+    "client-memory" ∷ "connections" ∷ "idle-timeout" ∷ "metrics" ∷ "drain"
     ∷ "port" ∷ "memory-limit" ∷ "udp-port" ∷ "unix-socket" ∷ "unix-mask" ∷ "user" ∷ "pidfile" ∷ []
     )
 
 abbrev pub other_than_stdio : List (List ℕ)
 other_than_stdio =
-    map codes ("listen" ∷ "seats" ∷ "connections" ∷ "idle-timeout" ∷ "metrics" ∷ "drain" ∷ "port" ∷ "udp-port" ∷
-    "unix-socket" ∷ "unix-mask" ∷ "user" ∷ "pidfile" ∷ [])
+    map codes ("listen" ∷ "seats" ∷ "client-memory" ∷ "connections" ∷ "idle-timeout" ∷ "metrics" ∷ "drain" ∷ "port" ∷
+    "udp-port" ∷ "unix-socket" ∷ "unix-mask" ∷ "user" ∷ "pidfile" ∷ [])
 
 -- the schedule in the file is run, if no other option is given
 abbrev pub replay_by : (List ℕ → Option (List ℕ)) → List ℕ → Result Call Wrong
@@ -100,11 +102,12 @@ tcp_by given places =
     and_then (number_if_given given (codes "idle-timeout") 1 31536000) (λ idle.
     and_then (number_given given (codes "drain") 0 5 86400) (λ drain.
     and_then (sizes_by given seats) (λ sizes.
+    and_then (client_memory_by given (sizes.shards * sizes.bytes)) (λ clients.
     and_then (port_by given) (λ port.
     and_then (mode_by given) (λ mode.
     Ok
     (ServesTcp places (given (codes "unix-socket")) mode port connections idle (is_flag given (codes "verbose"))
-    (given (codes "metrics")) drain (is_flag given (codes "plan")) (is_one_ignored given) sizes)))))))))
+    (given (codes "metrics")) drain (is_flag given (codes "plan")) (is_one_ignored given) sizes clients))))))))))
 
 -- the call, or the first error
 abbrev pub call_by : (List ℕ → Option (List ℕ)) → List (List ℕ) → Result Call Wrong
@@ -131,5 +134,5 @@ abbrev pub HasAllowedSizes : Options → Type 0
 HasAllowedSizes Version = Unit {0}
 HasAllowedSizes (Replay file) = Unit {0}
 HasAllowedSizes (Stdio at sizes) = AreWithin sizes
-HasAllowedSizes (Listen places path mode port connections idle verbose metrics drain plan ignores sizes) =
+HasAllowedSizes (Listen places path mode port connections idle verbose metrics drain plan ignores sizes clients) =
     AreWithin sizes

@@ -133,6 +133,12 @@ budget_by given =
     (given (codes "memory")) (given (codes "memory-limit"))) (λ total.
     shares_by given (unwrap_or shards 2) total))
 
+-- what all connections together may hold in bytes, by the memory for items: by default a quarter of it, and at
+-- least 32 MiB
+abbrev pub client_memory_by : (List ℕ → Option (List ℕ)) → ℕ → Result ℕ Wrong
+client_memory_by given memory =
+    size_given given (codes "client-memory") 16777216 (greater (memory / 4) 33554432) 1099511627776
+
 -- the default line limit
 abbrev pub default_line : Profile → ℕ
 default_line Own = 65536

@@ -42,8 +42,8 @@ limit_rules =
     lettered (codes "t") (option_rule (codes "shards")) ∷ lettered (codes "c") (option_rule (codes "seats")) ∷
     option_rule (codes "bytes") ∷ option_rule (codes "memory")
     ∷ lettered (codes "I") (option_rule (codes "value-limit")) ∷ option_rule (codes "line-limit") ∷ option_rule
-    (codes "window") ∷ option_rule (codes "connections") ∷ flag_rule (codes "drop-in")
-    ∷ option_rule (codes "items") ∷ []
+    (codes "window") ∷ option_rule (codes "client-memory") ∷ option_rule (codes "connections")
+    ∷ flag_rule (codes "drop-in") ∷ option_rule (codes "items") ∷ []
 
 abbrev pub watch_rules : List Rule
 watch_rules =

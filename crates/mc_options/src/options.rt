@@ -4,7 +4,7 @@ ghost use Rattle.clap.specs.Words.{FailsBy, first_value, found_of, rows_of};
 ghost use Rattle.mc_sizes.specs.Sizes.{AreWithin};
 ghost use Rattle.mc_options.specs.Program.{rows_in, word_faults};
 ghost use Rattle.mc_options.specs.Wrong.{wrong_of};
-ghost use Rattle.mc_options.specs.Numbers.{budget_by, bytes_of, counted_of, default_line, digits_of, ends_by, greater, needed_for, megabytes_of, memory_of, mode_by, mode_in, number_given, number_if_given, number_in, octal, shares_by, size_given, size_in, sizes_by, total_of, unit_of, unless_bytes, without_last};
+ghost use Rattle.mc_options.specs.Numbers.{budget_by, bytes_of, client_memory_by, counted_of, default_line, digits_of, ends_by, greater, needed_for, megabytes_of, memory_of, mode_by, mode_in, number_given, number_if_given, number_in, octal, shares_by, size_given, size_in, sizes_by, total_of, unit_of, unless_bytes, without_last};
 ghost use Rattle.mc_options.specs.Flags.{is_flag, profile_by};
 ghost use Rattle.mc_options.specs.Calls.{HasAllowedSizes, SpellsOptions, call_by, call_of, first_given, given_in, is_one_ignored, places_in, places_of, port_by, replay_by, stdio_by, tcp_by};
 ghost use Rattle.mc_options.specs.Faults.{IsFaultOf, IsOfOptions};
@@ -43,6 +43,13 @@ const DEFAULT_PORT: &str = "11211";
 /// Default file mode of a Unix socket.
 const DEFAULT_MODE: u32 = 0o700;
 
+/// Minimum, least default and maximum of `--client-memory`, in bytes.
+const MIN_CLIENT_MEMORY: usize = 16_777_216;
+
+const DEFAULT_CLIENT_MEMORY: usize = 33_554_432;
+
+const MAX_CLIENT_MEMORY: usize = 1_099_511_627_776;
+
 /// A megabyte, memcached's unit of `-m`, in bytes.
 const MEGABYTE: usize = 1_048_576;
 
@@ -75,6 +82,8 @@ pub enum Options<'a> {
         /// Whether an option of memcached is given that has no effect.
         ignores: bool,
         sizes: Sizes,
+        /// What all connections together may hold, in bytes.
+        client_memory: usize,
     },
     /// Serve one connection over standard input and output.
     Stdio {
@@ -199,6 +208,7 @@ fn replay_in<'a>(matches: &ArgMatches<'a>, file: &'a str) -> Result<Options<'a>,
         "value-limit",
         "line-limit",
         "window",
+        "client-memory",
         "connections",
         "idle-timeout",
         "metrics",
@@ -237,6 +247,7 @@ fn stdio_in<'a>(matches: &ArgMatches<'a>) -> Result<Options<'a>, OptionError<'a>
     let options = &[
         "listen",
         "seats",
+        "client-memory",
         "connections",
         "idle-timeout",
         "metrics",
@@ -279,6 +290,7 @@ fn listen_in<'a>(
     let idle_timeout = number_if_given(matches, "idle-timeout", 1, MAX_IDLE)?;
     let drain = number_given(matches, "drain", 0, DEFAULT_DRAIN, MAX_DRAIN)?;
     let sizes = sizes_in(matches, seats)?;
+    let client_memory = client_memory_in(matches, sizes)?;
     let port = port_in(matches)?;
     let mode = mode_in(matches)?;
     Ok(Options::Listen {
@@ -294,6 +306,7 @@ fn listen_in<'a>(
         plan: is_flag(matches, "plan"),
         ignores: is_one_ignored(matches),
         sizes,
+        client_memory,
     })
 }
 
@@ -398,6 +411,38 @@ fn sizes_in<'a>(matches: &ArgMatches<'a>, seats: usize) -> Result<Sizes, OptionE
         window,
         shutdown,
     })
+}
+
+/// What all connections together may hold, in bytes: by default a quarter of the memory for items,
+/// and at least 32 MiB.
+fn client_memory_in<'a>(matches: &ArgMatches<'a>, sizes: Sizes) -> Result<usize, OptionError<'a>>
+    requires { AreWithin sizes }
+    ensures given { IfOk result (λ size.
+        client_memory_by (first_value (found_of matches.now)) (sizes.shards * sizes.bytes) ≡
+        Ok size) }
+    ensures refused { IfErr result (λ fault.
+        IsOfOptions fault ×
+        (client_memory_by (first_value (found_of matches.now)) (sizes.shards * sizes.bytes) ≡
+        Err (wrong_of fault))) }
+{
+    let quarter = quarter_of(sizes.shards, sizes.bytes);
+    size_given(
+        matches,
+        "client-memory",
+        MIN_CLIENT_MEMORY,
+        greater(quarter, DEFAULT_CLIENT_MEMORY),
+        MAX_CLIENT_MEMORY,
+    )
+}
+
+/// A quarter of the budget of all shards together.
+fn quarter_of(shards: usize, bytes: usize) -> usize
+    requires shards { shards ≤ 64 }
+    requires bytes { bytes ≤ 68719476736 }
+    ensures value { result ≡ shards * bytes / 4 }
+    ensures within { result ≤ 1099511627776 }
+{
+    shards * bytes / 4
 }
 
 /// The protocol profile.

@@ -26,7 +26,7 @@ type Told<'a> = (&'a str, Option<char>, &'a str, &'a str);
 
 /// The options in the order of `--help`: usage, server sizes, telemetry, and the remaining ones of
 /// memcached. A short letter has memcached's meaning.
-const OPTIONS: [Told<'static>; 29] = [
+const OPTIONS: [Told<'static>; 30] = [
     (
         "listen",
         Some('l'),
@@ -99,6 +99,12 @@ const OPTIONS: [Told<'static>; 29] = [
         None,
         "N",
         "Pending commands of each connection, 1 to 4096 [256]",
+    ),
+    (
+        "client-memory",
+        None,
+        "SIZE",
+        "Memory for what clients send and don't read, 16m to 1024g [32m or more]",
     ),
     (
         "connections",

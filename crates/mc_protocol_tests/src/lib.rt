@@ -5,6 +5,8 @@
 #[cfg(test)]
 mod asserting;
 #[cfg(test)]
+mod client_memory;
+#[cfg(test)]
 mod command;
 #[cfg(test)]
 mod item;

@@ -2,6 +2,7 @@
 ghost use Rattle.std.specs.Prelude.{◌≡◌, ◌+◌, ◌-◌, ◌≤◌, ◌<◌, ◌++◌, ◌↔◌, [], IfOk, IsTrue, length, take, drop, min};
 
 use crate::room::{append, remove_front};
+use mc_budget::ClientMemory;
 use mc_wire::DEFAULT_LINE_LIMIT;
 use std::alloc::{AllocError, Global};
 use std::marker::Model;
@@ -21,6 +22,8 @@ pub(crate) struct Buffer {
     /// Whether bytes were written beyond what an empty buffer keeps.
     reached_far: bool,
     alloc: Global,
+    /// The memory of which blocks that don't fit into the buffer take a lease.
+    memory: ClientMemory,
 }
 
 impl Model for Buffer {
@@ -40,7 +43,11 @@ impl Model for Buffer {
 
 impl Buffer {
     /// An empty buffer for `limit` bytes. Reserves all its memory.
-    pub(crate) fn new(alloc: Global, limit: usize) -> Result<Buffer, AllocError>
+    pub(crate) fn new(
+        alloc: Global,
+        limit: usize,
+        memory: ClientMemory,
+    ) -> Result<Buffer, AllocError>
         ensures { IfOk result (λ buffer. (buffer.bytes ≡ []) × (buffer.limit ≡ limit)) }
     {
         Ok(Buffer {
@@ -49,6 +56,7 @@ impl Buffer {
             limit,
             reached_far: false,
             alloc,
+            memory,
         })
     }
 
@@ -58,6 +66,11 @@ impl Buffer {
         ensures fits { length result.now ≤ self.now.limit }
     {
         self.bytes.as_slice().split_at(self.start).1
+    }
+
+    /// The memory that its connection shares with others.
+    pub(crate) fn memory(&self) -> &ClientMemory {
+        &self.memory
     }
 
     /// Whether the buffer is full.

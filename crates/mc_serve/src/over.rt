@@ -11,6 +11,7 @@ ghost use Rattle.mc_net.specs.One.{IsBack, flow_of, waits};
 
 use crate::error::ServeError;
 use crate::serving::serve;
+use mc_budget::ClientMemory;
 use mc_history::Evidence;
 use mc_net::{ServedLine, SingleSource};
 use mc_poll::{Poller, SpinPolicy};
@@ -74,7 +75,10 @@ pub fn serve_over<
     let shown = opening.show();
     let sources = sources_for(alloc, lines, &shown)?;
     let pollers = pollers_for(rt, alloc, sources.len(), sizes.shards)?;
-    let (back, evidence) = serve(rt, alloc, opening, sources, pollers, sizes, gate, clock)?;
+    let memory = ClientMemory::unlimited();
+    let (back, evidence) = serve(
+        rt, alloc, opening, sources, pollers, sizes, gate, clock, memory,
+    )?;
     gather(back, room, evidence)
 }
 

@@ -9,6 +9,7 @@ ghost use Rattle.mc_serve.specs.declared.connection_slot.SlotState.TheVariants a
 
 use crate::connection_slot::ConnectionSlot;
 use crate::slot_table::SlotTable;
+use mc_budget::ClientMemory;
 use mc_history::Evidence;
 use mc_net::ConnectionSource;
 use mc_poll::{Poller, Task};
@@ -51,7 +52,8 @@ where
     D::Transport: Transport<Warrant = Evidence>,
 {
     /// A reactor for these slots and workers. The poller is that of the thread that will run it;
-    /// any slot of the server may ring for the workers. Fails if memory for the buffers is refused.
+    /// any slot of the server may ring for the workers. Its connections share the memory with those
+    /// of other threads. Fails if memory for the buffers is refused.
     pub(crate) fn new(
         alloc: Global,
         seats: Vec<ConnectionSlot<D>>,
@@ -59,6 +61,7 @@ where
         poller: Poller,
         sizes: Sizes,
         clock: K,
+        memory: ClientMemory,
     ) -> Result<Reactor<D, G, K>, AllocError>
         requires { AllByRecursion (λ one.
             IsNewSeat sizes.shards (rules_of sizes) (D.flow one.source) one.session one.slot_state)
@@ -75,7 +78,7 @@ where
             seats: SlotTable::new(seats),
             workers,
             poller,
-            pool: BufferPool::new(alloc)?,
+            pool: BufferPool::sharing(alloc, memory)?,
             sizes,
             clock,
         })

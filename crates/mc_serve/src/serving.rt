@@ -18,6 +18,7 @@ use crate::error::ServeError;
 use crate::reactor::Reactor;
 use crate::recorded::RecordedChannels;
 use crate::settling::ReturnRoom;
+use mc_budget::ClientMemory;
 use mc_history::{Evidence, Member};
 use mc_net::ConnectionSource;
 use mc_poll::{Poller, ThreadGroup, ThreadGroupError, Wakers};
@@ -39,7 +40,7 @@ use std::vec::IntoIter;
 ///
 /// Each source has a slot; `sizes.seats` is ignored. Each poller has a thread. The threads get
 /// slots and shards in order, as many as their pollers have places and workers. The workers call
-/// the gate before each piece.
+/// the gate before each piece. All connections share the memory.
 ///
 /// Errors: `Memory`, or `Thread` if a thread can't be started, or if the pollers' places or workers
 /// are not as many as the slots or shards. No source was called then.
@@ -57,6 +58,7 @@ pub fn serve<
     sizes: Sizes,
     gate: G,
     clock: K,
+    memory: ClientMemory,
 ) -> Result<(Vec<D>, Evidence), ServeError>
 where
     D::Transport: Transport<Warrant = Evidence> + Send + 'static,
@@ -77,7 +79,9 @@ where
 {
     let seats = sources.len();
     let sizes = Sizes { seats, ..sizes };
-    match serve_all(rt, alloc, opening, sources, pollers, sizes, gate, clock) {
+    match serve_all(
+        rt, alloc, opening, sources, pollers, sizes, gate, clock, memory,
+    ) {
         Ok(back) => Ok(back),
         Err(refusal) => Err(ServeError::from(refusal)),
     }
@@ -98,6 +102,7 @@ fn serve_all<
     sizes: Sizes,
     gate: G,
     clock: K,
+    memory: ClientMemory,
 ) -> Result<(Vec<D>, Evidence), ThreadGroupError>
 where
     D::Transport: Transport<Warrant = Evidence> + Send + 'static,
@@ -128,6 +133,7 @@ where
         sizes,
         &gate,
         clock,
+        &memory,
     );
     let witness = match started {
         Ok(witness) => witness,
@@ -161,6 +167,7 @@ fn start<
     sizes: Sizes,
     gate: &Arc<G, Global>,
     clock: K,
+    memory: &ClientMemory,
 ) -> Result<Member, ThreadGroupError>
 where
     D::Transport: Transport<Warrant = Evidence> + Send + 'static,
@@ -187,7 +194,7 @@ where
 {
     let mut left = Unassigned::new(rt, alloc, opening, sources, &pollers, sizes, gate)?;
     for poller in pollers {
-        let part = left.next_part(alloc, poller, sizes, clock)?;
+        let part = left.next_part(alloc, poller, sizes, clock, memory.share()?)?;
         thread_group.start(rt, alloc, part)?;
     }
     if left.is_empty() {
@@ -331,6 +338,7 @@ where
         poller: Poller,
         sizes: Sizes,
         clock: K,
+        memory: ClientMemory,
     ) -> Result<Reactor<D, G, K>, AllocError>
         requires begin { AllByRecursion (λ one.
             IsNewSeat sizes.shards (rules_of sizes) (D.flow one.source) one.session one.slot_state)
@@ -348,7 +356,7 @@ where
     {
         let seats = take_some(alloc, &mut self.seats, poller.places())?;
         let workers = take_some(alloc, &mut self.workers, poller.workers())?;
-        Reactor::new(alloc, seats, workers, poller, sizes, clock)
+        Reactor::new(alloc, seats, workers, poller, sizes, clock, memory)
     }
 
     /// Whether no slot and no worker is left.

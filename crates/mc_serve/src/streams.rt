@@ -10,6 +10,7 @@ ghost use Rattle.mc_serve.specs.Connections.{AreServed, ServesConnections, seats
 use crate::error::ServeError;
 use crate::outcome::Outcome;
 use crate::serving::serve;
+use mc_budget::ClientMemory;
 use mc_history::Evidence;
 use mc_net::{Arrivals, StreamSource};
 use mc_poll::{GhostLog, Poller};
@@ -25,7 +26,7 @@ use std::time;
 
 /// Serves the streams that arrive until no more come, and reports all connections. It opens one
 /// history for all of them. Each of the arrivals has a slot; `sizes.seats` is ignored. Each poller
-/// has a thread, as in `serve`.
+/// has a thread, as in `serve`. All connections share the memory.
 ///
 /// Errors: `Memory` and `Thread` as in `serve`; `Bind` if a slot could accept no more connections,
 /// though more may come.
@@ -42,6 +43,7 @@ pub fn serve_streams<
     sizes: Sizes,
     gate: G,
     clock: K,
+    memory: ClientMemory,
 ) -> Result<Outcome<A::Stream>, ServeError>
 where
     A::Stream: Send + 'static,
@@ -58,7 +60,9 @@ where
     let seats = arrivals.len();
     let mut opening = Opening::new(alloc, Sizes { seats, ..sizes })?;
     let sources = sources_for(rt, alloc, &mut opening, arrivals, sizes)?;
-    let (back, evidence) = serve(rt, alloc, opening, sources, pollers, sizes, gate, clock)?;
+    let (back, evidence) = serve(
+        rt, alloc, opening, sources, pollers, sizes, gate, clock, memory,
+    )?;
     gather(back, evidence)
 }
 

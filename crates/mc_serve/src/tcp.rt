@@ -8,6 +8,7 @@ use crate::idle_reaper::IdleReaper;
 use crate::outcome::Outcome;
 use crate::shard_telemetry::ShardTelemetry;
 use crate::streams::serve_streams;
+use mc_budget::ClientMemory;
 use mc_net::{Acceptor, AcceptorHandle, Handoff, Listener, Socket};
 use mc_poll::{Poller, SpinPolicy};
 use mc_sizes::Sizes;
@@ -31,7 +32,7 @@ const AT_ONCE: SpinPolicy = SpinPolicy {
 /// Serves the connections that the listeners accept, each in a free slot, until `connections` have
 /// ended; forever if it is `None`. Each shard has a thread, which also serves its share of the
 /// slots. One more thread accepts. Connections beyond the slots wait in the backlog, or are refused
-/// by memcached's rules.
+/// by memcached's rules. All connections share the memory.
 ///
 /// Connections are counted in `telemetry`, which also has the idle timeout and the requests for
 /// shutdown. A connection that exceeds the timeout is closed. After a request, none is accepted any
@@ -51,6 +52,7 @@ pub fn serve_tcp<
     connections: Option<u64>,
     clock: K,
     telemetry: Telemetry,
+    memory: ClientMemory,
 ) -> Result<Outcome<Socket>, ServeError>
     requires { MayServe sizes }
     // One log explains what was read from all connections, what was written to them and what the
@@ -74,7 +76,7 @@ pub fn serve_tcp<
         gate,
         beside,
     } = opened;
-    let served = serve_streams(rt, alloc, handoffs, pollers, sizes, gate, clock);
+    let served = serve_streams(rt, alloc, handoffs, pollers, sizes, gate, clock, memory);
     beside.end(rt);
     served
 }

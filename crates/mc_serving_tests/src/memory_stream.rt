@@ -4,6 +4,7 @@ ghost use Rattle.std.specs.Vec.Iter.{into_iter_items};
 
 use crate::asserting::{equal, holds};
 use crate::sizes::SMALL;
+use mc_budget::ClientMemory;
 use mc_net::{Accept, Arrivals, NewStream, Stream};
 use mc_poll::{Poller, SpinPolicy};
 use mc_serve::{ServeError, serve_streams};
@@ -124,7 +125,8 @@ fn streams_over_memory_are_served(rt: HostRuntime) -> Result<(), Fail> {
         pollers.push(Poller::new(alloc, spin_policy, 2, 0, 1)?)?;
     }
     let clock = FixedClock(1000);
-    match serve_streams(&rt, alloc, seats, pollers, SMALL, OpenGate, clock) {
+    let memory = ClientMemory::unlimited();
+    match serve_streams(&rt, alloc, seats, pollers, SMALL, OpenGate, clock, memory) {
         Ok(served) => {
             equal(&rt, served.ended, 3);
             let replies = b"MN\r\nMN\r\nSTORED\r\nVALUE a 0 1\r\nx\r\nEND\r\n";

@@ -63,12 +63,14 @@ fn no_option(rt: HostRuntime) -> Result<(), Fail> {
             ignores,
             drain,
             sizes,
+            client_memory,
         } => {
             holds(&rt, places.as_slice() == ["127.0.0.1"].as_slice());
             equal(&rt, (path, metrics, port), (None, None, "11211"));
             equal(&rt, (connections, idle_timeout), (None, None));
             equal(&rt, (verbose, plan, ignores), (false, false, false));
             equal(&rt, (mode, drain), (0o700, 5));
+            equal(&rt, client_memory, 33_554_432);
             holds(&rt, sizes == wanted);
         }
         _ => holds(&rt, false),
@@ -109,6 +111,28 @@ fn each_call(rt: HostRuntime) -> Result<(), Fail> {
     let words = words_of(alloc, "mcd --version --items 5")?;
     let options = read_options(alloc, words.as_slice())?;
     holds(&rt, options == Options::Version);
+    Ok(())
+}
+
+/// By default a quarter of the memory for items, and at least 32 MiB.
+#[test]
+fn client_memory(rt: HostRuntime) -> Result<(), Fail> {
+    let alloc = rt.alloc();
+    let calls = [
+        ("mcd --client-memory 16m", 16_777_216),
+        ("mcd --client-memory 1024g", 1_099_511_627_776),
+        ("mcd --memory 64m", 33_554_432),
+        ("mcd --memory 1g", 268_435_456),
+        ("mcd --memory 1g --client-memory 64m", 67_108_864),
+        ("mcd --shards 4 --bytes 64m", 67_108_864),
+    ];
+    for (call, bytes) in calls {
+        let words = words_of(alloc, call)?;
+        match read_options(alloc, words.as_slice())? {
+            Options::Listen { client_memory, .. } => equal(&rt, client_memory, bytes),
+            _ => holds(&rt, false),
+        }
+    }
     Ok(())
 }
 

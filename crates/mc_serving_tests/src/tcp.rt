@@ -3,6 +3,7 @@ ghost use Rattle.std.specs.Prelude.{◌≤◌};
 
 use crate::asserting::equal;
 use crate::sizes::SMALL;
+use mc_budget::ClientMemory;
 use mc_net::Listener;
 use mc_serve::serve_tcp;
 use mc_server::FixedClock;
@@ -72,6 +73,7 @@ fn serve_client<
         Some(1),
         FixedClock(1000),
         telemetry,
+        ClientMemory::unlimited(),
     );
     Ok((client.join(rt)?, served.ok().map(|served| served.ended)))
 }
@@ -126,6 +128,7 @@ fn serve_three<
         Some(3),
         FixedClock(1000),
         telemetry,
+        ClientMemory::unlimited(),
     );
     let ended = served.ok().map(|served| served.ended);
     let no_op = first.join(rt)?.as_slice() == b"MN\r\n".as_slice();
@@ -179,6 +182,7 @@ fn serve_idle<
         Some(1),
         FixedClock(1000),
         telemetry,
+        ClientMemory::unlimited(),
     );
     let ended = served.ok().map(|served| served.ended);
     let mut totals = counts.totals();

@@ -11,3 +11,4 @@ pub mod More
 pub mod Traces
 mod RowsLazy
 pub mod Clerking
+pub mod Held

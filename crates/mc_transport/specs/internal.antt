@@ -2,3 +2,4 @@ pub mod Stands
 pub mod Steps
 pub mod Reading
 pub mod Resting
+pub mod Held

@@ -2,6 +2,7 @@
 ghost use Rattle.std.specs.Prelude.{◌≡◌, ◌<◌, [], OnOk, length};
 
 use crate::buffered_conn::BufferedConn;
+use mc_budget::ClientMemory;
 use std::alloc::{AllocError, Global};
 use std::mem;
 
@@ -35,12 +36,19 @@ pub struct BufferPool {
     sleeps: u32,
     /// Number of lines that have buffers.
     held: usize,
+    /// What connections share.
+    memory: ClientMemory,
     ghost empty: { replies.items ≡ [] },
 }
 
 impl BufferPool {
-    /// Both buffers. The one for replies has no memory yet.
+    /// Both buffers, for lines whose memory has no limit. The one for replies has no memory yet.
     pub fn new(alloc: Global) -> Result<BufferPool, AllocError> {
+        BufferPool::sharing(alloc, ClientMemory::unlimited())
+    }
+
+    /// Both buffers, for lines that share this memory. The one for replies has no memory yet.
+    pub fn sharing(alloc: Global, memory: ClientMemory) -> Result<BufferPool, AllocError> {
         Ok(BufferPool {
             alloc,
             input: vec![in alloc; 0; ROOM]?,
@@ -49,7 +57,13 @@ impl BufferPool {
             unused: 0,
             sleeps: 0,
             held: 0,
+            memory,
         })
+    }
+
+    /// A handle to what connections share.
+    pub(crate) fn memory(&self) -> Result<ClientMemory, AllocError> {
+        self.memory.share()
     }
 
     /// Makes sure that there is a buffer to read into: a new one where a line has it.

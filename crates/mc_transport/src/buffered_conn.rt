@@ -7,6 +7,7 @@ use crate::buffer_pool::BufferPool;
 use crate::read_side::{AfterTurn, ReadSide};
 use crate::transport::{Clock, Taking, Transport};
 use crate::write_buffer::WriteBuffer;
+use mc_budget::ClientMemory;
 use mc_conn::{Conn, RestingConn, Taken};
 use mc_sizes::Sizes;
 use std::alloc::{AllocError, Global};
@@ -83,8 +84,23 @@ impl BufferedConn {
         ensures { IfOk result
             (λ buffered_conn. IsNew sizes.shards (rules_of sizes) sizes.window buffered_conn) }
     {
-        let unwritten = WriteBuffer::with_room(alloc)?;
-        let Ok(conn) = Conn::under(alloc, sizes.shards, sizes.rules(), sizes.window) else {
+        BufferedConn::sharing(alloc, sizes, ClientMemory::unlimited())
+    }
+
+    /// As `new`, and the memory of each incomplete data block, and of replies that wait, is leased
+    /// from what connections share.
+    pub(crate) fn sharing(
+        alloc: Global,
+        sizes: Sizes,
+        memory: ClientMemory,
+    ) -> Result<BufferedConn, AllocError>
+        requires { SuitLines sizes }
+        ensures { IfOk result
+            (λ buffered_conn. IsNew sizes.shards (rules_of sizes) sizes.window buffered_conn) }
+    {
+        let unwritten = WriteBuffer::sharing(alloc, memory.share()?)?;
+        let (shards, rules, window) = (sizes.shards, sizes.rules(), sizes.window);
+        let Ok(conn) = Conn::sharing(alloc, shards, rules, window, memory) else {
             return Err(AllocError);
         };
         Ok(BufferedConn {

@@ -9,6 +9,7 @@ mod laws;
 mod line_buffers;
 mod read_buffer;
 mod read_side;
+mod reply_memory;
 mod transport;
 mod warrant;
 mod write_buffer;

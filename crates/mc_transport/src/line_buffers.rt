@@ -176,7 +176,7 @@ fn any_buffers(alloc: Global, sizes: Sizes, pool: &mut BufferPool) -> Option<Box
     if let Some(line) = pool.take_conn() {
         return Some(line);
     }
-    fresh_buffers(alloc, sizes).ok()
+    fresh_buffers(alloc, sizes, pool).ok()
 }
 
 /// The buffers of a seat's first line, of which nothing was read. `AllocError`: memory was refused.
@@ -189,19 +189,23 @@ pub fn new_buffers(
     ensures { IfOk result
         (λ line. IsNew sizes.shards (rules_of sizes) sizes.window line.value) }
 {
-    let line = fresh_buffers(alloc, sizes)?;
+    let line = fresh_buffers(alloc, sizes, pool)?;
     pool.note_held();
     Ok(line)
 }
 
 /// The buffers of a line of which nothing was read. `AllocError`: memory was refused.
 #[inline(never)]
-fn fresh_buffers(alloc: Global, sizes: Sizes) -> Result<Box<BufferedConn>, AllocError>
+fn fresh_buffers(
+    alloc: Global,
+    sizes: Sizes,
+    pool: &BufferPool,
+) -> Result<Box<BufferedConn>, AllocError>
     requires { SuitLines sizes }
     ensures { IfOk result
         (λ line. IsNew sizes.shards (rules_of sizes) sizes.window line.value) }
 {
-    let line = BufferedConn::new(alloc, sizes)?;
+    let line = BufferedConn::sharing(alloc, sizes, pool.memory()?)?;
     match Box::new(alloc, line) {
         Ok(line) => Ok(line),
         Err(_) => Err(AllocError),

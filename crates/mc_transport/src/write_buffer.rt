@@ -1,12 +1,14 @@
 //! Replies that are due and that their line has not taken yet.
-ghost use Rattle.std.specs.Prelude.{◌≡◌, ◌<◌, ◌≤◌, ◌^◌, ◌++◌, [], false, IfOk, IsTrue, OnErr, OnOk, drop, length, take};
+ghost use Rattle.std.specs.Prelude.{◌≡◌, ◌↔◌, ◌<◌, ◌≤◌, ◌^◌, ◌++◌, [], false, IfOk, IsTrue, OnErr, OnOk, drop, length, take};
 ghost use Rattle.mc_wire.specs.Sink.{Listed, broke, sight_out, took};
 ghost use Rattle.mc_transport.specs.Lines.{HasGrown, TakesFront};
 ghost use Rattle.mc_transport.specs.Chunks.{bytes_of};
 
 use crate::buffer_pool::BufferPool;
+use crate::reply_memory::ReplyMemory;
 use crate::transport::Transport;
 use bytes::Bytes;
+use mc_budget::ClientMemory;
 use mc_wire::{Sink, SinkError};
 use std::alloc::{AllocError, Global};
 use std::collections::VecDeque;
@@ -58,6 +60,8 @@ pub struct WriteBuffer {
     pub(crate) tail: Vec<u8>,
     /// Memory was refused.
     refused: bool,
+    /// The memory of what waits, as a part of what all connections may hold.
+    held: ReplyMemory,
     ghost within: { sent ≤ length (bytes_of front) },
 }
 
@@ -68,6 +72,13 @@ impl WriteBuffer {
     pub fn new(alloc: Global) -> WriteBuffer
         ensures { text_in result ≡ [] }
     {
+        WriteBuffer::empty(alloc, ReplyMemory::new(alloc, ClientMemory::unlimited()))
+    }
+
+    /// No replies. Their memory is counted there.
+    fn empty(alloc: Global, held: ReplyMemory) -> WriteBuffer
+        ensures { text_in result ≡ [] }
+    {
         WriteBuffer {
             alloc,
             front: Chunk::Text(Vec::new(alloc)),
@@ -75,14 +86,16 @@ impl WriteBuffer {
             later: VecDeque::new(alloc),
             tail: Vec::new(alloc),
             refused: false,
+            held,
         }
     }
 
-    /// No replies, with a buffer for small ones, so that they take no memory when they are due.
-    pub fn with_room(alloc: Global) -> Result<WriteBuffer, AllocError>
+    /// No replies, with a buffer for small ones, so that they take no memory when they are due. What
+    /// waits beyond some is leased from what connections share.
+    pub(crate) fn sharing(alloc: Global, memory: ClientMemory) -> Result<WriteBuffer, AllocError>
         ensures { IfOk result (λ unwritten. text_in unwritten ≡ []) }
     {
-        let mut unwritten = WriteBuffer::new(alloc);
+        let mut unwritten = WriteBuffer::empty(alloc, ReplyMemory::new(alloc, memory));
         unwritten.tail = Vec::with_capacity(alloc, OWN_ROOM)?;
         Ok(unwritten)
     }
@@ -91,7 +104,12 @@ impl WriteBuffer {
     pub fn clear(&mut self)
         ensures { text_in self.new ≡ [] }
     {
-        *self = WriteBuffer::new(self.alloc);
+        self.front = Chunk::Text(Vec::new(self.alloc));
+        self.sent = 0;
+        self.later = VecDeque::new(self.alloc);
+        self.tail = Vec::new(self.alloc);
+        self.refused = false;
+        self.held.give_back();
     }
 
     /// Takes the thread's buffer for the next replies, where it is larger than its own.
@@ -256,26 +274,41 @@ impl WriteBuffer {
         if self.later.capacity() > KEPT_CHUNKS {
             self.later = VecDeque::new(self.alloc);
         }
+        self.held.give_back();
     }
 
-    /// The text waits too, behind the rest. Where memory is refused, the rest waits as before.
+    /// Whether the tail has no room for so many bytes more.
+    #[inline(always)]
+    fn lacks_room(&self, count: usize) -> bool
+        ensures { IsTrue result ↔ LacksRoom count self.now }
+    {
+        self.tail.capacity() - self.tail.len() < count
+    }
+
+    /// The text waits too, behind the rest. Where memory or a lease of it is refused, the rest waits
+    /// as before.
     fn add(&mut self, text: &[u8]) -> Result<(), AllocError>
         ensures ok { OnOk result (text_in self.new ≡ text_in self.old ++ text.now) }
         ensures err { OnErr result (text_in self.new ≡ text_in self.old) }
         ensures full { OnErr result (LacksRoom (length text.now) self.old) }
         ensures refused { self.new.refused ≡ self.old.refused }
     {
+        if self.lacks_room(text.len()) {
+            // As much as the tail grows by at most.
+            self.held.take(self.tail.capacity().max(text.len()))?;
+        }
         self.tail.extend_from_slice(text)
     }
 
-    /// The block waits too, behind the rest, and isn't copied. Where memory is refused, the rest
-    /// waits as before.
+    /// The block waits too, behind the rest, and isn't copied. Where memory or a lease of it is
+    /// refused, the rest waits as before.
     fn add_shared(&mut self, block: &Bytes) -> Result<(), AllocError>
         ensures ok { OnOk result
             (text_in self.new ≡ text_in self.old ++ block.now) }
         ensures err { OnErr result (text_in self.new ≡ text_in self.old) }
         ensures refused { self.new.refused ≡ self.old.refused }
     {
+        self.held.take_shared(block.len())?;
         let share = block.clone()?;
         self.later.reserve(2)?;
         let text = mem::replace(&mut self.tail, Vec::new(self.alloc));

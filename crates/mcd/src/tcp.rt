@@ -7,6 +7,7 @@ use crate::places::{Opened, Places, refuse_place};
 use crate::refuse;
 use crate::start::{tell_start, tell_warnings};
 use crate::version::VERSION;
+use mc_budget::ClientMemory;
 use mc_metrics::{Ended, Requester, TelemetryConfig, TelemetryError, start_telemetry};
 use mc_serve::{ServeError, serve_tcp};
 use mc_sizes::Sizes;
@@ -40,6 +41,7 @@ pub fn listen<
     places: Places<'_>,
     connections: Option<u64>,
     sizes: Sizes,
+    client_memory: u64,
     telemetry_config: TelemetryConfig<'_>,
 ) -> ExitCode
     requires { AreWithin sizes }
@@ -62,7 +64,10 @@ pub fn listen<
         Ok(begun) => begun,
         Err(fault) => return refuse_watching(rt, fault, sizes.shards, telemetry_config.metrics),
     };
-    let Ok(clock) = ServerClock::start(*rt, rt.alloc(), &sizes, &telemetry) else {
+    let (Ok(clock), Ok(memory)) = (
+        ServerClock::start(*rt, rt.alloc(), &sizes, &telemetry),
+        ClientMemory::new(rt.alloc(), client_memory),
+    ) else {
         let _ = watching.end(rt);
         return refuse(rt, "out of memory");
     };
@@ -77,6 +82,7 @@ pub fn listen<
         connections,
         clock,
         telemetry,
+        memory,
     );
     let ended = watching.end(rt);
     match served {

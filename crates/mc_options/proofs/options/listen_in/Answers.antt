@@ -59,6 +59,20 @@ returns-in_err-sizes-clause-refused c =
           ∙ (step _ _ _ c.in_ok-drain.ensures.given ∙ step _ _ _ c.in_err-sizes.ensures.refused.1)))),
     )
 
+pub returns-in_err-client_memory-clause-refused : goal.returns-in_err-client_memory-clause-refused
+returns-in_err-client_memory-clause-refused c =
+    let none = sym c.first_given.ensures ∙ ap (option_map (λ name. name.now)) c.in_default.is in
+    passed_up c.from_residual-in_err-client_memory.result c.in_err-client_memory.field-0.0 _
+    c.from_residual-in_err-client_memory.ensures.1 (
+      c.in_err-client_memory.ensures.refused.0,
+      start NotOfTcp _ _ _ none
+          ∙ (step _ _ _ c.in_ok-seats.ensures.given
+          ∙ (step _ _ _ c.in_ok-connections.ensures.given
+          ∙ (step _ _ _ c.in_ok-idle_timeout.ensures.given
+          ∙ (step _ _ _ c.in_ok-drain.ensures.given
+          ∙ (step _ _ _ c.in_ok-sizes.ensures.given ∙ step _ _ _ c.in_err-client_memory.ensures.refused.1))))),
+    )
+
 pub returns-in_err-port-clause-refused : goal.returns-in_err-port-clause-refused
 returns-in_err-port-clause-refused c =
     let none = sym c.first_given.ensures ∙ ap (option_map (λ name. name.now)) c.in_default.is in
@@ -69,7 +83,8 @@ returns-in_err-port-clause-refused c =
           ∙ (step _ _ _ c.in_ok-connections.ensures.given
           ∙ (step _ _ _ c.in_ok-idle_timeout.ensures.given
           ∙ (step _ _ _ c.in_ok-drain.ensures.given
-          ∙ (step _ _ _ c.in_ok-sizes.ensures.given ∙ step _ _ _ c.in_err-port.ensures.refused.1))))),
+          ∙ (step _ _ _ c.in_ok-sizes.ensures.given
+          ∙ (step _ _ _ c.in_ok-client_memory.ensures.given ∙ step _ _ _ c.in_err-port.ensures.refused.1)))))),
     )
 
 pub returns-in_err-mode-clause-refused : goal.returns-in_err-mode-clause-refused
@@ -83,7 +98,8 @@ returns-in_err-mode-clause-refused c =
           ∙ (step _ _ _ c.in_ok-idle_timeout.ensures.given
           ∙ (step _ _ _ c.in_ok-drain.ensures.given
           ∙ (step _ _ _ c.in_ok-sizes.ensures.given
-          ∙ (step _ _ _ c.in_ok-port.ensures.given ∙ step _ _ _ c.in_err-mode.ensures.refused.1)))))),
+          ∙ (step _ _ _ c.in_ok-client_memory.ensures.given
+          ∙ (step _ _ _ c.in_ok-port.ensures.given ∙ step _ _ _ c.in_err-mode.ensures.refused.1))))))),
     )
 
 pub returns-clause-given : goal.returns-clause-given
@@ -96,7 +112,8 @@ returns-clause-given c =
     ∙ (step _ _ _ c.in_ok-idle_timeout.ensures.given
     ∙ (step _ _ _ c.in_ok-drain.ensures.given
     ∙ (step _ _ _ c.in_ok-sizes.ensures.given
-    ∙ (step _ _ _ c.in_ok-port.ensures.given ∙ step _ _ _ c.in_ok-mode.ensures.given)))))))
+    ∙ (step _ _ _ c.in_ok-client_memory.ensures.given
+    ∙ (step _ _ _ c.in_ok-port.ensures.given ∙ step _ _ _ c.in_ok-mode.ensures.given))))))))
 
 pub returns-clause-within : goal.returns-clause-within
 returns-clause-within c = c.in_ok-sizes.ensures.within
