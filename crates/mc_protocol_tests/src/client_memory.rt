@@ -4,7 +4,7 @@ use crate::asserting::{equal, holds};
 use mc_budget::{ClientMemory, Lease, Refused};
 use mc_command::{Command, CommandError, Rules};
 use mc_reader::{Next, Reader};
-use std::alloc::Global;
+use std::alloc::{AllocError, Global};
 use std::process::Abort;
 use std::test::Fail;
 
@@ -47,9 +47,9 @@ fn unlimited_memory_refuses_nothing(rt: HostRuntime) -> Result<(), Fail> {
 
 /// A reader with this memory, which was fed the front of a block of 600 bytes.
 fn begun(rt: &impl Abort, alloc: Global, memory: &ClientMemory) -> Result<Reader, Fail> {
-    let Ok(mut reader) = Reader::sharing(alloc, Rules::own(1_024), memory.share()?) else {
-        return Err(Fail);
-    };
+    let mut reader = Reader::sharing(alloc, Rules::own(1_024), memory.share()?).map_err(
+        |_| AllocError,
+    )?;
     let front = b"set a 0 0 600\r\nxxx";
     equal(rt, reader.feed(front), front.len());
     holds(rt, matches!(reader.next(alloc), Next::NeedMore));
