@@ -375,7 +375,14 @@ impl<T: Token + Drop, S: Scribe<T> + Drop> Worker<T, S> {
         };
         let (ticket, part, moment) = (piece.ticket, piece.part, piece.moment);
         gate.before(self.ends.number(), ticket);
-        let reply = run_piece(alloc, &mut self.shard, &mut self.scribe, seat, token, &mut piece);
+        let reply = run_piece(
+            alloc,
+            &mut self.shard,
+            &mut self.scribe,
+            seat,
+            token,
+            &mut piece,
+        );
         self.pending = Some(Pending { seat, reply });
         Turn::Ran {
             ticket,
