@@ -1,29 +1,30 @@
 -- The loops that make the channels.
-use Rattle.std.proofs.Common.{◌≡◌, ◌≢◌, ℕ, zero, suc, ◌<◌, ◌≤◌, ◌+◌, List, [], ◌∷◌, ◌++◌, ◌⊎◌, inl, inr, length, map}
+use Rattle.std.proofs.Common.{◌≡◌, ◌≢◌, ℕ, zero, suc, Bool, true, IsTrue, ◌<◌, ◌≤◌, ◌+◌, List, [], ◌∷◌, ◌++◌, ◌⊎◌}
+use Rattle.std.proofs.Common.{inl, inr, length, map}
 use Rattle.std.proofs.Common.{refl, ap, sym, ◌∙◌, arith, slice_set, Some, length-append, take}
 use Rattle.std.specs.List.{AllByRecursion, slice_get}
-use Rattle.std.proofs.lemmas.Option.{slice_get_within, slice_get-map, same_Some}
+use Rattle.std.proofs.lemmas.Option.{slice_get_within, same_Some}
 use Rattle.std.proofs.lemmas.List.{length-map, map-append}
 use Rattle.std.proofs.Math.Seq.{take-append_seam}
-use Rattle.mc_ring.specs.Channel.{Far, Near, Side}
+use Rattle.mc_ring.specs.Channel.{Channel, Far, Near, Side}
 use Rattle.mc_ring.specs.Ends.{Ends, channels_of}
 use Rattle.mc_ring.specs.EndsLaws.{get-set_other, length-slice_set}
-use Rattle.mc_ring.specs.Made.{AreChannels, AreNewEnds, AreRouted, IsChannel, IsUnused}
+use Rattle.mc_ring.specs.Made.{AreChannels, AreLanes, AreNewEnds, AreRouted, IsUnused}
 use Rattle.mc_ring.specs.Route.{Name}
-use Rattle.mc_ring.specs.internal.Joined.{Joined, Joins}
-use Rattle.mc_ring.proofs.Lists.{all_at, all_push, get_below, get_last}
+use Rattle.mc_ring.specs.internal.Joined.{AreJoined, AreLinked, Joined, Joins}
+use Rattle.mc_ring.proofs.Lists.{all_at, all_push, get_below, get_last, get_map}
 
 -- The first shards have one channel more, the others have not.
-pub record JoinsFirst (name : Name) (number capacity done : ℕ) (old new : List (Ends Far)) (row : List Near) : Type 0
-  where
-    pub count : length new ≡ length old
-    pub row_count : length row ≡ done
-    pub unused : AllByRecursion IsUnused row
-    pub holds : AllByRecursion (λ near. near.past.channel.capacity ≡ capacity) row
-    pub each : (s : ℕ) (shard shard' : Ends Far) (near : Near) → s < done → slice_get old s ≡ Some shard
-        → slice_get new s
-        ≡ Some shard' → slice_get row s ≡ Some near → Joined name number shard shard' near
-    pub others : (s : ℕ) → done ≤ s → slice_get new s ≡ slice_get old s
+pub record JoinsFirst (made : Bool) (name : Name) (number capacity done : ℕ) (old new : List (Ends Far))
+    (row : List Near) : Type 0 where
+  pub count : length new ≡ length old
+  pub row_count : length row ≡ done
+  pub unused : AllByRecursion IsUnused row
+  pub holds : AllByRecursion (λ near. near.past.channel.capacity ≡ capacity) row
+  pub each : (s : ℕ) (shard shard' : Ends Far) (near : Near) → s < done → slice_get old s ≡ Some shard
+      → slice_get new s
+      ≡ Some shard' → slice_get row s ≡ Some near → Joined made name number shard shard' near
+  pub others : (s : ℕ) → done ≤ s → slice_get new s ≡ slice_get old s
 
 -- Shards that have no channel.
 pub record NewShards (count : ℕ) (far : List (Ends Far)) : Type 0 where
@@ -57,12 +58,9 @@ module _ {A : Type 0} where
       elim (get_set xs i x j y here)
       [ inl other ↦ inl ((λ e. other.0 (omega arith)), other.1) | inr same ↦ inr (ap suc same.0, same.1) ]
 
-length-channels : {Out In : Type 0} (ends : Ends (Side Out In)) → length (channels_of ends) ≡ length ends.channels
-length-channels {Out} {In} ends = length-map ends.channels (λ (e : Side Out In). e.past.channel)
-
-pub joins_none : (name : Name) (number capacity : ℕ) (old : List (Ends Far))
-    → JoinsFirst name number capacity 0 old old []
-joins_none name number capacity old = record {
+pub joins_none : (made : Bool) (name : Name) (number capacity : ℕ) (old : List (Ends Far))
+    → JoinsFirst made name number capacity 0 old old []
+joins_none made name number capacity old = record {
   count = refl;
   row_count = refl;
   unused = tt;
@@ -72,11 +70,11 @@ joins_none name number capacity old = record {
 }
 
 -- after the last shard, where the room behind the elements is cut off again
-pub joins_all : (name : Name) (number capacity done : ℕ) (old new behind : List (Ends Far)) (row : List Near)
-    (count : ℕ) → length old ≤ done → done ≤ length new → count ≡ length old
-    → JoinsFirst name number capacity done old new row
-    → Joins name number capacity old (take count (new ++ behind)) row
-joins_all name number capacity done old new behind row count whole within counted first =
+pub joins_all : (made : Bool) (name : Name) (number capacity done : ℕ) (old new behind : List (Ends Far))
+    (row : List Near) (count : ℕ) → length old ≤ done → done ≤ length new → count ≡ length old
+    → JoinsFirst made name number capacity done old new row
+    → Joins made name number capacity old (take count (new ++ behind)) row
+joins_all made name number capacity done old new behind row count whole within counted first =
     let same : take count (new ++ behind) ≡ new = rw (counted ∙ sym first.count) (take-append_seam new behind) in
     rw same (record {
       count = first.count;
@@ -89,12 +87,12 @@ joins_all name number capacity done old new behind row count whole within counte
     })
 
 -- Where the first shards have a channel to the new seat, and the next gets one, unused and as large, one more has it.
-pub joins_next : (name : Name) (number capacity done : ℕ) (old new : List (Ends Far)) (row : List Near)
+pub joins_next : (made : Bool) (name : Name) (number capacity done : ℕ) (old new : List (Ends Far)) (row : List Near)
     (was next : Ends Far) (near : Near) → slice_get new done ≡ Some was
-    → JoinsFirst name number capacity done old new row → IsUnused near → near.past.channel.capacity ≡ capacity
-    → Joined name number was next near
-    → JoinsFirst name number capacity (done + 1) old (slice_set new done next) (row ++ near ∷ [])
-joins_next name number capacity done old new row was next near here first unused holds joined = record {
+    → JoinsFirst made name number capacity done old new row → IsUnused near → near.past.channel.capacity ≡ capacity
+    → Joined made name number was next near
+    → JoinsFirst made name number capacity (done + 1) old (slice_set new done next) (row ++ near ∷ [])
+joins_next made name number capacity done old new row was next near here first unused holds joined = record {
   count = length-slice_set new done next ∙ first.count;
   row_count = length-append row (near ∷ []) ∙ (let e = first.row_count in omega arith);
   unused = all_push IsUnused row near first.unused unused;
@@ -134,26 +132,45 @@ new_ends_more {Out} {In} number count capacity old new end grown unused holds ar
       (all_push (λ channel. channel.capacity ≡ capacity) (channels_of old) end.past.channel are.holds holds);
 })
 
-channel_stays : (seat : Ends Near) (shard shard' : Ends Far) (near : Near) (name : Name) (number : ℕ)
-    → Joined name number shard shard' near → IsChannel seat shard → IsChannel seat shard'
-channel_stays seat shard shard' near name number joined is = rw joined.grown (record {
-  channel = is.channel;
-  near = is.near;
-  far =
-      rw (map-append (λ (e : Far). e.past.channel) shard.channels (joined.far ∷ []))
-      (get-before (channels_of shard) joined.far.past.channel seat.number is.channel is.far);
-})
+-- the channels of a shard stay where it has one channel more, and the new one
 
-channel_made : (seat : Ends Near) (shard shard' : Ends Far) (near : Near) (name : Name) (number : ℕ)
-    → Joined name number shard shard' near → slice_get seat.channels shard.number ≡ Some near → seat.number
-    ≡ length shard.channels → IsChannel seat shard'
-channel_made seat shard shard' near name number joined here last = rw joined.grown (record {
+channels_stay : {made : Bool} {name : Name} {number : ℕ} {shard shard' : Ends Far} {near : Near}
+    (joined : Joined made name number shard shard' near) (place : ℕ) (channel : Channel)
+    → slice_get (channels_of shard) place ≡ Some channel → slice_get (channels_of shard') place ≡ Some channel
+channels_stay {made} {name} {number} {shard} {shard'} {near} joined place channel had =
+    rw (joined.grown, map-append (λ (e : Far). e.past.channel) shard.channels (joined.far ∷ []))
+    (get-before (channels_of shard) joined.far.past.channel place channel had)
+
+last_channel : {made : Bool} {name : Name} {number : ℕ} {shard shard' : Ends Far} {near : Near}
+    (joined : Joined made name number shard shard' near) (place : ℕ) → place ≡ length shard.channels
+    → slice_get (channels_of shard') place ≡ Some joined.far.past.channel
+last_channel {made} {name} {number} {shard} {shard'} {near} joined place last =
+    rw (joined.grown, map-append (λ (e : Far). e.past.channel) shard.channels (joined.far ∷ []), last)
+    (rw (← length-map shard.channels (λ (e : Far). e.past.channel))
+    (get_last (channels_of shard) joined.far.past.channel))
+
+number_stays : {made : Bool} {name : Name} {number : ℕ} {shard shard' : Ends Far} {near : Near}
+    → Joined made name number shard shard' near → shard'.number ≡ shard.number
+number_stays joined = rw joined.grown refl
+
+channel_stays : (seat : Ends Near) (shard shard' : Ends Far) (near : Near) (made : Bool) (name : Name) (number : ℕ)
+    → Joined made name number shard shard' near → AreLinked made seat shard → AreLinked made seat shard'
+channel_stays seat shard shard' near made name number joined is = record {
+  channel = is.channel;
+  near = rw (number_stays joined) is.near;
+  far = channels_stay joined seat.number is.channel is.far;
+  rings = is.rings;
+}
+
+channel_made : (seat : Ends Near) (shard shard' : Ends Far) (near : Near) (made : Bool) (name : Name) (number : ℕ)
+    → Joined made name number shard shard' near → slice_get seat.channels shard.number ≡ Some near → seat.number
+    ≡ length shard.channels → AreLinked made seat shard'
+channel_made seat shard shard' near made name number joined here last = record {
   channel = near.past.channel;
-  near = slice_get-map (λ (e : Near). e.past.channel) seat.channels shard.number ∙ rw here refl;
-  far =
-      rw (map-append (λ (e : Far). e.past.channel) shard.channels (joined.far ∷ []), last, ← joined.channel)
-      (rw (← length-channels shard) (get_last (channels_of shard) joined.far.past.channel));
-})
+  near = rw (number_stays joined) (get_map (λ (e : Near). e.past.channel) seat.channels shard.number near here);
+  far = last_channel joined seat.number last ∙ ap Some joined.channel;
+  rings = joined.rings;
+}
 
 every_map : {A B : Type 0} (f : A → B) (P : B → Type 0) (xs : List A) → AllByRecursion (λ x. P (f x)) xs
     → AllByRecursion P (map f xs)
@@ -161,19 +178,19 @@ every_map f P [] all = tt
 every_map f P (x ∷ xs) all = (all.0, every_map f P xs all.1)
 
 -- what a shard was before the row came
-record Before (name : Name) (number capacity s : ℕ) (old : List (Ends Far)) (row : List Near) (shard' : Ends Far) : Type
-    0 where
+record Before (made : Bool) (name : Name) (number capacity s : ℕ) (old : List (Ends Far)) (row : List Near)
+    (shard' : Ends Far) : Type 0 where
   shard : Ends Far
   near : Near
   here : slice_get old s ≡ Some shard
   there : slice_get row s ≡ Some near
-  joined : Joined name number shard shard' near
+  joined : Joined made name number shard shard' near
   holds : near.past.channel.capacity ≡ capacity
 
-shard_before : {name : Name} {number capacity : ℕ} {old new : List (Ends Far)} {row : List Near}
-    (joins : Joins name number capacity old new row) (s : ℕ) (shard' : Ends Far) → slice_get new s ≡ Some shard'
-    → Before name number capacity s old row shard'
-shard_before {name} {number} {capacity} {old} {new} {row} joins s shard' here' =
+shard_before : {made : Bool} {name : Name} {number capacity : ℕ} {old new : List (Ends Far)} {row : List Near}
+    (joins : Joins made name number capacity old new row) (s : ℕ) (shard' : Ends Far) → slice_get new s ≡ Some shard'
+    → Before made name number capacity s old row shard'
+shard_before {made} {name} {number} {capacity} {old} {new} {row} joins s shard' here' =
     let within : s < length new = slice_get_within new s shard' here' in
     let was = get_below old s (let e = joins.count in omega arith) in
     let there = get_below row s (let e = joins.count in let f = joins.row_count in omega arith) in
@@ -187,11 +204,11 @@ shard_before {name} {number} {capacity} {old} {new} {row} joins s shard' here' =
     }
 
 -- Once one seat more has a channel to each shard, there is a channel between each shard and each seat, that one too.
-pub channels_next : (name : Name) (seats shards capacity : ℕ) (near : List (Ends Near)) (old new : List (Ends Far))
-    (row : List Near) → Joins name seats capacity old new row
-    → AreChannels seats shards capacity near old
-    → AreChannels (seats + 1) shards capacity (near ++ record { number = seats; channels = row } ∷ []) new
-channels_next name seats shards capacity near old new row joins are =
+pub channels_next : (made : Bool) (name : Name) (seats shards capacity : ℕ) (near : List (Ends Near))
+    (old new : List (Ends Far)) (row : List Near) → Joins made name seats capacity old new row
+    → AreJoined made seats shards capacity near old
+    → AreJoined made (seats + 1) shards capacity (near ++ record { number = seats; channels = row } ∷ []) new
+channels_next made name seats shards capacity near old new row joins are =
     let seat_new : Ends Near = record { number = seats; channels = row } in
     record {
       seat_count = length-append near (seat_new ∷ []) ∙ (let e = are.seat_count in omega arith);
@@ -213,20 +230,20 @@ channels_next name seats shards capacity near old new row joins are =
           let was = shard_before joins s shard' here' in
           let old_shard = are.each_shard s was.shard was.here in
           elim (get_push near seat_new c seat here) [
-            | inl before ↦ channel_stays seat was.shard shard' was.near name seats was.joined
+            | inl before ↦ channel_stays seat was.shard shard' was.near made name seats was.joined
                 (are.each_channel c s seat was.shard before was.here)
             | inr last ↦ rw (← last.1)
-                (channel_made seat_new was.shard shard' was.near name seats was.joined
+                (channel_made seat_new was.shard shard' was.near made name seats was.joined
                 (rw old_shard.number_is was.there) (sym old_shard.counted))
           ];
     }
 
 -- The new seat's channels have their routes too.
-pub routed_next : (name : Name) (seats shards capacity : ℕ) (near : List (Ends Near)) (old new : List (Ends Far))
-    (row : List Near) → Joins name seats capacity old new row
-    → AreChannels seats shards capacity near old → AreRouted name near
+pub routed_next : (made : Bool) (name : Name) (seats shards capacity : ℕ) (near : List (Ends Near))
+    (old new : List (Ends Far)) (row : List Near) → Joins made name seats capacity old new row
+    → AreJoined made seats shards capacity near old → AreRouted name near
     → AreRouted name (near ++ record { number = seats; channels = row } ∷ [])
-routed_next name seats shards capacity near old new row joins are routed c s seat end here there =
+routed_next made name seats shards capacity near old new row joins are routed c s seat end here there =
     let seat_new : Ends Near = record { number = seats; channels = row } in
     elim (get_push near seat_new c seat here) [
       | inl before ↦ routed c s seat end before there
@@ -239,3 +256,29 @@ routed_next name seats shards capacity near old new row joins are routed c s sea
           let shard_is = are.each_shard s was.0 was.1 in
           joined.routed ∙ rw (shard_is.number_is, last.0, are.seat_count) refl
     ]
+
+-- Joined ends are channels where their rings are made.
+pub channels_joined : (seats shards capacity : ℕ) (near : List (Ends Near)) (far : List (Ends Far))
+    → AreJoined true seats shards capacity near far → AreChannels seats shards capacity near far
+channels_joined seats shards capacity near far are = record {
+  seat_count = are.seat_count;
+  shard_count = are.shard_count;
+  each_seat = are.each_seat;
+  each_shard = are.each_shard;
+  each_channel = λ c s seat shard here there.
+      let is = are.each_channel c s seat shard here there in
+      record { channel = is.channel; near = is.near; far = is.far; made = is.rings refl };
+}
+
+-- In any case they are channels whose rings may be still to be made.
+pub lanes_joined : (made : Bool) (seats shards capacity : ℕ) (near : List (Ends Near)) (far : List (Ends Far))
+    → AreJoined made seats shards capacity near far → AreLanes seats shards capacity near far
+lanes_joined made seats shards capacity near far are = record {
+  seat_count = are.seat_count;
+  shard_count = are.shard_count;
+  each_seat = are.each_seat;
+  each_shard = are.each_shard;
+  each_channel = λ c s seat shard here there.
+      let is = are.each_channel c s seat shard here there in
+      record { channel = is.channel; near = is.near; far = is.far };
+}

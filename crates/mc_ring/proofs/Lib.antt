@@ -4,3 +4,4 @@ pub mod SameEnds
 pub mod Stamping
 pub mod Sides
 pub mod ChannelLoops
+pub mod Looking

@@ -1,5 +1,6 @@
 -- What a push, a pop and a look do to one end of a channel.
-use Rattle.std.proofs.Common.{◌≡◌, ℕ, ◌+◌, ◌≤◌, List, [], ◌∷◌, ◌++◌, length, Some, Ok, refl, ap, ◌∙◌, length-append}
+use Rattle.std.proofs.Common.{◌≡◌, ℕ, ◌+◌, ◌≤◌, List, [], ◌∷◌, ◌++◌, length, Option, Some, Ok, refl, ap, ◌∙◌}
+use Rattle.std.proofs.Common.{length-append}
 use denote.RawPtr.{Ptr}
 use mathlib.Core.List.{IsPrefix}
 use Rattle.std.specs.declared.alloc.Global.{Global}
@@ -10,7 +11,7 @@ use Rattle.rtrb.specs.declared.consumer.Consumer.{Consumer}
 use Rattle.mc_ring.specs.declared.stamped.Stamped.{Stamped}
 use Rattle.mc_ring.specs.Route.{Name, Route}
 use Rattle.mc_ring.specs.Stamps.{IsBegun, behind, route_at}
-use Rattle.mc_ring.specs.Channel.{Channel, Past, Ring, Side, ring_in, ring_out}
+use Rattle.mc_ring.specs.Channel.{Channel, Past, Ring, Rings, Side, ring_in, ring_out}
 use Rattle.mc_ring.specs.Ends.{Receives, Sends, with_received, with_sent}
 use Rattle.mc_ring.proofs.Stamping.{begun_more, behind_more, route_more}
 
@@ -33,18 +34,22 @@ ring_in-same p q same = ring_is (ring_in p) (ring_in q) same.0.0 same.0.1 same.0
 pub ring_out-same : {T P : Type 0} (p q : Consumer T Global P) → SameConsumer p q → ring_out q ≡ ring_out p
 ring_out-same p q same = ring_is (ring_out p) (ring_out q) same.0.0 same.0.1 same.0.2 same.0.3
 
-abbrev channel_of : Ring → Ring → ℕ → Route → Channel
-channel_of requests replies capacity route =
-    record { requests = requests; replies = replies; capacity = capacity; route = route }
+-- the rings of a channel that was made with them
+abbrev made_of : Ring → Ring → Option Rings
+made_of requests replies = Some (record { requests = requests; replies = replies })
 
--- Channels with the same rings and the same route are the same.
-pub channel_is : (a b : Channel) → b.requests ≡ a.requests → b.replies ≡ a.replies → b.capacity ≡ a.capacity → b.route
-    ≡ a.route → b ≡ a
-channel_is a b p r c w =
-    ap (λ x. channel_of x b.replies b.capacity b.route) p
-    ∙ (ap (λ x. channel_of a.requests x b.capacity b.route) r
-    ∙ (ap (λ x. channel_of a.requests a.replies x b.route) c
-    ∙ ap (λ x. channel_of a.requests a.replies a.capacity x) w))
+-- These are the same where both rings are.
+pub rings_are : (p r p' r' : Ring) → p' ≡ p → r' ≡ r → made_of p' r' ≡ made_of p r
+rings_are p r p' r' one other = ap (λ x. made_of x r') one ∙ ap (λ x. made_of p x) other
+
+abbrev channel_of : Option Rings → ℕ → Route → Channel
+channel_of rings capacity route = record { rings = rings; capacity = capacity; route = route }
+
+-- Channels with the same rings, the same capacity and the same route are the same.
+pub channel_is : (a b : Channel) → b.rings ≡ a.rings → b.capacity ≡ a.capacity → b.route ≡ a.route → b ≡ a
+channel_is a b r c w =
+    ap (λ x. channel_of x b.capacity b.route) r
+    ∙ (ap (λ x. channel_of a.rings x b.route) c ∙ ap (λ x. channel_of a.rings a.capacity x) w)
 
 module _ {Out In : Type 0} where
   abbrev past_of : Channel → List Out → List In → Past Out In
@@ -58,13 +63,14 @@ module _ {Out In : Type 0} where
 
   -- An item was pushed.
   pub pushed : {T : Type 0} (view : T → Out) (item : T) (old new : Side Out In) → new.past.channel ≡ old.past.channel
-      → new.past.sent ≡ old.past.sent ++ view item ∷ [] → new.past.received ≡ old.past.received → new.ahead ≡ old.ahead
+      → new.past.sent ≡ old.past.sent ++ view item ∷ []
+      → new.past.received ≡ old.past.received → new.ahead ≡ old.ahead
       → old.free ≤ new.free + 1
       → Sends view item (Ok tt) old new
   pushed view item old new channel sent received ahead free = record {
     sent = past_is (with_sent (view item) old.past) new.past channel sent received;
     back = tt;
-    room = λ short. refl;
+    room = λ made short. refl;
     known = λ some. refl;
     left = free;
     full = tt;
@@ -74,8 +80,9 @@ module _ {Out In : Type 0} where
 
   -- An item was popped.
   pub popped : {T : Type 0} (view : T → In) (item : T) (old new : Side Out In) → new.past.channel ≡ old.past.channel
-      → new.past.sent ≡ old.past.sent → new.past.received ≡ old.past.received ++ view item ∷ []
-      → IsPrefix old.ahead (view item ∷ new.ahead) → new.free ≡ old.free
+      → new.past.sent ≡ old.past.sent
+      → new.past.received ≡ old.past.received ++ view item ∷ []
+      → IsPrefix old.ahead (view item ∷ new.ahead) → old.free ≤ new.free
       → Receives view (Some item) old new
   popped view item old new channel sent received first free = record {
     received = past_is (with_received (view item) old.past) new.past channel sent received;

@@ -1,6 +1,6 @@
 -- What a contract sees of the two ends of a channel. A channel is the two rings between a seat and a shard: requests go
 -- from the seat to the shard, replies come back.
-use Rattle.std.specs.Prelude.{ℕ, ◌<◌, ◌+◌, List, length}
+use Rattle.std.specs.Prelude.{ℕ, ◌<◌, ◌+◌, List, Option, None, length}
 use denote.RawPtr.{Ptr}
 use Rattle.std.specs.declared.alloc.Global.{Global}
 use Rattle.rtrb.specs.Shared.{Names}
@@ -36,10 +36,15 @@ ring_out consumer =
       heap = consumer.end.heap;
     }
 
--- which channel it is: its rings, how many items each of them holds, and its route
-pub record Channel : Type 0 where
+-- the rings of a channel
+pub record Rings : Type 0 where
   pub requests : Ring
   pub replies : Ring
+
+-- which channel it is: its rings, how many items each of them holds, and its route
+pub record Channel : Type 0 where
+  -- none of a channel whose rings are made at its first request
+  pub rings : Option Rings
   pub capacity : ℕ
   pub route : Route
 
@@ -68,3 +73,21 @@ Far = Side Shown Request
 -- Room is known for each push behind the first item until as many were made as the ring holds.
 abbrev pub HasRoom : {T P : Type 0} → Producer T Global P → Type 0
 HasRoom producer = producer_capacity producer < known_free producer + length (sent producer)
+
+-- the end of a channel whose rings are made at its first request: which ones isn't seen
+abbrev pub late : {Out In : Type 0} → Side Out In → Side Out In
+late end = record end { past = record end.past { channel = record end.past.channel { rings = None } } }
+
+-- the end of such a channel before its rings are made: all that passed is the End, if it did
+abbrev pub unmade : {Out In : Type 0} → ℕ → Route → List Out → List In → List In → Side Out In
+unmade capacity route sent received ahead =
+    record {
+      past =
+          record {
+            channel = record { rings = None; capacity = capacity; route = route };
+            sent = sent;
+            received = received;
+          };
+      ahead = ahead;
+      free = 0;
+    }

@@ -18,8 +18,8 @@ pub record Sends {Out In T : Type 0} (view : T → Out) (item : T) (result : Res
   pub sent : OnOk result (new.past ≡ with_sent (view item) old.past)
   -- what is handed back was not sent
   pub back : IfErr result (λ back. (view back ≡ view item) × (new.past ≡ old.past))
-  -- none is handed back while fewer than the capacity were sent
-  pub room : length old.past.sent < old.past.channel.capacity → IsOk result
+  -- where the rings were made with the channel, none is handed back while fewer than the capacity were sent
+  pub room : IsSome old.past.channel.rings → length old.past.sent < old.past.channel.capacity → IsOk result
   -- nor where room is known
   pub known : 0 < old.free → IsOk result
   pub left : OnOk result (old.free ≤ new.free + 1)
@@ -36,7 +36,7 @@ pub record Receives {Out In T : Type 0} (view : T → In) (result : Option T) (o
   -- one comes where one is known to wait
   pub known : 0 < length old.ahead → IsSome result
   pub empty : IfNone result (new.ahead ≡ [])
-  pub free : new.free ≡ old.free
+  pub free : old.free ≤ new.free
   pub channel : new.past.channel ≡ old.past.channel
 
 -- Nothing was sent or received, and no knowledge was lost.

@@ -93,6 +93,7 @@ channel_kept seat seat' shard shard' same same' is = record {
   channel = is.channel;
   near = rw (same.channels, same'.number) is.near;
   far = rw (same'.channels, same.number) is.far;
+  made = is.made;
 }
 
 pub same_ends-refl : {Out In : Type 0} (ends : Ends (Side Out In)) → AreSameEnds ends ends

@@ -2,16 +2,21 @@
 //! travels: requests one way, replies the other.
 #![tactic(auto)]
 
+mod handover;
 mod making;
+mod opening;
 mod pair;
+mod parcel;
 mod reply;
 mod request;
 mod seat;
+mod seat_lane;
 mod shard;
+mod shard_lane;
 mod stamped;
 mod token;
 
-pub use making::{RingError, channels, channels_with};
+pub use making::{RingError, channels, channels_with, channels_without_rings};
 pub use pair::beside;
 pub use reply::Reply;
 pub use request::Request;

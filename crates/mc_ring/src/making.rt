@@ -1,20 +1,19 @@
 //! Making the channels between seats and shards.
-ghost use Rattle.std.specs.Prelude.{◌≡◌, ◌≢◌, ◌<◌, ◌↔◌, ◌∷◌, ℕ, [], IfOk, IsErrOf, IsTrue, Err};
-ghost use Rattle.rtrb.specs.Ring.{IsPair, known_free, known_items, producer_capacity, received, sent};
+ghost use Rattle.std.specs.Prelude.{◌≡◌, ◌≢◌, ◌<◌, ◌↔◌, Bool, ℕ, [], IfOk, IsErrOf, IsSome, IsTrue, Err};
 ghost use Rattle.mc_sizes.specs.Sizes.{SuitChannels};
-ghost use Rattle.mc_ring.specs.Made.{AreChannels, AreRouted, IsUnused};
-ghost use Rattle.mc_ring.specs.internal.Joined.{Joins};
+ghost use Rattle.mc_ring.specs.Made.{AreChannels, AreLanes, AreRouted, IsUnused};
+ghost use Rattle.mc_ring.specs.internal.Joined.{AreJoined, Joins};
 
-use crate::reply::Reply;
-use crate::request::Request;
-use crate::seat::{SeatChannel, SeatEnds};
-use crate::shard::{ShardChannel, ShardEnds};
+use crate::handover::Handover;
+use crate::opening::new_ends;
+use crate::parcel::ChannelKey;
+use crate::seat::SeatEnds;
+use crate::seat_lane::SeatLane;
+use crate::shard::ShardEnds;
+use crate::shard_lane::ShardLane;
 use crate::stamped::{Numbers, Stamped};
-use crate::token::{Replies, Requests, Source, Token};
-use mc_item::{Answer, Kind};
-use mc_reply::Ticket;
+use crate::token::{Source, Token};
 use mc_sizes::{MAX_RING, MAX_SEATS, MAX_SHARDS, MIN, Sizes};
-use rtrb::{Consumer, Producer, Protocol, RingBuffer};
 use std::alloc::{AllocError, Global};
 use thiserror::Error;
 
@@ -64,10 +63,42 @@ pub fn channels_with<T: Token + Drop, S: Source<T>>(
     ensures size { IsErrOf result RingError.Size → ¬ (SuitChannels sizes) }
     ensures tested { result ≢ Err RingError.Size → SuitChannels sizes }
 {
+    suited_channels(alloc, sizes, true, source)
+}
+
+/// Makes channels, as `channels_with` does, whose rings are made at their first requests
+/// ([`SeatEnds::send_with`]). Until then a channel takes some 300 bytes.
+pub fn channels_without_rings<T: Token + Drop, S: Source<T>>(
+    alloc: Global,
+    sizes: Sizes,
+    source: &mut S,
+) -> Result<(Vec<SeatEnds<T>>, Vec<ShardEnds<T>>), RingError>
+    ensures made { IfOk result
+        (λ ends. AreLanes sizes.seats sizes.shards sizes.ring ends.0.items ends.1.items) }
+    ensures routed { IfOk result (λ ends. AreRouted (S.name source.old) ends.0.items) }
+    ensures size { IsErrOf result RingError.Size → ¬ (SuitChannels sizes) }
+    ensures tested { result ≢ Err RingError.Size → SuitChannels sizes }
+{
+    suited_channels(alloc, sizes, false, source)
+}
+
+/// The ends of all channels of a server of these sizes, with rings if `made` says so.
+fn suited_channels<T: Token + Drop, S: Source<T>>(
+    alloc: Global,
+    sizes: Sizes,
+    made: bool,
+    source: &mut S,
+) -> Result<(Vec<SeatEnds<T>>, Vec<ShardEnds<T>>), RingError>
+    ensures made { IfOk result
+        (λ ends. AreJoined made sizes.seats sizes.shards sizes.ring ends.0.items ends.1.items) }
+    ensures routed { IfOk result (λ ends. AreRouted (S.name source.old) ends.0.items) }
+    ensures size { IsErrOf result RingError.Size → ¬ (SuitChannels sizes) }
+    ensures tested { result ≢ Err RingError.Size → SuitChannels sizes }
+{
     if !suit_channels(sizes) {
         return Err(RingError::Size);
     }
-    Ok(all_channels(alloc, sizes.seats, sizes.shards, sizes.ring, source)?)
+    Ok(all_channels(alloc, sizes.seats, sizes.shards, sizes.ring, made, source)?)
 }
 
 /// Whether the numbers of seats, of shards and of places in a ring are within their limits.
@@ -79,24 +110,25 @@ fn suit_channels(sizes: Sizes) -> bool
         && (MIN..=MAX_RING).contains(&sizes.ring)
 }
 
-/// The ends of all channels, of whatever numbers.
+/// The ends of all channels, of whatever numbers, with rings if `made` says so.
 fn all_channels<T: Token + Drop, S: Source<T>>(
     alloc: Global,
     seats: usize,
     shards: usize,
     capacity: usize,
+    made: bool,
     source: &mut S,
 ) -> Result<(Vec<SeatEnds<T>>, Vec<ShardEnds<T>>), AllocError>
     requires { 0 < capacity }
     ensures made { IfOk result
-        (λ ends. AreChannels seats shards capacity ends.0.items ends.1.items) }
+        (λ ends. AreJoined made seats shards capacity ends.0.items ends.1.items) }
     ensures routed { IfOk result (λ ends. AreRouted (S.name source.old) ends.0.items) }
 {
     let mut far = shards_without_channels(alloc, shards)?;
     let mut near = Vec::with_capacity(alloc, seats)?;
     for number in 0..seats {
-        let channels = row(alloc, capacity, number, &mut far, source)?;
-        near.push(SeatEnds::new(number, channels))?;
+        let channels = row(alloc, capacity, number, made, &mut far, source)?;
+        near.push(SeatEnds::new(alloc, number, channels))?;
     }
     Ok((near, far))
 }
@@ -106,7 +138,8 @@ fn shards_without_channels<T: Token + Drop>(
     alloc: Global,
     shards: usize,
 ) -> Result<Vec<ShardEnds<T>>, AllocError>
-    ensures { (capacity : ℕ) → IfOk result (λ ends. AreChannels 0 shards capacity [] ends.items) }
+    ensures { (made : Bool) (capacity : ℕ) →
+        IfOk result (λ ends. AreJoined made 0 shards capacity [] ends.items) }
 {
     let mut far = Vec::with_capacity(alloc, shards)?;
     for number in 0..shards {
@@ -115,99 +148,64 @@ fn shards_without_channels<T: Token + Drop>(
     Ok(far)
 }
 
-/// One channel more for each shard: the other ends are those of the seat of this number.
+/// One channel more for each shard, with rings if `made` says so: the other ends are those of the
+/// seat of this number.
 fn row<T: Token + Drop, S: Source<T>>(
     alloc: Global,
     capacity: usize,
     number: usize,
+    made: bool,
     shards: &mut Vec<ShardEnds<T>>,
     source: &mut S,
-) -> Result<Vec<SeatChannel<T>>, AllocError>
+) -> Result<Vec<SeatLane<T>>, AllocError>
     requires { 0 < capacity }
-    ensures joins { IfOk result (λ row. Joins (S.name source.old) number capacity
+    ensures joins { IfOk result (λ row. Joins made (S.name source.old) number capacity
         shards.old.items shards.new.items row.items) }
     ensures source { S.name source.new ≡ S.name source.old }
 {
     let mut row = Vec::with_capacity(alloc, shards.len())?;
     for shard in shards.iter_mut() {
-        let (near, far) = channel(
-            alloc,
-            capacity,
-            Numbers {
-                seat: number,
-                shard: shard.number(),
-            },
-            source,
-        )?;
+        let numbers = Numbers {
+            seat: number,
+            shard: shard.number(),
+        };
+        let (near, far) = channel(alloc, capacity, numbers, made, source)?;
         shard.add(far)?;
         row.push(near)?;
     }
     Ok(row)
 }
 
-/// Both ends of a new channel.
+/// Both ends of a new channel, with rings if `made` says so.
 fn channel<T: Token + Drop, S: Source<T>>(
     alloc: Global,
     capacity: usize,
     numbers: Numbers,
+    made: bool,
     source: &mut S,
-) -> Result<(SeatChannel<T>, ShardChannel<T>), AllocError>
+) -> Result<(SeatLane<T>, ShardLane<T>), AllocError>
     requires { 0 < capacity }
     ensures near { IfOk result (λ ends. IsUnused ends.0) }
     ensures far { IfOk result (λ ends. IsUnused ends.1) }
     ensures channel { IfOk result (λ ends. ends.1.past.channel ≡ ends.0.past.channel) }
+    ensures rings { IsTrue made → IfOk result (λ ends. IsSome ends.0.past.channel.rings) }
     ensures capacity { IfOk result (λ ends. ends.0.past.channel.capacity ≡ capacity) }
     ensures route { IfOk result (λ ends. ends.0.past.channel.route ≡
         record { seat = numbers.seat; shard = numbers.shard; name = S.name source.old }) }
     ensures source { S.name source.new ≡ S.name source.old }
 {
-    let first = Stamped::first(Request::End, source.token(), numbers);
-    let (send, take) = ring::<Request, T, Requests<T>>(alloc, capacity, first)?;
-    let first = Stamped::first(no_reply(), source.token(), numbers);
-    let (give, receive) = ring::<Reply, T, Replies<T>>(alloc, capacity, first)?;
-    let near = SeatChannel {
-        requests: send,
-        replies: receive,
+    let key = ChannelKey {
+        capacity,
+        first: Stamped::first((), source.token(), numbers),
     };
-    let far = ShardChannel {
-        requests: take,
-        replies: give,
-    };
-    Ok((near, far))
-}
-
-/// The reply with which a ring of replies begins. Nobody receives it.
-#[tactic(auto, unfolding(mc_item::specs::Kind::is_lawful))]
-fn no_reply() -> Reply {
-    Reply::new(Ticket(0), 0, Kind::Flush, Answer::Done)
-}
-
-/// Both ends of a new ring, whose first item was put and taken.
-fn ring<I: Drop, T: Token + Drop, P: Protocol<Stamped<I, T>>>(
-    alloc: Global,
-    capacity: usize,
-    first: Stamped<I, T>,
-) -> Result<
-    (
-        Producer<Stamped<I, T>, Global, P>,
-        Consumer<Stamped<I, T>, Global, P>,
-    ),
-    AllocError,
->
-    requires capacity { 0 < capacity }
-    requires allowed { P.allows [] first }
-    ensures pair { IfOk result (λ ends. IsPair ends.0 ends.1) }
-    ensures sent { IfOk result (λ ends. sent ends.0 ≡ first ∷ []) }
-    ensures received { IfOk result (λ ends. received ends.1 ≡ first ∷ []) }
-    ensures known { IfOk result (λ ends. known_items ends.1 ≡ []) }
-    ensures free { IfOk result (λ ends. known_free ends.0 ≡ capacity) }
-    ensures capacity { IfOk result (λ ends. producer_capacity ends.0 ≡ capacity) }
-{
-    let (mut producer, mut consumer) = RingBuffer::with_protocol::<Global, P>(alloc, capacity)?;
-    producer.push_reserved(first);
-    consumer.slots_beside(&mut producer);
-    let _first = consumer.pop_known();
-    producer.slots_beside(&mut consumer);
-    consumer.slots_beside(&mut producer);
-    Ok((producer, consumer))
+    if !made {
+        let (near, far) = Handover::new(alloc, &key)?;
+        return Ok((
+            SeatLane::without_rings(key, near),
+            ShardLane::without_rings(far),
+        ));
+    }
+    let (_key, rings) = new_ends(alloc, key);
+    let (near, far) = rings?;
+    Ok((SeatLane::of_rings(near), ShardLane::of_rings(far)))
 }

@@ -1,10 +1,12 @@
 //! A seat's ends of its channels: it sends requests to the shards and receives their replies.
-ghost use Rattle.std.specs.Prelude.{◌≡◌, ◌<◌, IfSome, length};
+ghost use Rattle.std.specs.Prelude.{◌≡◌, ◌<◌, IfSome, Ok, Some, length};
 ghost use Rattle.mc_ring.specs.Reply.{shown};
 ghost use Rattle.mc_ring.specs.Ends.{AreSameEnds, AtChannel, HoldsAt, LooksFor, Receives, Sends};
+ghost use Rattle.mc_ring.specs.internal.Looking.{LooksForRoom};
 
 use crate::reply::Reply;
 use crate::request::Request;
+use crate::seat_lane::SeatLane;
 use crate::stamped::Stamped;
 use crate::token::{Replies, Requests, Token};
 use rtrb::{Consumer, Producer};
@@ -19,7 +21,7 @@ pub(crate) struct SeatChannel<T: Token> {
 }
 
 impl<T: Token> Model for SeatChannel<T> {
-    ghost use Rattle.std.specs.Prelude.{◌≡◌, map};
+    ghost use Rattle.std.specs.Prelude.{◌≡◌, Some, map};
     ghost use Rattle.mc_ring.specs.Reply.{shown};
     ghost use Rattle.rtrb.specs.Ring.{sent, received, producer_capacity, known_items, known_free};
     ghost use Rattle.mc_ring.specs.Channel.{Near, ring_in, ring_out, HasRoom};
@@ -30,8 +32,10 @@ impl<T: Token> Model for SeatChannel<T> {
     ghost view = { λ end. record {
       past = record {
         channel = record {
-          requests = ring_in end.requests;
-          replies = ring_out end.replies;
+          rings = Some (record {
+            requests = ring_in end.requests;
+            replies = ring_out end.replies;
+          });
           capacity = producer_capacity end.requests;
           route = route_at T.name (sent end.requests);
         };
@@ -48,33 +52,37 @@ impl<T: Token> Model for SeatChannel<T> {
 }
 
 impl<T: Token + Drop> SeatChannel<T> {
-    /// Sends a request, or returns it where the ring is full. The token is dropped then.
+    /// Whether there is room for a request.
     #[inline(always)]
-    pub(crate) fn send(&mut self, request: Request, token: T) -> Result<(), Request>
-        requires { T.may_send self.old.past.channel.route self.old.past.sent request token }
-        ensures { Sends (λ sent. sent) request result self.old self.new }
+    pub(crate) fn has_room(&mut self) -> bool
+        ensures { LooksForRoom result self.old self.new }
     {
-        if self.requests.is_full() {
-            return Err(request);
-        }
-        self.requests.push_reserved(Stamped::new(request, token));
-        Ok(())
+        !self.requests.is_full()
     }
 
-    /// Receives the reply that has waited longest, if one waits.
+    /// Sends a request where room is known.
     #[inline(always)]
-    pub(crate) fn receive(&mut self) -> Option<(Reply, T)>
-        ensures receives { Receives (λ got. shown got.0) result self.old self.new }
-        ensures may { IfSome result (λ got. T.may_give self.old.past.channel.route
-            self.old.past.received (shown got.0) got.1) }
+    pub(crate) fn put(&mut self, request: Request, token: T)
+        requires room { 0 < self.old.free }
+        requires may { T.may_send self.old.past.channel.route self.old.past.sent request token }
+        ensures { Sends (λ sent. sent) request (Ok tt) self.old self.new }
     {
-        if self.replies.is_empty() {
-            return None;
-        }
-        Some(self.replies.pop_known().open())
+        self.requests.push_reserved(Stamped::new(request, token));
+    }
+
+    /// Receives the reply that has waited longest, where one is known to wait.
+    #[inline(always)]
+    pub(crate) fn get(&mut self) -> (Reply, T)
+        requires { 0 < length self.old.ahead }
+        ensures receives { Receives (λ got. shown got.0) (Some result) self.old self.new }
+        ensures may { T.may_give self.old.past.channel.route self.old.past.received
+            (shown result.0) result.1 }
+    {
+        self.replies.pop_known().open()
     }
 
     /// Whether a reply waits. Allocates nothing.
+    #[inline(always)]
     pub(crate) fn has_reply(&mut self) -> bool
         ensures { LooksFor result self.old self.new }
     {
@@ -84,14 +92,16 @@ impl<T: Token + Drop> SeatChannel<T> {
 
 /// A seat's ends of its channels, one to each shard. Each request and each reply has a token.
 pub struct SeatEnds<T: Token = ()> {
+    alloc: Global,
     number: usize,
-    pub(crate) channels: Vec<SeatChannel<T>>,
+    pub(crate) channels: Vec<SeatLane<T>>,
 }
 
 impl<T: Token + Drop> Drop for SeatEnds<T> {
     /// Written by hand, so that its owners drop it by a single call (docs/DECISIONS.md, F20).
     fn drop(self) {
         let SeatEnds {
+            alloc: _alloc,
             number: _number,
             channels: _channels,
         } = self;
@@ -110,11 +120,15 @@ impl<T: Token> Model for SeatEnds<T> {
 impl<T: Token + Drop> SeatEnds<T> {
     ghost use Rattle.mc_ring.specs.Channel.{Near};
 
-    /// The ends of the seat of this number.
-    pub(crate) fn new(number: usize, channels: Vec<SeatChannel<T>>) -> SeatEnds<T>
+    /// The ends of the seat of this number. Rings that are still to be made are allocated by `alloc`.
+    pub(crate) fn new(alloc: Global, number: usize, channels: Vec<SeatLane<T>>) -> SeatEnds<T>
         ensures { result ≡ record { number = number; channels = channels.items } }
     {
-        SeatEnds { number, channels }
+        SeatEnds {
+            alloc,
+            number,
+            channels,
+        }
     }
 
     /// The seat's number.
@@ -132,7 +146,10 @@ impl<T: Token + Drop> SeatEnds<T> {
     }
 
     /// Sends a request to a shard with a token that allows it there. Where the ring is full, the
-    /// request is returned and the token dropped. Allocates nothing.
+    /// request is returned and the token dropped. The first request allocates the rings, unless they
+    /// were made with the channel or it is the `End`; where memory is refused, it is returned too,
+    /// and the call may be repeated.
+    #[inline(always)]
     pub fn send_with(&mut self, shard: usize, request: Request, token: T) -> Result<(), Request>
         requires shard { shard < length self.old.channels }
         requires may { HoldsAt
@@ -141,11 +158,12 @@ impl<T: Token + Drop> SeatEnds<T> {
         ensures channel { AtChannel (Sends (λ sent. sent) request result) shard self.old self.new }
         ensures same { AreSameEnds self.old self.new }
     {
-        self.channels[shard].send(request, token)
+        self.channels[shard].send(self.alloc, request, token)
     }
 
     /// Receives the reply of a shard that has waited longest, if one waits, with the token that
     /// allows it there. Allocates nothing.
+    #[inline(always)]
     pub fn receive_with(&mut self, shard: usize) -> Option<(Reply, T)>
         requires { shard < length self.old.channels }
         ensures channel { AtChannel (Receives (λ got. shown got.0) result) shard self.old self.new }
@@ -168,7 +186,7 @@ impl<T: Token + Drop> SeatEnds<T> {
 }
 
 impl SeatEnds<()> {
-    /// Sends a request to a shard, or returns it where the ring is full. Allocates nothing.
+    /// Sends a request to a shard, as `send_with` does.
     pub fn send(&mut self, shard: usize, request: Request) -> Result<(), Request>
         requires { shard < length self.old.channels }
         ensures channel { AtChannel (Sends (λ sent. sent) request result) shard self.old self.new }

@@ -1,10 +1,12 @@
 //! A shard's ends of its channels: it takes the requests of the seats and sends its replies.
-ghost use Rattle.std.specs.Prelude.{◌≡◌, ◌<◌, ◌++◌, ◌∷◌, [], IfSome, OnOk, length};
+ghost use Rattle.std.specs.Prelude.{◌≡◌, ◌<◌, ◌++◌, ◌∷◌, [], IfSome, Ok, OnOk, Some, length};
 ghost use Rattle.mc_ring.specs.Reply.{shown};
 ghost use Rattle.mc_ring.specs.Ends.{AreSameEnds, AtChannel, HoldsAt, LooksFor, Receives, Sends};
+ghost use Rattle.mc_ring.specs.internal.Looking.{LooksForRoom};
 
 use crate::reply::Reply;
 use crate::request::Request;
+use crate::shard_lane::ShardLane;
 use crate::stamped::Stamped;
 use crate::token::{Replies, Requests, Token};
 use rtrb::{Consumer, Producer};
@@ -19,7 +21,7 @@ pub(crate) struct ShardChannel<T: Token> {
 }
 
 impl<T: Token> Model for ShardChannel<T> {
-    ghost use Rattle.std.specs.Prelude.{◌≡◌, map};
+    ghost use Rattle.std.specs.Prelude.{◌≡◌, Some, map};
     ghost use Rattle.mc_ring.specs.Reply.{shown};
     ghost use Rattle.rtrb.specs.Ring.{sent, received, producer_capacity, known_items, known_free};
     ghost use Rattle.mc_ring.specs.Channel.{Far, ring_in, ring_out, HasRoom};
@@ -30,8 +32,10 @@ impl<T: Token> Model for ShardChannel<T> {
     ghost view = { λ end. record {
       past = record {
         channel = record {
-          requests = ring_out end.requests;
-          replies = ring_in end.replies;
+          rings = Some (record {
+            requests = ring_out end.requests;
+            replies = ring_in end.replies;
+          });
           capacity = producer_capacity end.replies;
           route = route_at T.name (received end.requests);
         };
@@ -48,33 +52,38 @@ impl<T: Token> Model for ShardChannel<T> {
 }
 
 impl<T: Token + Drop> ShardChannel<T> {
-    /// Takes the request that has waited longest, if one waits.
+    /// Takes the request that has waited longest, where one is known to wait.
     #[inline(always)]
-    pub(crate) fn take(&mut self) -> Option<(Request, T)>
-        ensures receives { Receives (λ got. got.0) result self.old self.new }
-        ensures may { IfSome result (λ got. T.may_send self.old.past.channel.route
-            self.old.past.received got.0 got.1) }
+    pub(crate) fn get(&mut self) -> (Request, T)
+        requires { 0 < length self.old.ahead }
+        ensures receives { Receives (λ got. got.0) (Some result) self.old self.new }
+        ensures may { T.may_send self.old.past.channel.route self.old.past.received
+            result.0 result.1 }
     {
-        if self.requests.is_empty() {
-            return None;
-        }
-        Some(self.requests.pop_known().open())
+        self.requests.pop_known().open()
     }
 
-    /// Sends a reply, or returns it where the ring is full. The token is dropped then.
+    /// Whether there is room for a reply.
     #[inline(always)]
-    pub(crate) fn give(&mut self, reply: Reply, token: T) -> Result<(), Reply>
-        requires { T.may_give self.old.past.channel.route self.old.past.sent (shown reply) token }
-        ensures { Sends shown reply result self.old self.new }
+    pub(crate) fn has_room(&mut self) -> bool
+        ensures { LooksForRoom result self.old self.new }
     {
-        if self.replies.is_full() {
-            return Err(reply);
-        }
+        !self.replies.is_full()
+    }
+
+    /// Sends a reply where room is known.
+    #[inline(always)]
+    pub(crate) fn put(&mut self, reply: Reply, token: T)
+        requires room { 0 < self.old.free }
+        requires may { T.may_give self.old.past.channel.route self.old.past.sent (shown reply)
+            token }
+        ensures { Sends shown reply (Ok tt) self.old self.new }
+    {
         self.replies.push_reserved(Stamped::new(reply, token));
-        Ok(())
     }
 
     /// Whether a request waits. Allocates nothing.
+    #[inline(always)]
     pub(crate) fn has_request(&mut self) -> bool
         ensures { LooksFor result self.old self.new }
     {
@@ -85,7 +94,7 @@ impl<T: Token + Drop> ShardChannel<T> {
 /// A shard's ends of its channels, one to each seat. Each request and each reply has a token.
 pub struct ShardEnds<T: Token = ()> {
     number: usize,
-    pub(crate) channels: Vec<ShardChannel<T>>,
+    pub(crate) channels: Vec<ShardLane<T>>,
 }
 
 impl<T: Token + Drop> Drop for ShardEnds<T> {
@@ -121,7 +130,7 @@ impl<T: Token + Drop> ShardEnds<T> {
     }
 
     /// Adds the shard's end of the next seat's channel.
-    pub(crate) fn add(&mut self, channel: ShardChannel<T>) -> Result<(), AllocError>
+    pub(crate) fn add(&mut self, channel: ShardLane<T>) -> Result<(), AllocError>
         ensures { OnOk result (self.new ≡
             record self.old { channels = self.old.channels ++ channel ∷ [] }) }
     {
@@ -159,6 +168,7 @@ impl<T: Token + Drop> ShardEnds<T> {
 
     /// Sends a reply to a seat with a token that allows it there. Where the ring is full, the reply
     /// is returned and the token dropped. Allocates nothing.
+    #[inline(always)]
     pub fn give_with(&mut self, seat: usize, reply: Reply, token: T) -> Result<(), Reply>
         requires seat { seat < length self.old.channels }
         requires may { HoldsAt

@@ -54,6 +54,26 @@ impl<I, T> Stamped<I, T> {
         }
     }
 
+    /// Its token and its numbers with another item.
+    pub fn with<J>(self, item: J) -> Stamped<J, T>
+    where
+        I: Drop,
+        ensures item { result.item ≡ item }
+        ensures token { result.token ≡ self.token }
+        ensures numbers { result.numbers ≡ self.numbers }
+    {
+        let Stamped {
+            item: _item,
+            token,
+            numbers,
+        } = self;
+        Stamped {
+            item,
+            token,
+            numbers,
+        }
+    }
+
     /// Takes out the item and its token.
     #[inline(always)]
     pub fn open(self) -> (I, T)

@@ -7,7 +7,7 @@ ghost use Rattle.mc_serve.specs.Recorded.{IsClerkOf, IsRecorderOf};
 
 use mc_history::{Evidence, Member};
 use mc_record::{Opening, Recorder, SeatClerk};
-use mc_ring::{SeatEnds, ShardEnds, channels_with};
+use mc_ring::{SeatEnds, ShardEnds, channels_without_rings};
 use mc_sizes::Sizes;
 use std::alloc::{AllocError, Global};
 
@@ -46,7 +46,7 @@ impl RecordedChannels {
             mut source,
             witness,
         } = opening;
-        let Ok((near, far)) = channels_with(alloc, sizes, &mut source) else {
+        let Ok((near, far)) = channels_without_rings(alloc, sizes, &mut source) else {
             // The sizes are within the limits, so the cause is memory.
             return Err(AllocError);
         };

@@ -1,8 +1,9 @@
 -- Each round makes the ends of one shard more.
-use Rattle.std.proofs.Common.{◌≡◌, ℕ, ◌+◌, ◌≤◌, List, [], ◌∷◌, ◌++◌, inl, inr, refl, sym, ap, ◌∙◌, arith, length-append}
+use Rattle.std.proofs.Common.{◌≡◌, ℕ, Bool, ◌+◌, ◌≤◌, List, [], ◌∷◌, ◌++◌, inl, inr, refl, sym, ap, ◌∙◌, arith}
+use Rattle.std.proofs.Common.{length-append}
 use Rattle.mc_ring.specs.Ends.{Ends}
 use Rattle.mc_ring.specs.Channel.{Far}
-use Rattle.mc_ring.specs.Made.{AreChannels}
+use Rattle.mc_ring.specs.internal.Joined.{AreJoined}
 use Rattle.mc_ring.proofs.ChannelLoops.{NewShards, get_push}
 use Rattle.mc_ring.proofs.making.shards_without_channels.Goals as goal
 
@@ -23,8 +24,8 @@ one_more count far next next_is before = rw next_is (record {
 
 -- There are channels to no seat once all shards are made.
 all_made : (count shards : ℕ) (far : List (Ends Far)) → count ≤ shards → shards ≤ count → NewShards count far
-    → (capacity : ℕ) → AreChannels 0 shards capacity [] far
-all_made count shards far most least new capacity =
+    → (made : Bool) (capacity : ℕ) → AreJoined made 0 shards capacity [] far
+all_made count shards far most least new made capacity =
     let all : count ≡ shards = omega arith in
     record {
       seat_count = refl;
