@@ -5,3 +5,4 @@ pub mod Stamping
 pub mod Sides
 pub mod ChannelLoops
 pub mod Looking
+pub mod Handing

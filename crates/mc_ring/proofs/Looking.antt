@@ -1,6 +1,6 @@
 -- Sending and receiving after a look: whether there is room, or whether an item waits.
 use Rattle.std.proofs.Common.{◌≡◌, ◌↔◌, ℕ, zero, suc, ◌<◌, ◌≤◌, Bool, true, false, not, IsTrue, Some, None}
-use Rattle.std.proofs.Common.{Ok, Err}
+use Rattle.std.proofs.Common.{Ok, Err, IsSome, Result}
 use Rattle.std.proofs.Common.{List, [], ◌∷◌, ◌++◌, length, refl, ap, ◌∙◌, arith}
 use mathlib.Core.List.{IsPrefix}
 use Rattle.mc_ring.specs.Channel.{Side}
@@ -97,3 +97,42 @@ module _ {Out In : Type 0} where
         free = looked.looked.free;
         channel = ap (λ past. past.channel) looked.looked.past;
       }
+
+  -- What a send does after a look it does from before the look.
+  pub sends_after : {T : Type 0} (view : T → Out) (item : T) (room : Bool) (result : Result (Unit {0}) T)
+      (old mid new : Side Out In) → LooksForRoom room old mid → Sends view item result mid new
+      → Sends view item result old new
+  sends_after view item room (Ok x) old mid new looked sends = record {
+    sent = sends.sent ∙ ap (with_sent (view item)) looked.past;
+    back = tt;
+    room = λ made short. refl;
+    known = λ some. refl;
+    left = (let one = looked.free in let two = sends.left in omega (arith, one, two));
+    full = tt;
+    ahead = sends.ahead ∙ looked.ahead;
+    channel = sends.channel ∙ ap (λ past. past.channel) looked.past;
+  }
+  sends_after view item room (Err back) old mid new looked sends = record {
+    sent = tt;
+    back = (sends.back.0, sends.back.1 ∙ looked.past);
+    room = rw (← looked.past) sends.room;
+    known = λ some. sends.known (let one = looked.free in omega (arith, one, some));
+    left = tt;
+    full = sends.full;
+    ahead = sends.ahead ∙ looked.ahead;
+    channel = sends.channel ∙ ap (λ past. past.channel) looked.past;
+  }
+
+  -- An item is handed back where nothing has changed.
+  pub back_unchanged : {T : Type 0} (view : T → Out) (item : T) (end : Side Out In) → end.free ≡ 0
+      → (IsSome end.past.channel.rings → end.past.channel.capacity ≤ length end.past.sent)
+      → Sends view item (Err item) end end
+  back_unchanged view item end none full =
+      back_after view item end end (record {
+        past = refl;
+        ahead = refl;
+        free = omega arith;
+        some = tt;
+        none = none;
+        full = full;
+      })

@@ -1,8 +1,8 @@
 //! A seat's end of one channel, whose rings may be made at its first request.
-ghost use Rattle.std.specs.Prelude.{◌≡◌, ◌<◌, ◌≤◌, [], IfSome, IsSome, Ok, Some, length};
+ghost use Rattle.std.specs.Prelude.{◌≡◌, ◌<◌, ◌≤◌, [], IfSome, IsSome, Ok, Some, length, true};
 ghost use Rattle.std.specs.Bool.{OnFalse, OnTrue};
 ghost use Rattle.mc_ring.specs.Channel.{unmade};
-ghost use Rattle.mc_ring.specs.Ends.{Looks, LooksFor, Receives, Sends};
+ghost use Rattle.mc_ring.specs.Ends.{LooksFor, Receives, Sends};
 ghost use Rattle.mc_ring.specs.Reply.{shown};
 ghost use Rattle.mc_ring.specs.Stamps.{route_of};
 ghost use Rattle.mc_ring.specs.declared.request.Request.TheVariants as request;
@@ -160,7 +160,7 @@ impl<T: Token + Drop> SeatLane<T> {
     /// Makes the rings and hands the shard its end, if they aren't made and the End wasn't sent.
     /// Returns whether there is room then: not where memory is refused, and nothing has changed.
     fn open(&mut self, alloc: Global) -> bool
-        ensures opened { OnTrue result (Looks self.old self.new × (0 < self.new.free)) }
+        ensures opened { OnTrue result (LooksForRoom true self.old self.new) }
         ensures refused { OnFalse result (self.new ≡ self.old) }
     {
         let None = &self.made else {
@@ -218,12 +218,13 @@ impl<T: Token + Drop> SeatLane<T> {
 }
 
 impl<T: Token + Drop> LateSeat<T> {
-    ghost use Rattle.mc_ring.specs.Channel.{late};
+    ghost use Rattle.std.specs.Prelude.{false, true};
     ghost use Rattle.mc_ring.specs.internal.Late.{IsLateEnd};
 
     /// Hands the End to the shard, and returns whether it did: not where it was sent before.
     fn end(&mut self, token: T) -> bool
-        requires { T.may_send (route_of T.name self.old.key.first) [] request.End token }
+        requires { self.old.ended ≡ false →
+            T.may_send (route_of T.name self.old.key.first) [] request.End token }
         ensures ended { OnTrue result ((self.old.ended ≡ false) × (self.new.ended ≡ true)) }
         ensures refused { OnFalse result (self.new.ended ≡ self.old.ended) }
         ensures key { self.new.key ≡ self.old.key }
@@ -254,15 +255,43 @@ impl<T: Token + Drop> LateSeat<T> {
             ended,
         } = self;
         if ended {
-            return (LateSeat { key, handover, ended }, None);
+            return (
+                LateSeat {
+                    key,
+                    handover,
+                    ended,
+                },
+                None,
+            );
         }
         let (key, made) = new_ends(alloc, key);
         let Ok((near, far)) = made else {
-            return (LateSeat { key, handover, ended }, None);
+            return (
+                LateSeat {
+                    key,
+                    handover,
+                    ended,
+                },
+                None,
+            );
         };
         match handover.leave(Parcel::Rings(far)) {
-            Ok(()) => (LateSeat { key, handover, ended }, Some(near)),
-            Err(_parcel) => (LateSeat { key, handover, ended }, None),
+            Ok(()) => (
+                LateSeat {
+                    key,
+                    handover,
+                    ended,
+                },
+                Some(near),
+            ),
+            Err(_parcel) => (
+                LateSeat {
+                    key,
+                    handover,
+                    ended,
+                },
+                None,
+            ),
         }
     }
 }

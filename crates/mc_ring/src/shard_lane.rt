@@ -99,26 +99,13 @@ impl<T: Token + Drop> ShardLane<T> {
     {
         match &mut self.made {
             Some(channel) => channel.get(),
-            None => self.get_end(),
+            None => {
+                let Some(late) = &mut self.late else {
+                    unreachable!()
+                };
+                late.take_end()
+            }
         }
-    }
-
-    /// Takes the End, where it is known to wait and no rings were made.
-    #[inline(never)]
-    fn get_end(&mut self) -> (Request, T)
-        requires { 0 < length self.old.ahead }
-        ensures receives { Receives (λ got. got.0) (Some result) self.old self.new }
-        ensures may { T.may_send self.old.past.channel.route self.old.past.received
-            result.0 result.1 }
-    {
-        let Some(late) = &mut self.late else {
-            unreachable!()
-        };
-        let Some(token) = late.end.take() else {
-            unreachable!()
-        };
-        late.ended = true;
-        (Request::End, token)
     }
 
     /// Sends a reply, or returns it where the ring is full or hasn't come. The token is dropped
@@ -200,7 +187,8 @@ impl<T: Token + Drop> ShardLane<T> {
 }
 
 impl<T: Token + Drop> LateShard<T> {
-    ghost use Rattle.std.specs.Prelude.{None, false};
+    ghost use Rattle.std.specs.Prelude.{IsSome, None, false, true};
+    ghost use Rattle.mc_ring.specs.declared.request.Request.TheVariants as request;
     ghost use Rattle.mc_ring.specs.internal.Handover.{Fits};
 
     /// Takes what the seat has handed over, if it has, unless that was the End.
@@ -213,5 +201,20 @@ impl<T: Token + Drop> LateShard<T> {
             return None;
         }
         self.handover.take()
+    }
+
+    /// Takes the End that waits.
+    #[inline(never)]
+    fn take_end(&mut self) -> (Request, T)
+        requires { IsSome self.old.end }
+        ensures end { result.0 ≡ request.End }
+        ensures token { self.old.end ≡ Some result.1 }
+        ensures taken { self.new ≡ record self.old { end = None; ended = true } }
+    {
+        let Some(token) = self.end.take() else {
+            unreachable!()
+        };
+        self.ended = true;
+        (Request::End, token)
     }
 }
