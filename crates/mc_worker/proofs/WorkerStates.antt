@@ -102,7 +102,9 @@ full_channel reply back seat old new channel = record {
     past = channel.said.back.1;
     ahead = channel.said.ahead;
     unknown = zero_unless channel.before.free channel.said.known;
-    sent = at_least channel.before.past.channel.capacity (length channel.before.past.sent) channel.said.room;
+    sent =
+        λ made. at_least channel.before.past.channel.capacity (length channel.before.past.sent)
+        (λ short. channel.said.room made short);
   };
 }
 

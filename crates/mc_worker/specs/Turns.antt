@@ -1,5 +1,6 @@
 -- One turn of a worker, exactly.
-use Rattle.std.specs.Prelude.{ℕ, ◌≡◌, ◌≤◌, true, false, Option, Some, None, Ok, List, [], ◌∷◌, ◌++◌, length, slice_set}
+use Rattle.std.specs.Prelude.{ℕ, ◌≡◌, ◌≤◌, true, false, Option, Some, None, IsSome, Ok, List, [], ◌∷◌, ◌++◌, length}
+use Rattle.std.specs.Prelude.{slice_set}
 use Rattle.std.specs.List.{slice_get}
 use Rattle.mc_ring.specs.declared.request.Request.TheVariants as request
 use Rattle.mc_ring.specs.declared.reply.Reply.{Reply}
@@ -23,12 +24,13 @@ pub record GivesIt (old new : WorkerState) : Type 0 where
   pub channel : AtChannel (Sends shown reply (Ok tt)) seat old.ends new.ends
   pub rest : new ≡ record old { ends = new.ends; hand = None }
 
--- Nothing was sent on the channel: no room was known, and as many were sent before as its ring holds.
+-- Nothing was sent on the channel: no room was known, and if its rings were made with it, as many were sent before as
+-- its ring holds.
 pub record IsFull (old new : Far) : Type 0 where
   pub past : new.past ≡ old.past
   pub ahead : new.ahead ≡ old.ahead
   pub unknown : old.free ≡ 0
-  pub sent : old.past.channel.capacity ≤ length old.past.sent
+  pub sent : IsSome old.past.channel.rings → old.past.channel.capacity ≤ length old.past.sent
 
 -- The reply stays pending.
 pub record KeepsIt (old new : WorkerState) : Type 0 where
