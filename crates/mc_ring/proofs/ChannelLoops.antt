@@ -1,5 +1,5 @@
 -- The loops that make the channels.
-use Rattle.std.proofs.Common.{◌≡◌, ◌≢◌, ℕ, zero, suc, Bool, true, IsTrue, ◌<◌, ◌≤◌, ◌+◌, List, [], ◌∷◌, ◌++◌, ◌⊎◌}
+use Rattle.std.proofs.Common.{◌≡◌, ◌≢◌, ℕ, zero, suc, Bool, true, ◌<◌, ◌≤◌, ◌+◌, List, [], ◌∷◌, ◌++◌, ◌⊎◌}
 use Rattle.std.proofs.Common.{inl, inr, length, map}
 use Rattle.std.proofs.Common.{refl, ap, sym, ◌∙◌, arith, slice_set, Some, length-append, take}
 use Rattle.std.specs.List.{AllByRecursion, slice_get}

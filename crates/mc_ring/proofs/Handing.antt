@@ -1,6 +1,5 @@
 -- Each step of an end at the place between a seat and a shard keeps the rule.
-use Rattle.std.proofs.Common.{◌≡◌, ℕ, ◌==◌, true, false, List, [], ◌∷◌, slice_set, inl, inr, refl, ap, sym, subst, ◌∙◌}
-use Rattle.std.proofs.Common.{◌⊎◌, length, Option, None, IfSome}
+use Rattle.std.proofs.Common.{◌≡◌, ℕ, ◌==◌, List, [], ◌∷◌, inl, inr, refl, sym, ◌∙◌, ◌⊎◌, Option, None, IfSome}
 use mathlib.Core.Option.{none, some}
 use mathlib.Core.Option as core
 use prog.Atomic.{either}

@@ -6,3 +6,4 @@ pub mod Sides
 pub mod ChannelLoops
 pub mod Looking
 pub mod Handing
+pub mod EndsSent

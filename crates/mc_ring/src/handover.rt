@@ -15,10 +15,10 @@ const EMPTY: u64 = 0;
 /// One of the ends has the parcel in its hands, or the shard has taken it.
 const HELD: u64 = 1;
 
-/// The parcel lies there.
+/// The parcel is there.
 const FULL: u64 = 2;
 
-/// A parcel that lies in the place fits the channel's key.
+/// A parcel in the place fits the channel's key.
 pub(crate) struct Parcels<T>(PhantomData<T>);
 
 impl<T: Token> TableRule<Option<Parcel<T>>, ChannelKey<T>, ChannelKey<T>> for Parcels<T> {
@@ -116,7 +116,7 @@ impl<T: Token + Drop> Handover<T> {
         Ok(())
     }
 
-    /// Takes the parcel, if it lies there.
+    /// Takes the parcel, if it is there.
     #[inline(never)]
     pub(crate) fn take(&mut self) -> Option<Parcel<T>>
         ensures fits { IfSome result (λ parcel. Fits T.name T.may_send self.old parcel) }

@@ -67,7 +67,7 @@ pub fn channels_with<T: Token + Drop, S: Source<T>>(
 }
 
 /// Makes channels, as `channels_with` does, whose rings are made at their first requests
-/// ([`SeatEnds::send_with`]). Until then a channel takes some 300 bytes.
+/// ([`SeatEnds::send_with`]). Until then a channel takes some 230 bytes.
 pub fn channels_without_rings<T: Token + Drop, S: Source<T>>(
     alloc: Global,
     sizes: Sizes,

@@ -1,5 +1,5 @@
 //! A shard's end of one channel, which may come with the channel's first request.
-ghost use Rattle.std.specs.Prelude.{◌≡◌, ◌<◌, ◌≤◌, [], IfSome, Ok, Some, length};
+ghost use Rattle.std.specs.Prelude.{◌≡◌, ◌<◌, [], IfSome, Ok, Some, length};
 ghost use Rattle.mc_ring.specs.Channel.{unmade};
 ghost use Rattle.mc_ring.specs.Ends.{LooksFor, Receives, Sends};
 ghost use Rattle.mc_ring.specs.Reply.{shown};

@@ -5,7 +5,7 @@ use Rattle.std.proofs.lemmas.Option.{same_Some, slice_get_within}
 use Rattle.mc_sizes.specs.declared.sizes.Sizes.{Sizes}
 use Rattle.mc_ring.specs.Channel.{Channel, Far, Near}
 use Rattle.mc_ring.specs.Ends.{Ends, channels_of}
-use Rattle.mc_ring.specs.Made.{AreChannels, AreRouted}
+use Rattle.mc_ring.specs.Made.{AreLanes, AreRouted}
 use Rattle.mc_ring.specs.Reply.{Shown}
 use Rattle.mc_ring.specs.Route.{Name}
 use Rattle.mc_ring.proofs.Lists.{all_at, get_below, get_map}
@@ -19,7 +19,7 @@ use Rattle.mc_serve.proofs.Served.{none_read}
 use Rattle.mc_serve.proofs.Zipped.{zips_from}
 
 module _ (sizes : Sizes) (name : Name) (capacity : ℕ) (near : List (Ends Near)) (far : List (Ends Far))
-    (same : name.sizes ≡ sizes) (channels : AreChannels sizes.seats sizes.shards capacity near far)
+    (same : name.sizes ≡ sizes) (channels : AreLanes sizes.seats sizes.shards capacity near far)
     (routed : AreRouted name near) where
   -- the actor of a slot that has done nothing
   abbrev new_clerk : ℕ → Acting

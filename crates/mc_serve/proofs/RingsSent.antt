@@ -3,34 +3,14 @@ use denote.RattleType.{RattleType}
 use denote.Param.Send.{IsSend, IsSync, sendable, view_send}
 use denote.Param.SendFields.{as_row_send, declared_send}
 use denote.Struct.Field.{row_field}
-use Rattle.std.specs.contracts.alloc.Global as heap
-use Rattle.std.specs.contracts.impls.GlobalAllocator.TheImpl.{ghosts as in_heap}
-use Rattle.std.proofs.Crossing.{crosses, frees, send}
+use Rattle.std.proofs.Crossing.{crosses}
 use Rattle.std.proofs.option.Option.TheSendSync as option
-use Rattle.std.proofs.vec.Vec.TheSendSync as vec
-use Rattle.std.specs.contracts.vec.Vec as list
-use Rattle.rtrb.specs.declared.Protocol.{Ghosts as ProtocolGhosts}
-use Rattle.rtrb.specs.contracts.producer.Producer as producer
-use Rattle.rtrb.specs.contracts.consumer.Consumer as consumer
-use Rattle.rtrb.proofs.end.End.TheSendSync as end_sent
 use Rattle.mc_poll.proofs.doorbell.Doorbell.TheSendSync as caller
 use Rattle.mc_poll.proofs.wakers.Wakers.TheSendSync as wakers
 use Rattle.mc_sizes.specs.contracts.sizes.Sizes as sizes
 use Rattle.mc_store.proofs.shard.Shard.TheSendSync as shard
 use Rattle.mc_ring.specs.declared.token.Token.{Ghosts as TokenGhosts}
-use Rattle.mc_ring.specs.contracts.request.Request as request
-use Rattle.mc_ring.specs.contracts.reply.Reply as reply
-use Rattle.mc_ring.specs.contracts.stamped.Stamped as stamped
-use Rattle.mc_ring.specs.contracts.seat.SeatChannel as seat_channel
-use Rattle.mc_ring.specs.contracts.seat.SeatChannel.TheInside as in_seat_channel
-use Rattle.mc_ring.specs.contracts.seat.SeatEnds as seat_ends
-use Rattle.mc_ring.specs.contracts.seat.SeatEnds.TheInside as in_seat_ends
-use Rattle.mc_ring.specs.contracts.shard.ShardChannel as shard_channel
-use Rattle.mc_ring.specs.contracts.shard.ShardChannel.TheInside as in_shard_channel
-use Rattle.mc_ring.specs.contracts.shard.ShardEnds as shard_ends
-use Rattle.mc_ring.specs.contracts.shard.ShardEnds.TheInside as in_shard_ends
-use Rattle.mc_ring.proofs.request.Request.TheSendSync as request_sent
-use Rattle.mc_ring.proofs.reply.Reply.TheSendSync as reply_sent
+use Rattle.mc_ring.proofs.EndsSent.{seat_ends_send, shard_ends_send, vec_send}
 use Rattle.mc_transport.specs.declared.clerk.Clerk.{Ghosts as ClerkGhosts}
 use Rattle.mc_transport.specs.declared.warrant.Warrant.{Ghosts as WarrantGhosts}
 use Rattle.mc_transport.specs.contracts.line_buffers.LineBuffers as line_buffers
@@ -64,59 +44,6 @@ use Rattle.mc_serve.specs.contracts.connection_slot.ConnectionSlot as slot
 use Rattle.mc_serve.proofs.connection_slot.SlotState.TheSendSync as slot_state
 use Rattle.mc_serve.specs.contracts.slot_table.SlotTable as seats
 use Rattle.mc_serve.specs.contracts.reactor.Reactor as part
-
--- A vector on the heap can be sent if its elements can.
-vec_send : (T : RattleType) → IsSend T → IsSend (list.the_row T heap.the_row in_heap)
-vec_send T sent = vec.the_send T heap.the_row in_heap sent send frees
-
--- ---- the ends of a ring
-module _ (I P : RattleType) (allows : ProtocolGhosts P.Denot I.Denot) (item : IsSend I) where
-  producer_send : IsSend (producer.the_row I heap.the_row P in_heap allows)
-  producer_send =
-      declared_send (producer.the_type I heap.the_row P in_heap allows) (
-        end_sent.the_send I heap.the_row P in_heap allows item send frees,
-        (as_row_send (row_field heap.the_row) send, search sendable),
-      )
-
-  consumer_send : IsSend (consumer.the_row I heap.the_row P in_heap allows)
-  consumer_send =
-      declared_send (consumer.the_type I heap.the_row P in_heap allows) (
-        end_sent.the_send I heap.the_row P in_heap allows item send frees,
-        (as_row_send (row_field heap.the_row) send, search sendable),
-      )
-
--- ---- the ends of channels
-stamped_send : (I T : RattleType) → IsSend I → IsSend T → IsSend (stamped.the_row I T)
-stamped_send I T item token =
-    declared_send (stamped.the_type I T)
-    (as_row_send (row_field I) item, (as_row_send (row_field T) token, (search (sendable, crosses) depth 20, tt)))
-
-module _ (T : RattleType) (tokens : TokenGhosts T.Denot) (token : IsSend T) where
-  requests : IsSend (stamped.the_row request.the_row T)
-  requests = stamped_send request.the_row T request_sent.the_send token
-
-  replies : IsSend (stamped.the_row reply.the_row T)
-  replies = stamped_send reply.the_row T reply_sent.the_send token
-
-  seat_channel_send : IsSend (seat_channel.the_row T tokens)
-  seat_channel_send =
-      view_send _ _ _ _ _ (declared_send (in_seat_channel.the_type T tokens)
-      (producer_send _ _ _ requests, (consumer_send _ _ _ replies, tt)))
-
-  shard_channel_send : IsSend (shard_channel.the_row T tokens)
-  shard_channel_send =
-      view_send _ _ _ _ _ (declared_send (in_shard_channel.the_type T tokens)
-      (consumer_send _ _ _ requests, (producer_send _ _ _ replies, tt)))
-
-  pub seat_ends_send : IsSend (seat_ends.the_row T tokens)
-  seat_ends_send =
-      view_send _ _ _ _ _ (declared_send (in_seat_ends.the_type T tokens)
-      (search sendable, (vec_send (seat_channel.the_row T tokens) seat_channel_send, tt)))
-
-  pub shard_ends_send : IsSend (shard_ends.the_row T tokens)
-  shard_ends_send =
-      view_send _ _ _ _ _ (declared_send (in_shard_ends.the_type T tokens)
-      (search sendable, (vec_send (shard_channel.the_row T tokens) shard_channel_send, tt)))
 
 -- ---- what holds them
 sizes_send : IsSend sizes.the_row

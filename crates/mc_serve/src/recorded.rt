@@ -1,6 +1,6 @@
 //! New channels, with the actors that record what is sent over them.
 ghost use Rattle.std.specs.Prelude.{◌≡◌, IfOk};
-ghost use Rattle.mc_ring.specs.Made.{AreChannels};
+ghost use Rattle.mc_ring.specs.Made.{AreLanes};
 ghost use Rattle.mc_poll.specs.Zips.{Zips};
 ghost use Rattle.mc_record.specs.Opening.{IsOpening};
 ghost use Rattle.mc_serve.specs.Recorded.{IsClerkOf, IsRecorderOf};
@@ -32,7 +32,7 @@ impl RecordedChannels {
     ) -> Result<RecordedChannels, AllocError>
         requires { IsOpening sizes opening.recorders.items opening.clerks.items opening.witness }
         ensures channels { IfOk result (λ made.
-            AreChannels sizes.seats sizes.shards sizes.ring made.near.items made.far.items) }
+            AreLanes sizes.seats sizes.shards sizes.ring made.near.items made.far.items) }
         ensures clerks { IfOk result
             (λ made. Zips (IsClerkOf sizes) made.near.items made.clerks.items) }
         ensures recorders { IfOk result

@@ -5,7 +5,7 @@ use Rattle.std.proofs.lemmas.Option.{slice_get_within}
 use Rattle.mc_model.proofs.Lists.{all_from}
 use Rattle.mc_ring.specs.Channel.{Far, Near}
 use Rattle.mc_ring.specs.Ends.{Ends}
-use Rattle.mc_ring.specs.Made.{AreChannels}
+use Rattle.mc_ring.specs.Made.{AreLanes}
 use Rattle.mc_sizes.specs.declared.sizes.Sizes.{Sizes}
 use Rattle.mc_model.specs.Sized.{empty_shard}
 use Rattle.mc_worker.specs.WorkerState.{WorkerState, HasRun}
@@ -13,7 +13,7 @@ use Rattle.mc_session.specs.Workers.{AreFresh, IsFresh}
 
 -- Of new channels the ends of each shard are those of a shard that is there, and nothing has passed on them.
 pub all_fresh : (seats shards capacity : ℕ) (near : List (Ends Near)) (far : List (Ends Far))
-    → AreChannels seats shards capacity near far → AllByRecursion (AreFresh shards) far
+    → AreLanes seats shards capacity near far → AllByRecursion (AreFresh shards) far
 all_fresh seats shards capacity near far channels =
     all_from (AreFresh shards) far (λ i ends here.
     let new = channels.each_shard i ends here in

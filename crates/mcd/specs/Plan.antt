@@ -11,13 +11,13 @@ held number = min number (2 ^ 64 - 1)
 abbrev pub memory_of : Sizes → ℕ
 memory_of sizes = held (sizes.shards * sizes.bytes)
 
--- at the start: 4 MiB, and for each seat 2.25 KiB and 6 KiB for each shard
+-- at the start: 4 MiB, and for each seat 2.5 KiB and 256 bytes for each shard
 abbrev pub bytes_at_start : Sizes → ℕ
-bytes_at_start sizes = held (4194304 + held (sizes.seats * held (2304 + held (sizes.shards * 6912))))
+bytes_at_start sizes = held (4194304 + held (sizes.seats * held (2560 + held (sizes.shards * 256))))
 
--- with an open connection on each seat: 16 KiB each
+-- with an open connection on each seat that has asked each shard: 15.75 KiB each, and 6.5 KiB for each shard
 abbrev pub bytes_connected : Sizes → ℕ
-bytes_connected sizes = held (bytes_at_start sizes + held (sizes.seats * 16384))
+bytes_connected sizes = held (bytes_at_start sizes + held (sizes.seats * held (16128 + held (sizes.shards * 6656))))
 
 -- an item's memory beside its key and value: 290, and 136 more with an expiry
 abbrev pub bytes_beside : Bool → ℕ

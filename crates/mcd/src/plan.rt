@@ -71,16 +71,18 @@ pub fn memory_of(sizes: &Sizes) -> u64
 fn bytes_at_start(sizes: &Sizes) -> u64
     ensures { result ≡ bytes_at_start sizes.now }
 {
-    let channels = (sizes.shards as u64).saturating_mul(6_912);
-    let seat = 2_304_u64.saturating_add(channels);
+    let channels = (sizes.shards as u64).saturating_mul(256);
+    let seat = 2_560_u64.saturating_add(channels);
     4_194_304_u64.saturating_add((sizes.seats as u64).saturating_mul(seat))
 }
 
-/// Its memory with an open connection on each slot, in bytes.
+/// Its memory with an open connection on each slot that has asked each shard, in bytes.
 fn bytes_connected(sizes: &Sizes) -> u64
     ensures { result ≡ bytes_connected sizes.now }
 {
-    bytes_at_start(sizes).saturating_add((sizes.seats as u64).saturating_mul(16_384))
+    let rings = (sizes.shards as u64).saturating_mul(6_656);
+    let connection = 16_128_u64.saturating_add(rings);
+    bytes_at_start(sizes).saturating_add((sizes.seats as u64).saturating_mul(connection))
 }
 
 /// The memory of an item besides its key and value, in bytes. An expiry adds to it, for entries in

@@ -1,4 +1,4 @@
--- What lies in the place between a seat and a shard, and what an end gains that takes it.
+-- What is in the place between a seat and a shard, and what an end gains that takes it.
 use Rattle.std.specs.Prelude.{◌≡◌, ℕ, List, [], ◌∷◌, Option, IfSome}
 use mathlib.Core.Option.{none, some}
 use mathlib.Core.Option as core

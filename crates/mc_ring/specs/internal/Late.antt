@@ -1,5 +1,5 @@
 -- What is seen of an end of a channel whose rings may be made late.
-use Rattle.std.specs.Prelude.{◌≡◌, ◌<◌, ℕ, Bool, true, false, List, [], ◌∷◌, Option, Some, None, length}
+use Rattle.std.specs.Prelude.{◌≡◌, ◌<◌, ℕ, Bool, true, false, List, [], ◌∷◌, Option, Some, None}
 use Rattle.mc_ring.specs.Channel.{Side, late, unmade}
 use Rattle.mc_ring.specs.Route.{Route, no_history}
 use Rattle.mc_ring.specs.declared.request.Request.{Request}

@@ -1,4 +1,3 @@
-use Rattle.std.proofs.Common.{rules}
 use Rattle.mc_ring.proofs.seat_lane.SeatLane.end.Goals as goal
 
 pub end-requires : goal.end-requires

@@ -1,4 +1,4 @@
-use Rattle.std.proofs.Common.{arith, refl, rules, ◌∷◌, []}
+use Rattle.std.proofs.Common.{arith, refl, ◌∷◌, []}
 use Rattle.mc_ring.specs.declared.request.Request.TheVariants as request
 use Rattle.mc_ring.proofs.shard_lane.ShardLane.find.Goals as goal
 
